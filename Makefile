@@ -1,0 +1,5 @@
+.PHONY: test
+
+# proves every crate from nothing, tries every must-fail edit, runs every program
+test:
+	@tests/gate

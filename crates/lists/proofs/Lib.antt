@@ -1,0 +1,5 @@
+pub mod Tests
+pub mod Lists
+pub mod Loops
+pub mod Bytes
+pub mod Once

@@ -1,0 +1,88 @@
+-- Laws of the functions on lists.
+-- Assumes nothing.
+use Prim.Native.Nat.{ℕ, zero, suc, _<_, _≤_}
+use mathlib.Core.Path.{_≡_, refl, sym, _∙_}
+use mathlib.Core.Bool.{Bool, true, false, cond}
+use mathlib.Core.List.{List, [], _∷_, _++_, map, append-nil}
+use native.Mathlib.Omega.{arith}
+use lib.ListN.{length, getD, take, length-take, length-drop, drop-of-length-le, length-map, length-append, length-replicate}
+use lib.Seq.{take-all, take-at}
+use Rattle.lists.specs.Lists.{any, firstIndex, reject, removeAt, padded}
+use Rattle.lists.proofs.Tests.{split}
+
+module _ {A : Type 0} where
+  -- ---- firstIndex: at most the length; what stands there passes; nothing before it does
+  pub first-low : (f : A → Bool) (l : List A) → firstIndex f l ≤ length l
+  unfolding firstIndex
+  first-low f [] = omega arith
+  first-low f (x ∷ xs) = split (f x) (λ e. rw e (omega arith)) (λ e. rw e (omega (arith, first-low f xs)))
+
+  pub first-passes : (f : A → Bool) (l : List A) (d : A) → firstIndex f l < length l → f (getD l (firstIndex f l) d) ≡ true
+  unfolding firstIndex
+  first-passes f [] d h = absurd (omega arith)
+  first-passes f (x ∷ xs) d h = split (f x) (λ e. rw (e, e)) (λ e. rw e (first-passes f xs d (omega (arith, rw e at h))))
+
+  pub none-before : (f : A → Bool) (l : List A) (d : A) (k : ℕ) → k < firstIndex f l → f (getD l k d) ≡ false
+  unfolding firstIndex
+  none-before f [] d k h = absurd (omega arith)
+  none-before f (x ∷ xs) d zero h = split (f x) (λ e. absurd (omega (arith, rw e at h))) (λ e. e)
+  none-before f (x ∷ xs) d (suc k) h =
+      split (f x) (λ e. absurd (omega (arith, rw e at h))) (λ e. none-before f xs d k (omega (arith, rw e at h)))
+
+  -- some element passes exactly where the first index is inside
+  pub any-inside : (f : A → Bool) (l : List A) → firstIndex f l < length l → any f l ≡ true
+  unfolding firstIndex any
+  any-inside f [] h = absurd (omega arith)
+  any-inside f (x ∷ xs) h = split (f x) (λ e. rw e) (λ e. rw e (any-inside f xs (omega (arith, rw e at h))))
+
+  pub any-past : (f : A → Bool) (l : List A) → length l ≤ firstIndex f l → any f l ≡ false
+  unfolding firstIndex any
+  any-past f [] h = refl
+  any-past f (x ∷ xs) h =
+      split (f x) (λ e. absurd (omega (arith, rw e at h))) (λ e. rw e (any-past f xs (omega (arith, rw e at h))))
+
+  -- ---- removeAt
+  pub length-remove : (at : ℕ) (l : List A) → at < length l → suc (length (removeAt at l)) ≡ length l
+  unfolding removeAt
+  length-remove at l h = simp (length-append, length-take, length-drop) (omega arith)
+
+  pub remove-out : (at : ℕ) (l : List A) → length l ≤ at → removeAt at l ≡ l
+  unfolding removeAt
+  remove-out at l h =
+      let k : length l ≤ suc at = omega arith in
+      rw (take-all at l h, drop-of-length-le l k, append-nil l)
+
+  -- ---- reject
+  pub length-reject : (f : A → Bool) (l : List A) → length (reject f l) ≤ length l
+  unfolding reject
+  length-reject f [] = omega arith
+  length-reject f (x ∷ xs) =
+      split (f x) (λ e. rw e (omega (arith, length-reject f xs))) (λ e. rw e (omega (arith, length-reject f xs)))
+
+  pub reject-snoc : (f : A → Bool) (l : List A) (x : A) → reject f (l ++ (x ∷ [])) ≡ cond (f x) (reject f l) (reject f l ++ (x ∷ []))
+  unfolding reject
+  reject-snoc f [] x = refl
+  reject-snoc f (y ∷ ys) x =
+      split
+      (f y)
+      (λ e. rw e (reject-snoc f ys x))
+      (λ e. rw (e, reject-snoc f ys x) (split (f x) (λ g. rw g) (λ g. rw g)))
+
+  -- ---- padded
+  pub length-padded : (n : ℕ) (z : A) (l : List A) → length l ≤ n → length (padded n z l) ≡ n
+  unfolding padded
+  length-padded n z l h = simp (length-append, length-replicate) (omega arith)
+
+  pub front-padded : (n : ℕ) (z : A) (l : List A) → take (length l) (padded n z l) ≡ l
+  unfolding padded
+  front-padded n z l = take-at l _ (length l) refl
+
+  -- ---- inside the list, what is said to stand past its end does not matter
+  pub getD-any : (l : List A) (i : ℕ) (d e : A) → i < length l → getD l i d ≡ getD l i e
+  getD-any [] i d e h = absurd (omega arith)
+  getD-any (x ∷ xs) zero d e h = refl
+  getD-any (x ∷ xs) (suc i) d e h = getD-any xs i d e (omega arith)
+
+-- the length of an array of structs: what a function knows is of the mapped list
+pub length-mapped : {A B : Type 0} (f : A → B) (l : List A) (n : ℕ) → length (map f l) ≡ n → length l ≡ n
+length-mapped f l n e = sym (length-map l f) ∙ e

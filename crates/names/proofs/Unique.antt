@@ -1,0 +1,35 @@
+-- No second answer meets the contract of any public function of this crate, and no second content of the part that was lent.
+-- Assumes nothing.
+use mathlib.Core.Path.{sym, _∙_}
+use denote.Ref.{now}
+use Rattle.lists.proofs.Once.{OneAnswer, OneContent}
+use Rattle.names.proofs.same.Kinds as same-kinds
+use Rattle.names.proofs.same.Reads as same
+use Rattle.names.proofs.read_name.Kinds as read-name-kinds
+use Rattle.names.proofs.read_name.Reads as read-name
+use Rattle.names.proofs.put_name.Kinds as put-name-kinds
+use Rattle.names.proofs.put_name.Reads as put-name
+use Rattle.names.proofs.number16.Kinds as number16-kinds
+use Rattle.names.proofs.number16.Reads as number16
+use Rattle.names.proofs.put_row.Kinds as put-row-kinds
+use Rattle.names.proofs.put_row.Reads as put-row
+use Rattle.names.proofs.read_row.Kinds as read-row-kinds
+use Rattle.names.proofs.read_row.Reads as read-row
+
+pub same-once : OneAnswer 0 same-kinds.ps same-kinds.r same.Post
+same-once κs a x y s t p q = p ∙ sym q
+
+pub read-name-once : OneAnswer 1 read-name-kinds.ps read-name-kinds.r read-name.Post
+read-name-once κs a x y s t p q = p ∙ sym q
+
+pub put-name-once : OneContent 1 put-name-kinds.ps put-name-kinds.r put-name.Post (λ κs s. now (s .0))
+put-name-once κs a x y s t p q = p ∙ sym q
+
+pub number16-once : OneAnswer 0 number16-kinds.ps number16-kinds.r number16.Post
+number16-once κs a x y s t p q = p ∙ sym q
+
+pub put-row-once : OneContent 1 put-row-kinds.ps put-row-kinds.r put-row.Post (λ κs s. now (s .0))
+put-row-once κs a x y s t p q = p ∙ sym q
+
+pub read-row-once : OneAnswer 1 read-row-kinds.ps read-row-kinds.r read-row.Post
+read-row-once κs a x y s t p q = p ∙ sym q

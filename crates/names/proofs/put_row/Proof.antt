@@ -1,0 +1,60 @@
+use Rattle.names.proofs.Rules.{rules}
+use Rattle.names.proofs.put_row.Statement.{statement}
+use Rattle.names.proofs.put_row.Tie as tie
+
+cast-part : tie.Need-cast-part
+cast-part c = search rules
+
+slice-write-part : tie.Need-slice-write-part
+slice-write-part c = search rules
+
+cast-part-2 : tie.Need-cast-part-2
+cast-part-2 c = search rules
+
+slice-write-part-2 : tie.Need-slice-write-part-2
+slice-write-part-2 c = search rules
+
+type-number-requires : tie.Need-type-number-requires
+type-number-requires c κs = search rules
+
+slice-write-part-3 : tie.Need-slice-write-part-3
+slice-write-part-3 c = search rules
+
+sub-put-name : tie.Need-sub-put-name
+sub-put-name c = search rules
+
+part-put-name-start : tie.Need-part-put-name-start
+part-put-name-start c = search rules
+
+part-put-name-end : tie.Need-part-put-name-end
+part-put-name-end c = search rules
+
+put-name-requires : tie.Need-put-name-requires
+put-name-requires c κs = search rules
+
+same-length : tie.Need-same-length
+same-length c = search rules
+
+returns : tie.Need-returns
+returns c = search rules
+
+returns-2 : tie.Need-returns-2
+returns-2 c = search rules
+
+pub put-row-spec : {M : Type 1} → statement M
+put-row-spec =
+    tie.close
+    (tie.spec
+    cast-part
+    slice-write-part
+    cast-part-2
+    slice-write-part-2
+    type-number-requires
+    slice-write-part-3
+    sub-put-name
+    part-put-name-start
+    part-put-name-end
+    put-name-requires
+    same-length
+    returns
+    returns-2)

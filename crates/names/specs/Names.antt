@@ -1,0 +1,79 @@
+-- Names and rows: what their functions answer.
+use Prim.Native.Nat.{ℕ, zero, suc}
+use mathlib.Core.Bool.{Bool, true, false, cond, _&&_}
+use mathlib.Core.List.{List, [], _∷_, _++_}
+use lib.Dec.{eqb, leb}
+use lib.ListN.{length, getD, drop, replicate}
+use Rattle.lists.specs.Bytes.{bytesOf, number}
+use Rattle.names.specs.declared.Credential.{Credential}
+use Rattle.names.specs.declared.Kind.{Kind}
+use Rattle.names.specs.declared.Kind.the-variants.{User, Elevation, Saved}
+use Rattle.names.specs.declared.Name.{Name}
+use Rattle.names.specs.declared.NameRead.{NameRead}
+use Rattle.names.specs.declared.Row.{Row}
+use Rattle.names.specs.declared.RowRead.{RowRead}
+
+-- ---- names: "Two names are equal when all 48 bytes are."
+
+-- each byte equals its partner, and neither list goes on alone
+unfoldable pub sameBytes : List ℕ → List ℕ → Bool
+sameBytes [] [] = true
+sameBytes [] (y ∷ ys) = false
+sameBytes (x ∷ xs) [] = false
+sameBytes (x ∷ xs) (y ∷ ys) = eqb x y && sameBytes xs ys
+
+unfoldable pub sameName : Name → Name → Bool
+sameName a b = sameBytes (a .bytes) (b .bytes)
+
+-- 48 zero bytes: the name of a free place, and of what could not be read
+abbrev pub zeroName : Name
+zeroName = record { bytes = replicate 48 0 }
+
+-- a slice read as a name: of 48 bytes, these
+unfoldable pub readName : List ℕ → NameRead
+readName part =
+    cond (eqb (length part) 48)
+    (record { fits = true; name = record { bytes = part } })
+    (record { fits = false; name = zeroName })
+
+-- a part after a name was written into it
+unfoldable pub nameIn : List ℕ → Name → List ℕ
+nameIn part name = cond (eqb (length part) 48) (name .bytes) part
+
+-- ---- types: "0 active user, 1 active elevation, 2 saved user; 004 Table 46"
+abbrev pub typeNumber : Kind → ℕ
+typeNumber User = 0
+typeNumber Elevation = 1
+typeNumber Saved = 2
+
+-- and back; a number over 2 is no type's, and `isRow` refuses it before
+abbrev pub kindOf : ℕ → Kind
+kindOf zero = User
+kindOf (suc zero) = Elevation
+kindOf (suc (suc n)) = Saved
+
+-- ---- rows: "rows of 51 bytes: credential 2, type 1, name 48"; "Two-byte numbers are little endian."
+abbrev pub rowBytes : Row → List ℕ
+rowBytes row = bytesOf 2 (row .credential .0) ++ (typeNumber (row .kind) ∷ row .name .bytes)
+
+-- a part after a row was written into it
+unfoldable pub rowIn : List ℕ → Row → List ℕ
+rowIn part row = cond (eqb (length part) 51) (rowBytes row) part
+
+-- "refuses .. a type over 2"
+unfoldable pub isRow : List ℕ → Bool
+isRow part = eqb (length part) 51 && leb (getD part 2 0) 2
+
+abbrev pub rowOf : List ℕ → Row
+rowOf part =
+    record {
+      credential = record { 0 = number (getD part 0 0 ∷ getD part 1 0 ∷ []) };
+      kind = kindOf (getD part 2 0);
+      name = record { bytes = drop 3 part };
+    }
+
+abbrev pub noRow : RowRead
+noRow = record { fits = false; row = record { credential = record { 0 = 0 }; kind = User; name = zeroName } }
+
+unfoldable pub readRow : List ℕ → RowRead
+readRow part = cond (isRow part) (record { fits = true; row = rowOf part }) noRow

@@ -1,0 +1,175 @@
+// What things are called, and the row that a listing has of a process: 51 bytes, written and read.
+ghost use mathlib.Core.Path.{_≡_};
+ghost use Rattle.lists.specs.Bytes.{number};
+ghost use mathlib.Core.List.{[], _∷_};
+ghost use Rattle.names.specs.Names.{sameName, readName, nameIn, typeNumber, kindOf, rowIn, isRow, noRow, readRow};
+
+// A session handle. A credential cannot stand for it, nor it for a credential.
+pub struct Session(pub u8);
+
+pub struct Credential(pub u16);
+
+// The type of a process: 004 Table 46.
+pub enum Kind {
+    User,
+    Elevation,
+    Saved,
+}
+
+pub struct Name {
+    pub bytes: [u8; 48],
+}
+
+pub struct Row {
+    pub credential: Credential,
+    pub kind: Kind,
+    pub name: Name,
+}
+
+// What a slice says when it is read as a name. Where it does not fit, the name is zeros.
+pub struct NameRead {
+    pub fits: bool,
+    pub name: Name,
+}
+
+// What a slice says when it is read as a row. Where it does not fit, the row is zeros.
+pub struct RowRead {
+    pub fits: bool,
+    pub row: Row,
+}
+
+// Whether two names agree in all 48 bytes.
+pub fn same(a: Name, b: Name) -> bool
+    ensures { λ r. ⌜ r ≡ sameName a b ⌝ }
+{
+    let x = a.bytes;
+    let y = b.bytes;
+    let mut i: usize = 0;
+    while i < 48 {
+        let one = x[i];
+        let other = y[i];
+        if one != other {
+            return false;
+        }
+        i += 1;
+    }
+    true
+}
+
+// The name that a slice of 48 bytes says.
+pub fn read_name(bytes: &[u8]) -> NameRead
+    ensures { λ r. ⌜ r ≡ readName (now (bytes .entry)) ⌝ }
+{
+    let mut read = [0u8; 48];
+    if bytes.len() != 48 {
+        return NameRead {
+            fits: false,
+            name: Name { bytes: read },
+        };
+    }
+    let mut i: usize = 0;
+    while i < bytes.len() {
+        read[i] = bytes[i];
+        i += 1;
+    }
+    NameRead {
+        fits: true,
+        name: Name { bytes: read },
+    }
+}
+
+// The name, in a part of 48 bytes. A part of another length stays.
+pub fn put_name(part: &mut [u8], name: Name)
+    ensures { λ r. ⌜ now (part .exit) ≡ nameIn (now (part .entry)) name ⌝ }
+{
+    if part.len() == 48 {
+        let bytes = name.bytes;
+        let mut i: usize = 0;
+        while i < part.len() {
+            part[i] = bytes[i];
+            i += 1;
+        }
+    }
+}
+
+fn type_number(kind: Kind) -> u8
+    ensures { λ r. ⌜ r ≡ typeNumber kind ⌝ }
+{
+    match kind {
+        Kind::User => 0,
+        Kind::Elevation => 1,
+        Kind::Saved => 2,
+    }
+}
+
+fn kind_of(number: u8) -> Kind
+    ensures { λ r. ⌜ r ≡ kindOf number ⌝ }
+{
+    if number == 0 {
+        return Kind::User;
+    }
+    if number == 1 {
+        return Kind::Elevation;
+    }
+    Kind::Saved
+}
+
+// The number that two bytes say.
+pub fn number16(low: u8, high: u8) -> u16
+    ensures { λ r. ⌜ r ≡ number (low ∷ high ∷ []) ⌝ }
+{
+    (high as u16) * 256 + (low as u16)
+}
+
+// The row, in a part of 51 bytes. A part of another length stays.
+pub fn put_row(part: &mut [u8], row: Row)
+    ensures { λ r. ⌜ now (part .exit) ≡ rowIn (now (part .entry)) row ⌝ }
+{
+    if part.len() == 51 {
+        let credential = row.credential.0;
+        let kind = row.kind;
+        part[0] = (credential % 256) as u8;
+        part[1] = (credential / 256 % 256) as u8;
+        part[2] = type_number(kind);
+        put_name(&mut part[3..51], row.name);
+    }
+}
+
+fn no_row() -> RowRead
+    ensures { λ r. ⌜ r ≡ noRow ⌝ }
+{
+    RowRead {
+        fits: false,
+        row: Row {
+            credential: Credential(0),
+            kind: Kind::User,
+            name: Name { bytes: [0; 48] },
+        },
+    }
+}
+
+// Whether a slice is a row's: 51 bytes, with a type of at most 2.
+fn is_row(part: &[u8]) -> bool
+    ensures { λ r. ⌜ r ≡ isRow (now (part .entry)) ⌝ }
+{
+    part.len() == 51 && part[2] <= 2
+}
+
+// The row that a slice says.
+pub fn read_row(part: &[u8]) -> RowRead
+    ensures { λ r. ⌜ r ≡ readRow (now (part .entry)) ⌝ }
+{
+    if !is_row(part) {
+        return no_row();
+    }
+    let read = read_name(&part[3..51]);
+    let name = read.name;
+    RowRead {
+        fits: true,
+        row: Row {
+            credential: Credential(number16(part[0], part[1])),
+            kind: kind_of(part[2]),
+            name: name,
+        },
+    }
+}
