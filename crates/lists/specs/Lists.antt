@@ -19,6 +19,16 @@ unfoldable pub reject : {A : Type 0} → (A → Bool) → List A → List A
 reject f [] = []
 reject f (x ∷ xs) = cond (f x) (reject f xs) (x ∷ reject f xs)
 
+-- the elements that pass the test, in their order
+unfoldable pub select : {A : Type 0} → (A → Bool) → List A → List A
+select f [] = []
+select f (x ∷ xs) = cond (f x) (x ∷ select f xs) (select f xs)
+
+-- lists put together
+unfoldable pub join : {A : Type 0} → List (List A) → List A
+join [] = []
+join (x ∷ xs) = x ++ join xs
+
 -- the list without the element at an index; without any, where the index is past the end
 unfoldable pub removeAt : {A : Type 0} → ℕ → List A → List A
 removeAt at l = take at l ++ drop (suc at) l

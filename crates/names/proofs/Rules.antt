@@ -98,17 +98,8 @@ module _ (part : List ℕ) where
       shaped : RowShaped part
       shaped = row-shaped part (sym e ∙ not-false b t)
 
-      pub row-reach : 51 ≤ length part
-      row-reach = omega (arith, shaped .long)
-
-      pub row-first : 0 < length part
-      row-first = omega (arith, shaped .long)
-
-      pub row-second : 1 < length part
-      row-second = omega (arith, shaped .long)
-
-      pub row-third : 2 < length part
-      row-third = omega (arith, shaped .long)
+      pub row-reach : {k : ℕ} → k ≤ 51 → k ≤ length part
+      row-reach h = omega (arith, shaped .long)
 
       pub row-got : {n : ℕ} {kind : Kind} {read : NameRead}
           → read ≡ readName (take 48 (drop 3 part)) → n ≡ number (getD part 0 0 ∷ getD part 1 0 ∷ []) → kind ≡ kindOf (getD part 2 0)
@@ -152,4 +143,4 @@ row-put part row {c} {ys} h r e =
 pub row-stays : (part : List ℕ) (row : Row) → (length part ≡ 51 → ⊥) → part ≡ rowIn part row
 row-stays part row h = sym (row-not-in part row h)
 
-pub ruleset rules = (needs, agree-none, agree-on, agree-all, differ, copy, copy-on, put-on, name-wrong, name-got, name-put, name-stays, kind-saved, two-bytes, row-long, row-short, row-none, row-reach, row-first, row-second, row-third, row-got, row-end, row-same, row-put, row-stays)
+pub ruleset rules = (needs, agree-none, agree-on, agree-all, differ, copy, copy-on, put-on, name-wrong, name-got, name-put, name-stays, kind-saved, two-bytes, row-long, row-short, row-none, row-reach, row-got, row-end, row-same, row-put, row-stays)

@@ -162,13 +162,16 @@ pub fn read_row(part: &[u8]) -> RowRead
     if !is_row(part) {
         return no_row();
     }
+    let low = part[0];
+    let high = part[1];
+    let number = part[2];
     let read = read_name(&part[3..51]);
     let name = read.name;
     RowRead {
         fits: true,
         row: Row {
-            credential: Credential(number16(part[0], part[1])),
-            kind: kind_of(part[2]),
+            credential: Credential(number16(low, high)),
+            kind: kind_of(number),
             name: name,
         },
     }

@@ -34,6 +34,7 @@ pub record FoundAt (f : Process → Bool) (l : List Process) (k : ℕ) : Type 0 
 
 -- none passes
 pub record FoundNone (f : Process → Bool) (l : List Process) : Type 0 where
+  pub past : length l ≤ firstIndex f l
   pub none : any f l ≡ false
   pub fails : (d : Process) (j : ℕ) → j < length l → f (getD l j d) ≡ false
 
@@ -65,7 +66,7 @@ module _ (f : Process → Bool) (l : List Process) where
 
   pub found-none : firstPlace f l ≡ Nothing → FoundNone f l
   found-none e =
-      below (firstIndex f l) (length l) hit (λ h. record { none = any-past f l h; fails = λ d j b. none-before f l d j (omega arith) })
+      below (firstIndex f l) (length l) hit (λ h. record { past = h; none = any-past f l h; fails = λ d j b. none-before f l d j (omega arith) })
     where
       hit : firstIndex f l < length l → FoundNone f l
       hit h = let z : _≡_ {A = ℕ} 0 1 = cc (first-is h, e) in absurd (omega arith)

@@ -1,6 +1,17 @@
+use Prim.Native.Nat.{ℕ, _+_, _-_, _*_, _≤_, _<_}
+use mathlib.Core.Path.{_≡_, refl, sym, ap, _∙_}
+use mathlib.Core.Logic.{⊎-elim}
+use native.Mathlib.Omega.{arith}
 use Rattle.names.proofs.Rules.{rules}
 use Rattle.names.proofs.read_row.Statement.{statement}
 use Rattle.names.proofs.read_row.Tie as tie
+use Rattle.names.proofs.read_row.Reads as reads
+use Rattle.names.proofs.read_row.Lts as lts
+use Rattle.names.proofs.is_row.Reads as is-row-reads
+use Rattle.names.proofs.kind_of.Reads as kind-of-reads
+use Rattle.names.proofs.no_row.Reads as no-row-reads
+use Rattle.names.proofs.number16.Reads as number16-reads
+use Rattle.names.proofs.read_name.Reads as read-name-reads
 
 is-row-requires : tie.Need-is-row-requires
 is-row-requires c κs = search rules
@@ -10,6 +21,15 @@ no-row-requires c κs = search rules
 
 returns : tie.Need-returns
 returns c = search rules
+
+shared-slice-read-low : tie.Need-shared-slice-read-low
+shared-slice-read-low c = search rules
+
+shared-slice-read-high : tie.Need-shared-slice-read-high
+shared-slice-read-high c = search rules
+
+shared-slice-read-number : tie.Need-shared-slice-read-number
+shared-slice-read-number c = search rules
 
 sub-read-name : tie.Need-sub-read-name
 sub-read-name c = search rules
@@ -23,17 +43,8 @@ part-read-name-end c = search rules
 read-name-requires : tie.Need-read-name-requires
 read-name-requires c κs = search rules
 
-shared-slice-read-number16 : tie.Need-shared-slice-read-number16
-shared-slice-read-number16 c = search rules
-
-shared-slice-read-number16-2 : tie.Need-shared-slice-read-number16-2
-shared-slice-read-number16-2 c = search rules
-
 number16-requires : tie.Need-number16-requires
 number16-requires c κs = search rules
-
-shared-slice-read-kind-of : tie.Need-shared-slice-read-kind-of
-shared-slice-read-kind-of c = search rules
 
 kind-of-requires : tie.Need-kind-of-requires
 kind-of-requires c κs = search rules
@@ -48,13 +59,13 @@ read-row-spec =
     is-row-requires
     no-row-requires
     returns
+    shared-slice-read-low
+    shared-slice-read-high
+    shared-slice-read-number
     sub-read-name
     part-read-name-start
     part-read-name-end
     read-name-requires
-    shared-slice-read-number16
-    shared-slice-read-number16-2
     number16-requires
-    shared-slice-read-kind-of
     kind-of-requires
     returns-2)

@@ -1,0 +1,259 @@
+-- "Calls, with the order of their checks": of each call the tests in their order, each with its number, and what it does where none holds
+use Prim.Native.Nat.{ℕ, _+_}
+use mathlib.Core.Bool.{Bool, true, false, cond, not, _&&_, _||_}
+use mathlib.Core.List.{List, [], _∷_, map}
+use lib.Dec.{eqb, ltb, leb}
+use lib.ListN.{length, set, replicate}
+use Rattle.lists.specs.Lists.{any, firstIndex}
+use Rattle.names.specs.declared.Credential.{Credential}
+use Rattle.names.specs.declared.Kind.the-variants.{User, Elevation, Saved}
+use Rattle.names.specs.declared.Name.{Name}
+use Rattle.names.specs.declared.Session.{Session}
+use Rattle.table.specs.Table.{places, standing, size, tableOf, processAt, isNamed, appended, replaced, removed, withoutSession}
+use Rattle.table.specs.declared.Active.{Active}
+use Rattle.table.specs.declared.Active.the-variants.{UserOf, ElevationIn}
+use Rattle.table.specs.declared.Among.{Among}
+use Rattle.table.specs.declared.Among.the-variants.{All, Of, SavedOf}
+use Rattle.table.specs.declared.Process.{Process}
+use Rattle.table.specs.declared.Table.{Table}
+use Rattle.claims.specs.Numbers as No
+use Rattle.claims.specs.Numbers.{_when_, _unless_, _▸_}
+use Rattle.claims.specs.Module.{isHandle, closedSession, phaseOf, isClosed, isCredential, unprovisioned, provisioned, granted, hasActive, activePlace, activeProcess}
+use Rattle.claims.specs.Claim.{entered, admitted, claimant}
+use Rattle.claims.specs.declared.Claim.{Claim}
+use Rattle.claims.specs.declared.Claim.the-variants.{Elevated, ByUser}
+use Rattle.claims.specs.declared.Class.{Class}
+use Rattle.claims.specs.declared.Grants.{Grants}
+use Rattle.claims.specs.declared.Phase.{Phase}
+use Rattle.claims.specs.declared.Phase.the-variants.{Closed, Opened, Chosen}
+use Rattle.claims.specs.declared.State.{State}
+use Rattle.claims.specs.declared.UserClaim.{UserClaim}
+use Rattle.calls.specs.declared.Answer.{Answer}
+use Rattle.calls.specs.declared.Answer.the-variants.{Done, Refused, RefusedClaim}
+use Rattle.calls.specs.declared.Listed.{Listed}
+use Rattle.calls.specs.declared.Outcome.{Outcome}
+use Rattle.calls.specs.declared.Wanted.{Wanted}
+use Rattle.calls.specs.declared.Wanted.the-variants.{Every, Only}
+use Rattle.calls.specs.Listing.{rowsOf, messageLength}
+
+-- the calls, with their arguments in the page's order. A listing also has the room of the response
+pub data Call : Type 0 where
+  Open Close Drop : Session → Call
+  Select : Session → ℕ → Call
+  Start Continue : Session → Credential → Name → Call
+  Elevate : Session → Credential → Name → Bool → Call
+  End : Session → UserClaim → Bool → Call
+  Record : Session → Claim → Class → Call
+  List′ : Session → Claim → Wanted → ℕ → Call
+  Kill : Session → Claim → Name → Call
+  SetWord : Session → Claim → Credential → ℕ → Call
+
+-- ---- what the tests ask
+
+-- "Classes (ours): 0 list other credentials' processes; 1 kill other credentials' processes; 2 save one's own; 3 set grant words; 4 to 31
+-- device operations."
+abbrev pub listOthers : Class
+listOthers = record { 0 = 0 }
+
+abbrev pub killOthers : Class
+killOthers = record { 0 = 1 }
+
+abbrev pub saveOwn : Class
+saveOwn = record { 0 = 2 }
+
+abbrev pub setWords : Class
+setWords = record { 0 = 3 }
+
+-- "class of a record under 4 or over 31" is an argument error
+unfoldable pub isDevice : Class → Bool
+isDevice class = leb 4 (class .0) && leb (class .0) 31
+
+-- "a version byte other than 0x10"
+unfoldable pub isVersion : ℕ → Bool
+isVersion byte = eqb byte 0x10
+
+-- "credential over 7 (65535 is allowed as the wanted credential of a listing)"
+unfoldable pub isWanted : Wanted → Bool
+isWanted Every = true
+isWanted (Only c) = isCredential c
+
+-- "12 processes stand"
+unfoldable pub isFull : State → Bool
+isFull st = leb places (size (st .table))
+
+-- a process has the name, among those; and where the first stands
+unfoldable pub hasNamed : State → Name → Among → Bool
+hasNamed st name among = any (isNamed name among) (standing (st .table))
+
+unfoldable pub namedPlace : State → Name → Among → ℕ
+namedPlace st name among = firstIndex (isNamed name among) (standing (st .table))
+
+-- "10 if keep and class 2 is clear"
+unfoldable pub lacksSaving : State → Credential → Bool → Bool
+lacksSaving st c keep = keep && not (granted st c saveOwn)
+
+-- "10 if wanted differs from the claim's credential and class 0 is clear (a credential may always list its own)"
+unfoldable pub mayList : State → Credential → Wanted → Bool
+mayList st c Every = granted st c listOthers
+mayList st c (Only wanted) = eqb (wanted .0) (c .0) || granted st c listOthers
+
+-- "It may kill its own credential's processes of every type, and all when class 1 is granted."
+unfoldable pub reach : State → Credential → Among
+reach st c = cond (granted st c killOthers) All (Of c)
+
+-- ---- the number: that of the first test that holds, 0 where none does
+unfoldable pub number : State → Call → ℕ
+number st (Open s) =
+    No.argument unless isHandle s
+    ▸ No.session unless isClosed (phaseOf st s)
+number st (Close s) =
+    No.argument unless isHandle s
+    ▸ No.session when isClosed (phaseOf st s)
+number st (Select s byte) =
+    No.argument unless isHandle s
+    ▸ No.session when isClosed (phaseOf st s)
+    ▸ No.version unless isVersion byte
+number st (Start s c name) =
+    No.argument unless isCredential c
+    ▸ entered st s
+    ▸ No.credential unless provisioned st c
+    ▸ No.alreadyActive when hasActive st (UserOf s c)
+    ▸ No.nameTaken when hasNamed st name All
+    ▸ No.full when isFull st
+number st (Continue s c name) =
+    No.argument unless isCredential c
+    ▸ entered st s
+    ▸ No.credential unless provisioned st c
+    ▸ No.noProcess unless hasNamed st name (SavedOf c)
+    ▸ No.alreadyActive when hasActive st (UserOf s c)
+number st (Elevate s c name verdict) =
+    No.argument unless isCredential c
+    ▸ entered st s
+    ▸ No.credential unless provisioned st c
+    ▸ No.verdict unless verdict
+    ▸ No.alreadyActive when hasActive st (ElevationIn s)
+    ▸ No.nameTaken when hasNamed st name All
+    ▸ No.full when isFull st
+number st (Drop s) =
+    entered st s
+    ▸ No.noProcess unless hasActive st (ElevationIn s)
+number st (End s u keep) =
+    admitted st s (ByUser u)
+    ▸ No.notGranted when lacksSaving st (u .credential) keep
+number st (Record s claim class) =
+    No.argument unless isDevice class
+    ▸ admitted st s claim
+    ▸ No.notGranted unless granted st (claimant st s claim) class
+number st (List′ s claim wanted room) =
+    No.argument unless isWanted wanted
+    ▸ admitted st s claim
+    ▸ No.notGranted unless mayList st (claimant st s claim) wanted
+    ▸ No.room when ltb room (messageLength (length (rowsOf st wanted)))
+number st (Kill s claim name) =
+    admitted st s claim
+    ▸ No.noProcess unless hasNamed st name (reach st (claimant st s claim))
+number st (SetWord s claim c word) =
+    No.argument unless isCredential c
+    ▸ admitted st s claim
+    ▸ No.notGranted unless granted st (claimant st s claim) setWords
+    ▸ No.credential unless provisioned st c
+
+-- ---- what an accepted call does
+abbrev pub withTable : State → Table → State
+withTable st t = record { sessions = st .sessions; credentials = st .credentials; table = t }
+
+abbrev pub withPhase : State → Session → Phase → State
+withPhase st s phase = record { sessions = set (st .sessions) (s .0) (record { phase = phase }); credentials = st .credentials; table = st .table }
+
+abbrev pub withWord : State → Credential → ℕ → State
+withWord st c word = record { sessions = st .sessions; credentials = set (st .credentials) (c .0) (record { provisioned = true; word = word }); table = st .table }
+
+-- "An elevation's next number, a saved process's session .. are kept zero."
+abbrev pub userProcess : Session → Credential → Name → Process
+userProcess s c name = record { credential = c; kind = User; session = s; next = 0; name = name }
+
+abbrev pub elevation : Session → Credential → Name → Process
+elevation s c name = record { credential = c; kind = Elevation; session = s; next = 0; name = name }
+
+-- "The process becomes active in that session, in its old place and with its old next number."
+abbrev pub activated : Session → Process → Process
+activated s p = record { credential = p .credential; kind = User; session = s; next = p .next; name = p .name }
+
+abbrev pub saved : Process → Process
+saved p = record { credential = p .credential; kind = Saved; session = record { 0 = 0 }; next = p .next; name = p .name }
+
+abbrev pub oneMore : Process → Process
+oneMore p = record { credential = p .credential; kind = p .kind; session = p .session; next = p .next + 1; name = p .name }
+
+-- "A call answered 0 under a user claim .. adds one to that process's next number."
+unfoldable pub counted : State → Session → Claim → State
+counted st s Elevated = st
+counted st s (ByUser u) =
+    withTable st (replaced (st .table) (activePlace st (UserOf s (u .credential))) (oneMore (activeProcess st (UserOf s (u .credential)))))
+
+-- "then the process is saved, or removed when not kept": the process at a place
+unfoldable pub ended : State → ℕ → Bool → State
+ended st at true = withTable st (replaced (st .table) at (saved (processAt (st .table) at)))
+ended st at false = withTable st (removed (st .table) at)
+
+unfoldable pub effect : State → Call → State
+effect st (Open s) = withPhase st s Opened
+effect st (Close s) = withPhase (withTable st (withoutSession (st .table) s)) s Closed
+effect st (Select s byte) = withPhase st s Chosen
+effect st (Start s c name) = withTable st (appended (st .table) (userProcess s c name))
+effect st (Continue s c name) =
+    withTable st
+    (replaced (st .table) (namedPlace st name (SavedOf c)) (activated s (processAt (st .table) (namedPlace st name (SavedOf c)))))
+effect st (Elevate s c name verdict) = withTable st (appended (st .table) (elevation s c name))
+effect st (Drop s) = withTable st (removed (st .table) (activePlace st (ElevationIn s)))
+effect st (End s u keep) = ended (counted st s (ByUser u)) (activePlace st (UserOf s (u .credential))) keep
+effect st (Record s claim class) = counted st s claim
+effect st (List′ s claim wanted room) = counted st s claim
+effect st (Kill s claim name) =
+    withTable (counted st s claim) (removed (counted st s claim .table) (namedPlace st name (reach st (claimant st s claim))))
+effect st (SetWord s claim c word) = withWord (counted st s claim) c word
+
+-- ---- the outcome: the answer, and the next state. "A refusal leaves state .. as they were."
+
+-- "A refusal of a protected call returns its number together with the claim it was given"
+unfoldable pub refusal : Call → ℕ → Answer
+refusal (Open s) n = Refused n
+refusal (Close s) n = Refused n
+refusal (Select s byte) n = Refused n
+refusal (Start s c name) n = Refused n
+refusal (Continue s c name) n = Refused n
+refusal (Elevate s c name verdict) n = Refused n
+refusal (Drop s) n = Refused n
+refusal (End s u keep) n = RefusedClaim n (ByUser u)
+refusal (Record s claim class) n = RefusedClaim n claim
+refusal (List′ s claim wanted room) n = RefusedClaim n claim
+refusal (Kill s claim name) n = RefusedClaim n claim
+refusal (SetWord s claim c word) n = RefusedClaim n claim
+
+-- the page's number of each case of an answer
+abbrev pub answerNumber : Answer → ℕ
+answerNumber Done = No.done
+answerNumber (Refused n) = n
+answerNumber (RefusedClaim n claim) = n
+
+unfoldable pub outcome : State → Call → Outcome
+outcome st call =
+    cond (eqb (number st call) No.done)
+    (record { state = effect st call; answer = Done })
+    (record { state = st; answer = refusal call (number st call) })
+
+-- "Returns the message's length; 0 on a refusal."
+unfoldable pub listed : State → Session → Claim → Wanted → ℕ → Listed
+listed st s claim wanted room =
+    record {
+      outcome = outcome st (List′ s claim wanted room);
+      length = cond (eqb (number st (List′ s claim wanted room)) No.done) (messageLength (length (rowsOf st wanted))) 0;
+    }
+
+-- ---- "A fresh module is made from eight such pairs; an unprovisioned credential's word is taken as zero. It has all sessions closed and no
+-- process."
+abbrev pub taken : Grants → Grants
+taken pair = record { provisioned = pair .provisioned; word = cond (pair .provisioned) (pair .word) 0 }
+
+unfoldable pub fresh : List Grants → State
+fresh pairs = record { sessions = replicate 4 closedSession; credentials = map taken pairs; table = tableOf [] }

@@ -1,0 +1,229 @@
+-- The laws that close the needs of this crate's functions, and of those above, by `search rules`.
+-- Assumes nothing.
+use Prim.Native.Nat.{ℕ, _/_, _%_, _^_, _<_, _≤_}
+use mathlib.Core.Path.{_≡_, refl, sym, ap, _∙_}
+use mathlib.Core.Bool.{Bool, true, false, not, _&&_}
+use mathlib.Core.List.{List}
+use native.Mathlib.Omega.{arith}
+use lib.Dec.{T, eqb, ltb, leb, ltb→lt}
+use lib.ListN.{length, getD, List·getD-eq-default}
+use borrow.Author.Needs.{needs}
+use borrow.Author.Tests.{not-true, not-false, eq-eqb, ne-eqb, le-leb, lt-leb}
+use Rattle.lists.specs.Lists.{firstIndex}
+use Rattle.lists.proofs.Lists.{length-mapped}
+use Rattle.claims.specs.declared.Class.{Class}
+use Rattle.claims.specs.declared.Grants.{Grants}
+use Rattle.claims.specs.declared.SessionState.{SessionState}
+use Rattle.claims.specs.declared.State.{State}
+use Rattle.claims.specs.declared.Claim.{Claim}
+use Rattle.claims.specs.declared.Claim.the-variants.{Elevated, ByUser}
+use Rattle.claims.specs.declared.UserClaim.{UserClaim}
+use Rattle.claims.specs.declared.Phase.{Phase}
+use Rattle.claims.specs.declared.Phase.the-variants.{Closed, Opened, Chosen}
+use Rattle.names.specs.declared.Credential.{Credential}
+use Rattle.names.specs.declared.Session.{Session}
+use Rattle.table.specs.Table.{standing, freePlace, processAt, isActive, firstPlace, findActive}
+use Rattle.table.specs.declared.Active.{Active}
+use Rattle.table.specs.declared.Active.the-variants.{UserOf, ElevationIn}
+use Rattle.table.specs.declared.Found.{Found}
+use Rattle.table.specs.declared.Found.the-variants.{At, Nothing}
+use Rattle.table.specs.declared.Process.{Process}
+use Rattle.table.specs.declared.Table.{Table}
+use Rattle.table.proofs.Searched.{FoundAt, FoundNone, found-at, found-none}
+use Rattle.claims.specs.Numbers.{_when_, _unless_, _▸_}
+use Rattle.claims.specs.Module.{isHandle, closedSession, phaseOf, isClosed, isChosen, isCredential, unprovisioned, provisioned, wordOf, granted, hasActive, activePlace, activeProcess}
+use Rattle.claims.specs.Claim.{isClaim, isSpent, isNext, turnNumber, elevatedNumber, userNumber, claimNumber, elevatedCredential, claimant}
+use Rattle.claims.proofs.Laws.{stop, pass, when-true, when-false, unless-true, unless-false}
+
+nonzero : {n : ℕ} → T (ltb 0 n) → n ≡ 0 → ⊥
+nonzero {n} some e = omega (arith, ltb→lt 0 n some)
+
+-- ---- a row of tests, as code goes through it: a test leaves with its number, or the next is asked
+module _ (n : ℕ) {b t : Bool} (e : b ≡ t) where
+  pub when-hit : b ≡ true → n ≡ n when t
+  when-hit h = sym (when-true n (sym e ∙ h))
+
+  pub when-miss : b ≡ false → 0 ≡ n when t
+  when-miss h = sym (when-false n (sym e ∙ h))
+
+  pub unless-hit : not b ≡ true → n ≡ n unless t
+  unless-hit h = sym (unless-false n (sym e ∙ not-true b h))
+
+  pub unless-miss : not b ≡ false → 0 ≡ n unless t
+  unless-miss h = sym (unless-true n (sym e ∙ not-false b h))
+
+  module _ (m : ℕ) where
+    pub when-stop : T (ltb 0 n) → b ≡ true → n ≡ n when t ▸ m
+    when-stop some h = rw (when-true n (sym e ∙ h)) (sym (stop m (nonzero some)))
+
+    pub when-pass : {r : ℕ} → b ≡ false → r ≡ m → r ≡ n when t ▸ m
+    when-pass h q = q ∙ sym (pass m (when-false n (sym e ∙ h)))
+
+    pub unless-stop : T (ltb 0 n) → not b ≡ true → n ≡ n unless t ▸ m
+    unless-stop some h = rw (unless-false n (sym e ∙ not-true b h)) (sym (stop m (nonzero some)))
+
+    pub unless-pass : {r : ℕ} → not b ≡ false → r ≡ m → r ≡ n unless t ▸ m
+    unless-pass h q = q ∙ sym (pass m (unless-true n (sym e ∙ not-false b h)))
+
+-- the number of a whole part of the row
+module _ {n a : ℕ} (m : ℕ) (e : n ≡ a) where
+  pub part-stop : (n ≡ 0 → ⊥) → n ≡ a ▸ m
+  part-stop h = e ∙ sym (stop m (λ z. h (e ∙ z)))
+
+  pub part-pass : {r : ℕ} → n ≡ 0 → r ≡ m → r ≡ a ▸ m
+  part-pass z q = q ∙ sym (pass m (sym e ∙ z))
+
+-- ---- ranges
+pub handle-is : (s : Session) → leb (s .0) 3 ≡ isHandle s
+unfolding isHandle
+handle-is s = refl
+
+pub credential-is : (c : Credential) → leb (c .0) 7 ≡ isCredential c
+unfolding isCredential
+credential-is c = refl
+
+-- ---- sessions and credentials
+module _ (st : State) (s : Session) where
+  pub phase-in : getD (st .sessions) (s .0) closedSession .phase ≡ phaseOf st s
+  unfolding phaseOf
+  phase-in = refl
+
+  pub phase-out : length (st .sessions) ≡ 4 → 4 ≤ s .0 → Closed ≡ phaseOf st s
+  unfolding phaseOf
+  phase-out h k = ap (λ (x : SessionState). x .phase) (sym (List·getD-eq-default (st .sessions) closedSession (omega arith)))
+
+module _ {a b : Phase} (e : a ≡ b) where
+  pub closed-closed : a ≡ Closed → true ≡ isClosed b
+  unfolding isClosed
+  closed-closed q = rw (← e, q)
+
+  pub closed-opened : a ≡ Opened → false ≡ isClosed b
+  unfolding isClosed
+  closed-opened q = rw (← e, q)
+
+  pub closed-chosen : a ≡ Chosen → false ≡ isClosed b
+  unfolding isClosed
+  closed-chosen q = rw (← e, q)
+
+  pub chosen-closed : a ≡ Closed → false ≡ isChosen b
+  unfolding isChosen
+  chosen-closed q = rw (← e, q)
+
+  pub chosen-opened : a ≡ Opened → false ≡ isChosen b
+  unfolding isChosen
+  chosen-opened q = rw (← e, q)
+
+  pub chosen-chosen : a ≡ Chosen → true ≡ isChosen b
+  unfolding isChosen
+  chosen-chosen q = rw (← e, q)
+
+module _ (st : State) (c : Credential) where
+  pub provisioned-in : getD (st .credentials) (c .0) unprovisioned .provisioned ≡ provisioned st c
+  unfolding provisioned
+  provisioned-in = refl
+
+  pub word-in : getD (st .credentials) (c .0) unprovisioned .word ≡ wordOf st c
+  unfolding wordOf
+  word-in = refl
+
+  module _ (h : length (st .credentials) ≡ 8) (k : 8 ≤ c .0) where
+    out : getD (st .credentials) (c .0) unprovisioned ≡ unprovisioned
+    out = List·getD-eq-default (st .credentials) unprovisioned (omega arith)
+
+    pub provisioned-out : false ≡ provisioned st c
+    unfolding provisioned
+    provisioned-out = ap (λ (g : Grants). g .provisioned) (sym out)
+
+    pub word-out : 0 ≡ wordOf st c
+    unfolding wordOf
+    word-out = ap (λ (g : Grants). g .word) (sym out)
+
+pub granted-not : (st : State) (c : Credential) (class : Class) → 31 < class .0 → false ≡ granted st c class
+unfolding granted
+granted-not st c class h = rw (lt-leb (class .0) 31 h)
+
+pub granted-is : (st : State) (c : Credential) (class : Class) {w : ℕ} → class .0 ≤ 31 → w ≡ wordOf st c → eqb (w / 2 ^ (class .0) % 2) 1 ≡ granted st c class
+unfolding granted
+granted-is st c class h e = rw (e, le-leb (class .0) 31 h)
+
+-- ---- the active process, by the search's answer
+module _ (st : State) (which : Active) {f : Found} (e : f ≡ firstPlace (isActive which) (standing (st .table))) where
+  pub none-active : f ≡ Nothing → hasActive st which ≡ false
+  unfolding hasActive
+  none-active q = found-none (isActive which) (standing (st .table)) (sym e ∙ q) .none
+
+  module _ {k : ℕ} (q : f ≡ At k) where
+    here : FoundAt (isActive which) (standing (st .table)) k
+    here = found-at (isActive which) (standing (st .table)) (sym e ∙ q)
+
+    pub one-active : hasActive st which ≡ true
+    unfolding hasActive
+    one-active = here .some
+
+    pub process-is : {p : Process} → p ≡ processAt (st .table) k → p ≡ activeProcess st which
+    unfolding activePlace activeProcess
+    process-is r = r ∙ ap (processAt (st .table)) (here .is)
+
+  pub missing-stop : (n m : ℕ) → T (ltb 0 n) → f ≡ Nothing → n ≡ n unless hasActive st which ▸ m
+  missing-stop n m some q = rw (unless-false n (none-active q)) (sym (stop m (nonzero some)))
+
+  pub found-pass : (n m : ℕ) {r k : ℕ} → f ≡ At k → r ≡ m → r ≡ n unless hasActive st which ▸ m
+  found-pass n m q a = a ∙ sym (pass m (unless-true n (one-active q)))
+
+  pub missing-last : (n : ℕ) → f ≡ Nothing → n ≡ n unless hasActive st which
+  missing-last n q = sym (unless-false n (none-active q))
+
+  pub found-last : (n : ℕ) {k : ℕ} → f ≡ At k → 0 ≡ n unless hasActive st which
+  found-last n q = sym (unless-true n (one-active q))
+
+-- ---- the claim, by its case
+pub spent-is : (p : Process) → eqb (p .next) 65535 ≡ isSpent p
+unfolding isSpent
+spent-is p = refl
+
+pub next-is : (number : ℕ) (p : Process) → eqb number (p .next) ≡ isNext number p
+unfolding isNext
+next-is number p = refl
+
+pub turn-same : {p q : Process} {n : ℕ} (u : UserClaim) → n ≡ turnNumber p u → p ≡ q → n ≡ turnNumber q u
+turn-same u h e = h ∙ ap (λ (x : Process). turnNumber x u) e
+
+pub elevated-fine : {claim : Claim} → claim ≡ Elevated → true ≡ isClaim claim
+unfolding isClaim
+elevated-fine e = rw e
+
+pub user-fine : {claim : Claim} {u : UserClaim} {b : Bool} → claim ≡ ByUser u → b ≡ isCredential (u .credential) → b ≡ isClaim claim
+unfolding isClaim
+user-fine e q = q ∙ rw e
+
+module _ (st : State) (s : Session) {f : Found} (e : f ≡ firstPlace (isActive (ElevationIn s)) (standing (st .table))) where
+  pub none-elevated : f ≡ Nothing → _≡_ {A = Credential} (record { 0 = 0 }) (elevatedCredential st s)
+  unfolding elevatedCredential activePlace activeProcess processAt
+  none-elevated q =
+      let past : length (standing (st .table)) ≤ firstIndex (isActive (ElevationIn s)) (standing (st .table)) = found-none (isActive (ElevationIn s)) (standing (st .table)) (sym e ∙ q) .past in
+      ap (λ (p : Process). p .credential) (sym (List·getD-eq-default (standing (st .table)) freePlace past))
+
+  pub one-elevated : {k : ℕ} {p : Process} → f ≡ At k → p ≡ processAt (st .table) k → p .credential ≡ elevatedCredential st s
+  unfolding elevatedCredential
+  one-elevated q r = ap (λ (p : Process). p .credential) (process-is st (ElevationIn s) e q r)
+
+module _ (st : State) (s : Session) {claim : Claim} where
+  module _ (e : claim ≡ Elevated) where
+    pub elevated-number : {n : ℕ} → n ≡ elevatedNumber st s → n ≡ claimNumber st s claim
+    unfolding claimNumber
+    elevated-number q = q ∙ rw e
+
+    pub elevated-claimant : {c : Credential} → c ≡ elevatedCredential st s → c ≡ claimant st s claim
+    unfolding claimant
+    elevated-claimant q = q ∙ rw e
+
+  module _ {u : UserClaim} (e : claim ≡ ByUser u) where
+    pub user-number : {n : ℕ} → n ≡ userNumber st s u → n ≡ claimNumber st s claim
+    unfolding claimNumber
+    user-number q = q ∙ rw e
+
+    pub user-claimant : u .credential ≡ claimant st s claim
+    unfolding claimant
+    user-claimant = rw e
+
+pub ruleset rules = (needs, length-mapped, when-hit, when-miss, unless-hit, unless-miss, when-stop, when-pass, unless-stop, unless-pass, part-stop, part-pass, handle-is, credential-is, phase-in, phase-out, closed-closed, closed-opened, closed-chosen, chosen-closed, chosen-opened, chosen-chosen, spent-is, next-is, turn-same, elevated-fine, elevated-number, elevated-claimant, user-fine, user-number, user-claimant, provisioned-in, word-in, provisioned-out, word-out, process-is, missing-stop, found-pass, missing-last, found-last, none-elevated, one-elevated, granted-not, granted-is)

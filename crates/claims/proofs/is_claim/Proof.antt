@@ -1,0 +1,29 @@
+use Prim.Native.Nat.{ℕ, _+_, _-_, _*_, _≤_, _<_}
+use mathlib.Core.Path.{_≡_, refl, sym, ap, _∙_}
+use mathlib.Core.Logic.{⊎-elim}
+use native.Mathlib.Omega.{arith}
+use Rattle.claims.proofs.Rules.{rules}
+use Rattle.claims.proofs.is_claim.Statement.{statement}
+use Rattle.claims.proofs.is_claim.Tie as tie
+use Rattle.claims.proofs.is_claim.Reads as reads
+use Rattle.claims.proofs.is_claim.Lts as lts
+use Rattle.claims.proofs.is_credential.Reads as is-credential-reads
+
+enum-told : tie.Need-enum-told
+enum-told c = search rules
+
+enum-known-claim : tie.Need-enum-known-claim
+enum-known-claim c = search rules
+
+is-credential-requires : tie.Need-is-credential-requires
+is-credential-requires c κs = search rules
+
+returns : tie.Need-returns
+returns c = search rules
+
+returns-2 : tie.Need-returns-2
+returns-2 c = search rules
+
+pub is-claim-spec : {M : Type 1} → statement M
+is-claim-spec =
+    tie.close (tie.spec enum-told enum-known-claim is-credential-requires returns returns-2)

@@ -1,0 +1,38 @@
+use Rattle.claims.specs.Claim.{userNumber, turnNumber}
+use Prim.Native.Nat.{ℕ, _+_, _-_, _*_, _≤_, _<_}
+use mathlib.Core.Path.{_≡_, refl, sym, ap, _∙_}
+use mathlib.Core.Logic.{⊎-elim}
+use native.Mathlib.Omega.{arith}
+use Rattle.claims.proofs.Rules.{rules}
+use Rattle.claims.proofs.turn_number.Statement.{statement}
+use Rattle.claims.proofs.turn_number.Tie as tie
+use Rattle.claims.proofs.turn_number.Reads as reads
+use Rattle.claims.proofs.turn_number.Lts as lts
+use Rattle.claims.proofs.is_next.Reads as is-next-reads
+use Rattle.claims.proofs.is_spent.Reads as is-spent-reads
+
+is-spent-requires : tie.Need-is-spent-requires
+is-spent-requires c κs = search rules
+
+returns : tie.Need-returns
+unfolding turnNumber
+returns c = search rules
+
+is-next-requires : tie.Need-is-next-requires
+is-next-requires c κs = search rules
+
+returns-2 : tie.Need-returns-2
+unfolding turnNumber
+returns-2 c = search rules
+
+returns-3 : tie.Need-returns-3
+unfolding turnNumber
+returns-3 c = search rules
+
+returns-4 : tie.Need-returns-4
+unfolding turnNumber
+returns-4 c = search rules
+
+pub turn-number-spec : {M : Type 1} → statement M
+turn-number-spec =
+    tie.close (tie.spec is-spent-requires returns is-next-requires returns-2 returns-3 returns-4)

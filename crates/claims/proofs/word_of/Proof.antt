@@ -1,0 +1,27 @@
+use Prim.Native.Nat.{ℕ, _+_, _-_, _*_, _≤_, _<_}
+use mathlib.Core.Path.{_≡_, refl, sym, ap, _∙_}
+use mathlib.Core.Logic.{⊎-elim}
+use native.Mathlib.Omega.{arith}
+use Rattle.claims.proofs.Rules.{rules}
+use Rattle.claims.proofs.word_of.Statement.{statement}
+use Rattle.claims.proofs.word_of.Tie as tie
+use Rattle.claims.proofs.word_of.Reads as reads
+use Rattle.claims.proofs.word_of.Lts as lts
+
+cast-at : tie.Need-cast-at
+cast-at c = search rules
+
+mul-one : tie.Need-mul-one
+mul-one c = search rules
+
+array-copy-out-one : tie.Need-array-copy-out-one
+array-copy-out-one c = search rules
+
+returns : tie.Need-returns
+returns c = search rules
+
+returns-2 : tie.Need-returns-2
+returns-2 c = search rules
+
+pub word-of-spec : {M : Type 1} → statement M
+word-of-spec = tie.close (tie.spec cast-at mul-one array-copy-out-one returns returns-2)

@@ -1,0 +1,65 @@
+-- "What the module holds"
+use Prim.Native.Nat.{ℕ, _/_, _%_, _^_}
+use mathlib.Core.Bool.{Bool, true, false, _&&_}
+use mathlib.Core.List.{List}
+use lib.Dec.{eqb, leb}
+use lib.ListN.{getD}
+use Rattle.lists.specs.Lists.{any, firstIndex}
+use Rattle.names.specs.declared.Credential.{Credential}
+use Rattle.names.specs.declared.Session.{Session}
+use Rattle.table.specs.Table.{standing, processAt, isActive}
+use Rattle.table.specs.declared.Active.{Active}
+use Rattle.table.specs.declared.Process.{Process}
+use Rattle.table.specs.declared.Table.{Table}
+use Rattle.claims.specs.declared.Class.{Class}
+use Rattle.claims.specs.declared.Grants.{Grants}
+use Rattle.claims.specs.declared.Phase.{Phase}
+use Rattle.claims.specs.declared.Phase.the-variants.{Closed, Opened, Chosen}
+use Rattle.claims.specs.declared.SessionState.{SessionState}
+use Rattle.claims.specs.declared.State.{State}
+
+-- ---- "Four sessions, handles 0 to 3. Each is closed, or open without a version, or open with version 1.0."
+unfoldable pub isHandle : Session → Bool
+isHandle s = leb (s .0) 3
+
+abbrev pub closedSession : SessionState
+closedSession = record { phase = Closed }
+
+unfoldable pub phaseOf : State → Session → Phase
+phaseOf st s = getD (st .sessions) (s .0) closedSession .phase
+
+unfoldable pub isClosed : Phase → Bool
+isClosed Closed = true
+isClosed Opened = false
+isClosed Chosen = false
+
+unfoldable pub isChosen : Phase → Bool
+isChosen Closed = false
+isChosen Opened = false
+isChosen Chosen = true
+
+-- ---- "Eight credentials, 0 to 7. Each is provisioned or not, and has a grant word of 32 bits; bit k grants class k."
+unfoldable pub isCredential : Credential → Bool
+isCredential c = leb (c .0) 7
+
+abbrev pub unprovisioned : Grants
+unprovisioned = record { provisioned = false; word = 0 }
+
+unfoldable pub provisioned : State → Credential → Bool
+provisioned st c = getD (st .credentials) (c .0) unprovisioned .provisioned
+
+unfoldable pub wordOf : State → Credential → ℕ
+wordOf st c = getD (st .credentials) (c .0) unprovisioned .word
+
+unfoldable pub granted : State → Credential → Class → Bool
+granted st c class = leb (class .0) 31 && eqb (wordOf st c / 2 ^ (class .0) % 2) 1
+
+-- ---- the table's active processes: whether there is one; its place, and itself
+unfoldable pub hasActive : State → Active → Bool
+hasActive st which = any (isActive which) (standing (st .table))
+
+unfoldable pub activePlace : State → Active → ℕ
+activePlace st which = firstIndex (isActive which) (standing (st .table))
+
+unfoldable pub activeProcess : State → Active → Process
+activeProcess st which = processAt (st .table) (activePlace st which)
