@@ -1,1 +1,4 @@
+pub mod Laws
+pub mod Rules
 pub mod Worked
+pub mod Unique

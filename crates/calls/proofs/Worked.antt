@@ -4,7 +4,7 @@ use Prim.Native.Nat.{ℕ}
 use mathlib.Core.Path.{_≡_, refl}
 use mathlib.Core.Bool.{true, false}
 use mathlib.Core.List.{List, [], _∷_, _++_, map}
-use lib.ListN.{length, drop, replicate}
+use lib.ListN.{drop, replicate}
 use Rattle.lists.specs.Lists.{any, firstIndex, reject, select, join, removeAt, padded}
 use Rattle.lists.specs.Bytes.{bytesOf}
 use Rattle.names.specs.Names.{sameBytes, sameName}
@@ -19,11 +19,10 @@ use Rattle.claims.specs.declared.Claim.{Claim}
 use Rattle.claims.specs.declared.Claim.the-variants.{ByUser}
 use Rattle.claims.specs.declared.Class.{Class}
 use Rattle.claims.specs.declared.Grants.{Grants}
-use Rattle.claims.specs.declared.State.{State}
 use Rattle.claims.specs.declared.UserClaim.{UserClaim}
 use Rattle.calls.specs.declared.Wanted.the-variants.{Every}
 use Rattle.calls.specs.Listing.{rowsOf, messageLength, listing}
-use Rattle.calls.specs.Calls.{Call, Open, Select, Start, Continue, End, Record, List′, Kill, isDevice, isVersion, isWanted, isFull, hasNamed, namedPlace, lacksSaving, mayList, reach, number, counted, ended, effect, refusal, outcome, fresh}
+use Rattle.calls.specs.Calls.{Call, Open, Select, Start, Continue, End, Record, List′, Kill, isDevice, isVersion, isWanted, isFull, hasNamed, namedPlace, lacksSaving, isOwn, mayList, isShort, reach, number, counted, ended, effect, refusal, outcome, taken, fresh}
 use Rattle.calls.specs.Run.{step, run, numbers}
 
 -- "P is 16 zero bytes then 32 of 0x11; Q is 16 zero bytes then 32 of 0x22; R is P with its last byte 0x12."
@@ -124,5 +123,5 @@ pub record Worked : Type 0 where
   pub next-is : map (λ p. p .next) (standing (run (fresh pairs) (calls (listed ++ continued)) .table)) ≡ 3 ∷ []
 
 pub worked : Worked
-unfolding any firstIndex reject select join removeAt padded bytesOf sameBytes sameName standing size tableOf processAt isActive isActiveIn isAmong isNamed appended replaced removed withoutSession _when_ _unless_ _▸_ isHandle phaseOf isClosed isChosen isCredential provisioned wordOf granted hasActive activePlace activeProcess entered isClaim elevatedNumber isSpent isNext turnNumber userNumber claimNumber admitted elevatedCredential claimant rowsOf messageLength listing isDevice isVersion isWanted isFull hasNamed namedPlace lacksSaving mayList reach number counted ended effect refusal outcome fresh step run numbers
+unfolding any firstIndex reject select join removeAt padded bytesOf sameBytes sameName standing size tableOf processAt isActive isActiveIn isAmong isNamed appended replaced removed withoutSession _when_ _unless_ _▸_ isHandle phaseOf isClosed isChosen isCredential provisioned wordOf granted hasActive activePlace activeProcess entered isClaim elevatedNumber isSpent isNext turnNumber userNumber claimNumber admitted elevatedCredential claimant rowsOf messageLength listing isDevice isVersion isWanted isFull hasNamed namedPlace lacksSaving isOwn mayList isShort reach number counted ended effect refusal outcome taken fresh step run numbers
 worked = record { numbers-are = refl; listing-is = refl; next-is = refl }

@@ -93,9 +93,16 @@ unfoldable pub lacksSaving : State → Credential → Bool → Bool
 lacksSaving st c keep = keep && not (granted st c saveOwn)
 
 -- "10 if wanted differs from the claim's credential and class 0 is clear (a credential may always list its own)"
+unfoldable pub isOwn : Credential → Wanted → Bool
+isOwn c Every = false
+isOwn c (Only wanted) = eqb (wanted .0) (c .0)
+
 unfoldable pub mayList : State → Credential → Wanted → Bool
-mayList st c Every = granted st c listOthers
-mayList st c (Only wanted) = eqb (wanted .0) (c .0) || granted st c listOthers
+mayList st c wanted = isOwn c wanted || granted st c listOthers
+
+-- "response buffer too short"
+unfoldable pub isShort : State → Wanted → ℕ → Bool
+isShort st wanted room = ltb room (messageLength (length (rowsOf st wanted)))
 
 -- "It may kill its own credential's processes of every type, and all when class 1 is granted."
 unfoldable pub reach : State → Credential → Among
@@ -148,7 +155,7 @@ number st (List′ s claim wanted room) =
     No.argument unless isWanted wanted
     ▸ admitted st s claim
     ▸ No.notGranted unless mayList st (claimant st s claim) wanted
-    ▸ No.room when ltb room (messageLength (length (rowsOf st wanted)))
+    ▸ No.room when isShort st wanted room
 number st (Kill s claim name) =
     admitted st s claim
     ▸ No.noProcess unless hasNamed st name (reach st (claimant st s claim))
@@ -252,7 +259,7 @@ listed st s claim wanted room =
 
 -- ---- "A fresh module is made from eight such pairs; an unprovisioned credential's word is taken as zero. It has all sessions closed and no
 -- process."
-abbrev pub taken : Grants → Grants
+unfoldable pub taken : Grants → Grants
 taken pair = record { provisioned = pair .provisioned; word = cond (pair .provisioned) (pair .word) 0 }
 
 unfoldable pub fresh : List Grants → State

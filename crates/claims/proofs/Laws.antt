@@ -2,11 +2,11 @@
 -- Assumes nothing.
 use Prim.Native.Nat.{ℕ}
 use mathlib.Core.Path.{_≡_, refl, sym, _∙_}
-use mathlib.Core.Bool.{Bool, true, false, not, cond}
+use mathlib.Core.Bool.{Bool, true, false, not}
 use native.Mathlib.Omega.{arith}
 use lib.Dec.{T, eqb, ltb, ltb→lt}
 use borrow.Author.Tests.{eq-eqb, ne-eqb, eqb-true}
-use Rattle.lists.proofs.Tests.{split, clash}
+use Rattle.lists.proofs.Tests.{split}
 use Rattle.claims.specs.Numbers.{_when_, _unless_, _▸_}
 
 -- ---- a row of tests
@@ -20,6 +20,11 @@ module _ {n : ℕ} (m : ℕ) where
   pub pass : n ≡ 0 → n ▸ m ≡ m
   unfolding _▸_
   pass e = rw (eq-eqb n 0 e)
+
+-- a row of tests may be asked in parts
+pub rows : (a b c : ℕ) → (a ▸ b) ▸ c ≡ a ▸ b ▸ c
+unfolding _▸_
+rows a b c = split (eqb a 0) (λ e. rw e) (λ e. rw (e, e))
 
 module _ (n : ℕ) {b : Bool} where
   pub when-true : b ≡ true → n when b ≡ n

@@ -2,13 +2,12 @@
 -- Assumes nothing.
 use Prim.Native.Nat.{ℕ, _/_, _%_, _^_, _<_, _≤_}
 use mathlib.Core.Path.{_≡_, refl, sym, ap, _∙_}
-use mathlib.Core.Bool.{Bool, true, false, not, _&&_}
-use mathlib.Core.List.{List}
+use mathlib.Core.Bool.{Bool, true, false, not}
 use native.Mathlib.Omega.{arith}
 use lib.Dec.{T, eqb, ltb, leb, ltb→lt}
 use lib.ListN.{length, getD, List·getD-eq-default}
 use borrow.Author.Needs.{needs}
-use borrow.Author.Tests.{not-true, not-false, eq-eqb, ne-eqb, le-leb, lt-leb}
+use borrow.Author.Tests.{not-true, not-false, le-leb, lt-leb}
 use Rattle.lists.specs.Lists.{firstIndex}
 use Rattle.lists.proofs.Lists.{length-mapped}
 use Rattle.claims.specs.declared.Class.{Class}
@@ -22,14 +21,13 @@ use Rattle.claims.specs.declared.Phase.{Phase}
 use Rattle.claims.specs.declared.Phase.the-variants.{Closed, Opened, Chosen}
 use Rattle.names.specs.declared.Credential.{Credential}
 use Rattle.names.specs.declared.Session.{Session}
-use Rattle.table.specs.Table.{standing, freePlace, processAt, isActive, firstPlace, findActive}
+use Rattle.table.specs.Table.{standing, freePlace, processAt, isActive, firstPlace}
 use Rattle.table.specs.declared.Active.{Active}
-use Rattle.table.specs.declared.Active.the-variants.{UserOf, ElevationIn}
+use Rattle.table.specs.declared.Active.the-variants.{ElevationIn}
 use Rattle.table.specs.declared.Found.{Found}
 use Rattle.table.specs.declared.Found.the-variants.{At, Nothing}
 use Rattle.table.specs.declared.Process.{Process}
-use Rattle.table.specs.declared.Table.{Table}
-use Rattle.table.proofs.Searched.{FoundAt, FoundNone, found-at, found-none}
+use Rattle.table.proofs.Searched.{FoundAt, found-at, found-none}
 use Rattle.claims.specs.Numbers.{_when_, _unless_, _▸_}
 use Rattle.claims.specs.Module.{isHandle, closedSession, phaseOf, isClosed, isChosen, isCredential, unprovisioned, provisioned, wordOf, granted, hasActive, activePlace, activeProcess}
 use Rattle.claims.specs.Claim.{isClaim, isSpent, isNext, turnNumber, elevatedNumber, userNumber, claimNumber, elevatedCredential, claimant}

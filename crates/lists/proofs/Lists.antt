@@ -7,7 +7,7 @@ use mathlib.Core.List.{List, [], _∷_, _++_, map, append-nil}
 use native.Mathlib.Omega.{arith}
 use lib.ListN.{length, getD, take, length-take, length-drop, drop-of-length-le, length-map, length-append, length-replicate}
 use lib.Seq.{take-all, take-at}
-use Rattle.lists.specs.Lists.{any, firstIndex, reject, removeAt, padded}
+use Rattle.lists.specs.Lists.{any, firstIndex, reject, select, removeAt, padded}
 use Rattle.lists.proofs.Tests.{split}
 
 module _ {A : Type 0} where
@@ -67,6 +67,22 @@ module _ {A : Type 0} where
       (f y)
       (λ e. rw e (reject-snoc f ys x))
       (λ e. rw (e, reject-snoc f ys x) (split (f x) (λ g. rw g) (λ g. rw g)))
+
+  -- ---- select
+  pub length-select : (f : A → Bool) (l : List A) → length (select f l) ≤ length l
+  unfolding select
+  length-select f [] = omega arith
+  length-select f (x ∷ xs) =
+      split (f x) (λ e. rw e (omega (arith, length-select f xs))) (λ e. rw e (omega (arith, length-select f xs)))
+
+  pub select-snoc : (f : A → Bool) (l : List A) (x : A) → select f (l ++ (x ∷ [])) ≡ cond (f x) (select f l ++ (x ∷ [])) (select f l)
+  unfolding select
+  select-snoc f [] x = refl
+  select-snoc f (y ∷ ys) x =
+      split
+      (f y)
+      (λ e. rw (e, select-snoc f ys x) (split (f x) (λ g. rw g) (λ g. rw g)))
+      (λ e. rw e (select-snoc f ys x))
 
   -- ---- padded
   pub length-padded : (n : ℕ) (z : A) (l : List A) → length l ≤ n → length (padded n z l) ≡ n

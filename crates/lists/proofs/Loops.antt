@@ -4,14 +4,18 @@
 use Prim.Native.Nat.{ℕ, suc, _+_, _-_, _<_, _≤_}
 use mathlib.Core.Path.{_≡_, refl, sym, ap, _∙_}
 use mathlib.Core.Bool.{Bool, true, false}
-use mathlib.Core.List.{List, [], _∷_, _++_, append-nil, append-assoc}
+use mathlib.Core.List.{List, [], _∷_, _++_, map, append-nil, append-assoc}
 use native.Mathlib.Nat.{add-zero}
 use native.Mathlib.Numerals.{add-one}
 use native.Mathlib.Omega.{arith}
-use lib.ListN.{length, getD, take, drop, set, length-set, replicate, length-take, length-append, drop-of-length-le, take-append-drop, length-replicate, length-drop, replicate-append-replicate}
-use lib.Seq.{drop-cons, getD-take, getD-drop, getD-append-add, length-take-le, take-take, take-suc, take-append-le, drop-append-le, append-snoc, set-at, take-at, take-all}
-use Rattle.lists.specs.Lists.{firstIndex, reject, removeAt, padded}
-use Rattle.lists.proofs.Lists.{length-remove, reject-snoc}
+use lib.ListN.{length, getD, take, drop, set, length-set, length-map, replicate, length-take, length-append, drop-of-length-le, take-append-drop, length-replicate, length-drop, replicate-append-replicate}
+use lib.Seq.{drop-cons, getD-take, getD-drop, getD-append-add, length-take-le, take-take, take-suc, take-append-le, drop-append-le, append-snoc, set-at, take-at, take-all, getD-at}
+use Rattle.lists.specs.Lists.{firstIndex, reject, select, removeAt, padded}
+use Rattle.lists.proofs.Lists.{length-remove, reject-snoc, select-snoc}
+
+map-snoc : {A B : Type 0} (f : A → B) (l : List A) (x : A) → map f (l ++ (x ∷ [])) ≡ map f l ++ (f x ∷ [])
+map-snoc f [] x = refl
+map-snoc f (y ∷ ys) x = rw (map-snoc f ys x)
 
 module _ {A : Type 0} where
   -- ---- a search through the first n of l: the i elements passed failed the test
@@ -229,3 +233,56 @@ module _ {A : Type 0} where
               rw (s, c, v .is, ← v .count, r, append-snoc)
               (set-at (reject f (take i l)) z (replicate (m - (k + 1)) z) (getD l i d) k (sym (v .count)));
         }
+
+  -- ---- of the first n of l, those that pass the test counted: k of the first i
+  pub record Counted (f : A → Bool) (l : List A) (n k i : ℕ) : Type 0 where
+    pub low : i ≤ n
+    pub within : n ≤ length l
+    pub few : k ≤ i
+    pub is : k ≡ length (select f (take i l))
+
+  pub counted-none : (f : A → Bool) (l : List A) (n : ℕ) → n ≤ length l → Counted f l n 0 0
+  unfolding select
+  counted-none f l n h = record { low = omega arith; within = h; few = omega arith; is = refl }
+
+  module _ {f : A → Bool} {l : List A} {n k i : ℕ} (d : A) (v : Counted f l n k i) (h : i < n) where
+    reached : take (i + 1) l ≡ take i l ++ (getD l i d ∷ [])
+    reached = rw add-one (take-suc l i d (omega arith))
+
+    pub counted-more : f (getD l i d) ≡ true → Counted f l n (k + 1) (i + 1)
+    counted-more e =
+        record {
+          low = omega arith;
+          within = v .within;
+          few = omega arith;
+          is = rw (reached, select-snoc, e, length-append) (omega (arith, v .is));
+        }
+
+    pub counted-not : f (getD l i d) ≡ false → Counted f l n k (i + 1)
+    counted-not e =
+        record { low = omega arith; within = v .within; few = omega arith; is = rw (reached, select-snoc, e) (v .is) }
+
+  -- ---- each element replaced by what f makes of it: the first i are
+  pub record Mapped (f : A → A) (l₀ l : List A) (i : ℕ) : Type 0 where
+    pub low : i ≤ length l₀
+    pub is : l ≡ map f (take i l₀) ++ drop i l₀
+
+  pub mapped-none : (f : A → A) (l : List A) → Mapped f l l 0
+  mapped-none f l = record { low = omega arith; is = refl }
+
+  module _ {f : A → A} {l₀ l : List A} {i : ℕ} (v : Mapped f l₀ l i) where
+    front : length (map f (take i l₀)) ≡ i
+    front = length-map (take i l₀) f ∙ length-take-le i l₀ (v .low)
+
+    pub mapped-more : (d : A) → i < length l₀ → Mapped f l₀ (set l i (f (getD l i d))) (i + 1)
+    mapped-more d h =
+        let at : getD l i d ≡ getD l₀ i d = rw (v .is, drop-cons l₀ i d h) (getD-at (map f (take i l₀)) (getD l₀ i d) (drop (suc i) l₀) d i front) in
+        record {
+          low = omega arith;
+          is =
+              rw (at, v .is, drop-cons l₀ i d h, add-one, take-suc l₀ i d h, map-snoc f (take i l₀) (getD l₀ i d), append-snoc)
+              (set-at (map f (take i l₀)) (getD l₀ i d) (drop (suc i) l₀) (f (getD l₀ i d)) i front);
+        }
+
+    pub mapped-all : length l₀ ≤ i → l ≡ map f l₀
+    mapped-all h = v .is ∙ rw (drop-of-length-le l₀ h, append-nil, take-all i l₀ h)

@@ -9,12 +9,13 @@ use borrow.Author.Tests.{lt-ltb, le-ltb}
 use lib.ListN.{length, take, drop, set, length-take, length-append, length-set, take-append-drop}
 use lib.Seq.{take-append-seam}
 use Rattle.lists.specs.Lists.{reject, removeAt}
-use Rattle.lists.proofs.Lists.{length-remove, remove-out, length-reject, length-padded, front-padded}
+use Rattle.lists.proofs.Lists.{length-remove, remove-out, length-reject, length-select, length-padded, front-padded}
 use Rattle.lists.proofs.Tests.{below}
 use Rattle.names.specs.declared.Session.{Session}
+use Rattle.table.specs.declared.Among.{Among}
 use Rattle.table.specs.declared.Process.{Process}
 use Rattle.table.specs.declared.Table.{Table}
-use Rattle.table.specs.Table.{places, standing, size, freePlace, tableOf, isActiveIn, appended, replaced, removed, withoutSession}
+use Rattle.table.specs.Table.{places, standing, size, freePlace, tableOf, isActiveIn, isAmong, countAmong, appended, replaced, removed, withoutSession}
 
 -- ---- tables of a list
 pub standing-of : (l : List Process) → standing (tableOf l) ≡ l
@@ -43,6 +44,10 @@ module _ (t : Table) (h : length (t .places) ≡ places) where
   pub size-few : size t ≤ places
   unfolding size
   size-few = standing-few
+
+  pub count-few : (among : Among) → countAmong t among ≤ places
+  unfolding countAmong
+  count-few among = omega (arith, length-select (isAmong among) (standing t), standing-few)
 
 -- ---- what each operation leaves
 module _ (t : Table) where

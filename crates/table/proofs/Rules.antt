@@ -15,7 +15,7 @@ use lib.ListN.{length, getD, take, set, replicate, length-append, length-set, Li
 use lib.Seq.{length-take-le, take-all, set-append-seam, set-append-left, getD-take, append-snoc, set-out}
 use Rattle.lists.specs.Lists.{firstIndex, removeAt, padded}
 use Rattle.lists.proofs.Lists.{length-mapped, getD-any, remove-out}
-use Rattle.lists.proofs.Loops.{Passed, passed-none, passed-more, passed-hit, passed-all, Cleared, cleared-none, cleared-more, cleared-all, Shifted, shifted-none, shifted-more, shifted-all, Kept, kept-none, kept-not, kept-more}
+use Rattle.lists.proofs.Loops.{Counted, counted-none, counted-more, counted-not, Passed, passed-none, passed-more, passed-hit, passed-all, Cleared, cleared-none, cleared-more, cleared-all, Shifted, shifted-none, shifted-more, shifted-all, Kept, kept-none, kept-not, kept-more}
 use Rattle.names.specs.Names.{sameName}
 use Rattle.names.specs.declared.Credential.{Credential}
 use Rattle.names.specs.declared.Kind.{Kind}
@@ -29,7 +29,7 @@ use Rattle.table.specs.declared.Among.the-variants.{All, Of, SavedOf}
 use Rattle.table.specs.declared.Found.the-variants.{At, Nothing}
 use Rattle.table.specs.declared.Process.{Process}
 use Rattle.table.specs.declared.Table.{Table}
-use Rattle.table.specs.Table.{standing, size, freePlace, tableOf, processAt, isUser, isElevation, isSaved, isActive, isActiveIn, isAmong, isNamed, firstPlace, appended, replaced, removed, withoutSession}
+use Rattle.table.specs.Table.{standing, size, freePlace, tableOf, processAt, isUser, isElevation, isSaved, isActive, isActiveIn, isAmong, isNamed, firstPlace, countAmong, appended, replaced, removed, withoutSession}
 use Rattle.table.proofs.Laws.{standing-front, standing-few, size-few}
 
 -- what the logic reads past the end of an array of processes: no code makes one
@@ -169,6 +169,29 @@ module _ (t : Table) {n at : ℕ} (e : n ≡ size t) where
   unfolding processAt size
   process-none k q = q ∙ sym (List·getD-eq-default (standing t) freePlace (omega arith))
 
+-- ---- those counted that are among some
+pub record Counting (f : Process → Bool) (l : List Process) (n k i : ℕ) : Type 0 where
+  pub small : n ≤ 12
+  pub counted : Counted f l n k i
+
+pub count-begin : (f : Process → Bool) (t : Table) {n : ℕ} → n ≡ size t → length (t .places) ≡ 12 → Counting f (t .places) n 0 0
+count-begin f t {n} e h =
+    let k : n ≤ 12 = small t e h in
+    record { small = k; counted = counted-none f (t .places) n (omega arith) }
+
+module _ {f : Process → Bool} {l : List Process} {n k k′ i : ℕ} {b : Bool} (v : Counting f l n k i) (h : i < n) (e : b ≡ f (getD l i noProcess)) where
+  pub count-on : b ≡ true → k′ ≡ k + 1 → Counting f l n k′ (i + 1)
+  count-on q g = rw g (record { small = v .small; counted = counted-more noProcess (v .counted) h (sym e ∙ q) })
+
+  pub count-not : b ≡ false → k′ ≡ k → Counting f l n k′ (i + 1)
+  count-not q g = rw g (record { small = v .small; counted = counted-not noProcess (v .counted) h (sym e ∙ q) })
+
+pub count-all : (t : Table) (among : Among) {n k i : ℕ} → n ≡ size t → Counting (isAmong among) (t .places) n k i → n ≤ i → k ≡ countAmong t among
+unfolding countAmong
+count-all t among {n} {k} {i} e v h =
+    let q : i ≡ n = omega arith in
+    v .counted .is ∙ rw (q, front t e)
+
 -- ---- the free places cleared
 pub clear : (t : Table) {n : ℕ} → n ≡ size t → length (t .places) ≡ 12 → Cleared (t .places) n freePlace (t .places) n
 clear t {n} e h = let k : n ≤ 12 = small t e h in cleared-none (t .places) n freePlace (omega arith)
@@ -271,4 +294,4 @@ keep-all t s {n} {i = i} e v h =
     let q : i ≡ n = omega arith in
     rw (v .is, v .count, q, front t e)
 
-pub ruleset rules = (needs, length-mapped, size-part, size-all, empty-is, user-by, user-else, user-not, elevation-by, elevation-not, active-user, active-elevation, active-not, among-all, among-of, among-saved, among-not, named-both, named-neither, begin, on, hit, none, place-low, place-fits, process-got, process-none, clear, clear-on, clear-all, append-room, append-full, replace-in, standing-low, standing-fits, replace-out, remove-none, shift, shift-all, shift-on, keep, keep-on, keep-not, keep-all)
+pub ruleset rules = (needs, length-mapped, size-part, size-all, empty-is, user-by, user-else, user-not, elevation-by, elevation-not, active-user, active-elevation, active-not, among-all, among-of, among-saved, among-not, named-both, named-neither, begin, on, hit, none, place-low, place-fits, process-got, process-none, count-begin, count-on, count-not, count-all, clear, clear-on, clear-all, append-room, append-full, replace-in, standing-low, standing-fits, replace-out, remove-none, shift, shift-all, shift-on, keep, keep-on, keep-not, keep-all)

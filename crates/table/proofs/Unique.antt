@@ -10,6 +10,8 @@ use Rattle.table.proofs.find_active.Kinds as find-active-kinds
 use Rattle.table.proofs.find_active.Reads as find-active
 use Rattle.table.proofs.find_named.Kinds as find-named-kinds
 use Rattle.table.proofs.find_named.Reads as find-named
+use Rattle.table.proofs.count_among.Kinds as count-among-kinds
+use Rattle.table.proofs.count_among.Reads as count-among
 use Rattle.table.proofs.process_at.Kinds as process-at-kinds
 use Rattle.table.proofs.process_at.Reads as process-at
 use Rattle.table.proofs.appended.Kinds as appended-kinds
@@ -47,3 +49,6 @@ removed-once κs a x y s t p q = p ∙ sym q
 
 pub without-session-once : OneAnswer 0 without-session-kinds.ps without-session-kinds.r without-session.Post
 without-session-once κs a x y s t p q = p ∙ sym q
+
+pub count-among-once : OneAnswer 0 count-among-kinds.ps count-among-kinds.r count-among.Post
+count-among-once κs a x y s t p q = p ∙ sym q

@@ -4,7 +4,7 @@ use mathlib.Core.Bool.{Bool, true, false, cond, _&&_, _||_}
 use mathlib.Core.List.{List, [], _∷_, _++_}
 use lib.Dec.{eqb, ltb}
 use lib.ListN.{length, getD, take, set}
-use Rattle.lists.specs.Lists.{firstIndex, reject, removeAt, padded}
+use Rattle.lists.specs.Lists.{firstIndex, reject, select, removeAt, padded}
 use Rattle.names.specs.Names.{sameName, zeroName}
 use Rattle.names.specs.declared.Credential.{Credential}
 use Rattle.names.specs.declared.Kind.{Kind}
@@ -100,6 +100,10 @@ findActive t which = firstPlace (isActive which) (standing t)
 
 abbrev pub findNamed : Table → Name → Among → Found
 findNamed t name among = firstPlace (isNamed name among) (standing t)
+
+-- how many stand among those
+unfoldable pub countAmong : Table → Among → ℕ
+countAmong t among = length (select (isAmong among) (standing t))
 
 -- ---- the operations
 

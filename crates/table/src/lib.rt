@@ -1,7 +1,7 @@
 // A table of at most 12 processes, in the order of their starts. It goes in by value and comes back by value.
 ghost use mathlib.Core.Path.{_≡_};
 ghost use mathlib.Core.List.{[]};
-ghost use Rattle.table.specs.Table.{standing, size, tableOf, freePlace, isActive, isActiveIn, isAmong, isNamed, findActive, findNamed, processAt, appended, replaced, removed, withoutSession};
+ghost use Rattle.table.specs.Table.{standing, size, tableOf, freePlace, isActive, isActiveIn, isAmong, isNamed, findActive, findNamed, countAmong, processAt, appended, replaced, removed, withoutSession};
 use names::Credential;
 use names::Kind;
 use names::Name;
@@ -179,6 +179,24 @@ pub fn process_at(t: Table, at: usize) -> Process
     } else {
         free_place()
     }
+}
+
+// How many processes are among those.
+pub fn count_among(t: Table, among: Among) -> usize
+    ensures { λ r. ⌜ r ≡ countAmong t among ⌝ }
+{
+    let n = size(t);
+    let places = t.places;
+    let mut k: usize = 0;
+    let mut i: usize = 0;
+    while i < n {
+        let p = places[i];
+        if is_among(p, among) {
+            k += 1;
+        }
+        i += 1;
+    }
+    k
 }
 
 // The same processes, with the free places zero and the count at most 12.

@@ -1,16 +1,7 @@
-use Rattle.claims.specs.Claim.{entered, userNumber, elevatedNumber, admitted}
-use Prim.Native.Nat.{ℕ, _+_, _-_, _*_, _≤_, _<_}
-use mathlib.Core.Path.{_≡_, refl, sym, ap, _∙_}
-use mathlib.Core.Logic.{⊎-elim}
-use native.Mathlib.Omega.{arith}
+use Rattle.claims.specs.Claim.{admitted}
 use Rattle.claims.proofs.Rules.{rules}
 use Rattle.claims.proofs.admitted.Statement.{statement}
 use Rattle.claims.proofs.admitted.Tie as tie
-use Rattle.claims.proofs.admitted.Reads as reads
-use Rattle.claims.proofs.admitted.Lts as lts
-use Rattle.claims.proofs.claim_number.Reads as claim-number-reads
-use Rattle.claims.proofs.entered.Reads as entered-reads
-use Rattle.claims.proofs.is_claim.Reads as is-claim-reads
 
 is-claim-requires : tie.Need-is-claim-requires
 is-claim-requires c κs = search rules

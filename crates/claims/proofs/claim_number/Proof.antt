@@ -1,14 +1,6 @@
-use Prim.Native.Nat.{ℕ, _+_, _-_, _*_, _≤_, _<_}
-use mathlib.Core.Path.{_≡_, refl, sym, ap, _∙_}
-use mathlib.Core.Logic.{⊎-elim}
-use native.Mathlib.Omega.{arith}
 use Rattle.claims.proofs.Rules.{rules}
 use Rattle.claims.proofs.claim_number.Statement.{statement}
 use Rattle.claims.proofs.claim_number.Tie as tie
-use Rattle.claims.proofs.claim_number.Reads as reads
-use Rattle.claims.proofs.claim_number.Lts as lts
-use Rattle.claims.proofs.elevated_number.Reads as elevated-number-reads
-use Rattle.claims.proofs.user_number.Reads as user-number-reads
 
 enum-told : tie.Need-enum-told
 enum-told c = search rules

@@ -1,13 +1,6 @@
-use Prim.Native.Nat.{ℕ, _+_, _-_, _*_, _≤_, _<_}
-use mathlib.Core.Path.{_≡_, refl, sym, ap, _∙_}
-use mathlib.Core.Logic.{⊎-elim}
-use native.Mathlib.Omega.{arith}
 use Rattle.claims.proofs.Rules.{rules}
 use Rattle.claims.proofs.claimant.Statement.{statement}
 use Rattle.claims.proofs.claimant.Tie as tie
-use Rattle.claims.proofs.claimant.Reads as reads
-use Rattle.claims.proofs.claimant.Lts as lts
-use Rattle.claims.proofs.elevated_credential.Reads as elevated-credential-reads
 
 enum-told : tie.Need-enum-told
 enum-told c = search rules

@@ -1,14 +1,6 @@
-use Prim.Native.Nat.{ℕ, _+_, _-_, _*_, _≤_, _<_}
-use mathlib.Core.Path.{_≡_, refl, sym, ap, _∙_}
-use mathlib.Core.Logic.{⊎-elim}
-use native.Mathlib.Omega.{arith}
 use Rattle.claims.proofs.Rules.{rules}
 use Rattle.claims.proofs.elevated_credential.Statement.{statement}
 use Rattle.claims.proofs.elevated_credential.Tie as tie
-use Rattle.claims.proofs.elevated_credential.Reads as reads
-use Rattle.claims.proofs.elevated_credential.Lts as lts
-use Rattle.table.proofs.find_active.Reads as find-active-reads
-use Rattle.table.proofs.process_at.Reads as process-at-reads
 
 find-active-requires : tie.Need-find-active-requires
 find-active-requires c κs = search rules

@@ -1,14 +1,7 @@
-use Rattle.claims.specs.Claim.{entered, userNumber, elevatedNumber, admitted}
-use Prim.Native.Nat.{ℕ, _+_, _-_, _*_, _≤_, _<_}
-use mathlib.Core.Path.{_≡_, refl, sym, ap, _∙_}
-use mathlib.Core.Logic.{⊎-elim}
-use native.Mathlib.Omega.{arith}
+use Rattle.claims.specs.Claim.{elevatedNumber}
 use Rattle.claims.proofs.Rules.{rules}
 use Rattle.claims.proofs.elevated_number.Statement.{statement}
 use Rattle.claims.proofs.elevated_number.Tie as tie
-use Rattle.claims.proofs.elevated_number.Reads as reads
-use Rattle.claims.proofs.elevated_number.Lts as lts
-use Rattle.table.proofs.find_active.Reads as find-active-reads
 
 find-active-requires : tie.Need-find-active-requires
 find-active-requires c κs = search rules

@@ -1,16 +1,7 @@
-use Rattle.claims.specs.Claim.{entered, userNumber, elevatedNumber, admitted}
-use Prim.Native.Nat.{ℕ, _+_, _-_, _*_, _≤_, _<_}
-use mathlib.Core.Path.{_≡_, refl, sym, ap, _∙_}
-use mathlib.Core.Logic.{⊎-elim}
-use native.Mathlib.Omega.{arith}
+use Rattle.claims.specs.Claim.{entered}
 use Rattle.claims.proofs.Rules.{rules}
 use Rattle.claims.proofs.entered.Statement.{statement}
 use Rattle.claims.proofs.entered.Tie as tie
-use Rattle.claims.proofs.entered.Reads as reads
-use Rattle.claims.proofs.entered.Lts as lts
-use Rattle.claims.proofs.is_chosen.Reads as is-chosen-reads
-use Rattle.claims.proofs.is_closed.Reads as is-closed-reads
-use Rattle.claims.proofs.is_handle.Reads as is-handle-reads
 
 is-handle-requires : tie.Need-is-handle-requires
 is-handle-requires c κs = search rules

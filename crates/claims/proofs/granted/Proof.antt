@@ -1,13 +1,6 @@
-use Prim.Native.Nat.{ℕ, _+_, _-_, _*_, _≤_, _<_}
-use mathlib.Core.Path.{_≡_, refl, sym, ap, _∙_}
-use mathlib.Core.Logic.{⊎-elim}
-use native.Mathlib.Omega.{arith}
 use Rattle.claims.proofs.Rules.{rules}
 use Rattle.claims.proofs.granted.Statement.{statement}
 use Rattle.claims.proofs.granted.Tie as tie
-use Rattle.claims.proofs.granted.Reads as reads
-use Rattle.claims.proofs.granted.Lts as lts
-use Rattle.claims.proofs.word_of.Reads as word-of-reads
 
 returns : tie.Need-returns
 returns c = search rules

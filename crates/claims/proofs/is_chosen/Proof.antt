@@ -1,13 +1,6 @@
-use Prim.Native.Nat.{ℕ, _+_, _-_, _*_, _≤_, _<_}
-use mathlib.Core.Path.{_≡_, refl, sym, ap, _∙_}
-use mathlib.Core.Logic.{⊎-elim}
-use native.Mathlib.Omega.{arith}
 use Rattle.claims.proofs.Rules.{rules}
 use Rattle.claims.proofs.is_chosen.Statement.{statement}
 use Rattle.claims.proofs.is_chosen.Tie as tie
-use Rattle.claims.proofs.is_chosen.Reads as reads
-use Rattle.claims.proofs.is_chosen.Lts as lts
-use Rattle.claims.proofs.phase_of.Reads as phase-of-reads
 
 phase-of-requires : tie.Need-phase-of-requires
 phase-of-requires c κs = search rules

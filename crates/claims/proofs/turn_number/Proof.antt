@@ -1,15 +1,7 @@
-use Rattle.claims.specs.Claim.{userNumber, turnNumber}
-use Prim.Native.Nat.{ℕ, _+_, _-_, _*_, _≤_, _<_}
-use mathlib.Core.Path.{_≡_, refl, sym, ap, _∙_}
-use mathlib.Core.Logic.{⊎-elim}
-use native.Mathlib.Omega.{arith}
+use Rattle.claims.specs.Claim.{turnNumber}
 use Rattle.claims.proofs.Rules.{rules}
 use Rattle.claims.proofs.turn_number.Statement.{statement}
 use Rattle.claims.proofs.turn_number.Tie as tie
-use Rattle.claims.proofs.turn_number.Reads as reads
-use Rattle.claims.proofs.turn_number.Lts as lts
-use Rattle.claims.proofs.is_next.Reads as is-next-reads
-use Rattle.claims.proofs.is_spent.Reads as is-spent-reads
 
 is-spent-requires : tie.Need-is-spent-requires
 is-spent-requires c κs = search rules

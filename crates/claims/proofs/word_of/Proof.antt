@@ -1,12 +1,6 @@
-use Prim.Native.Nat.{ℕ, _+_, _-_, _*_, _≤_, _<_}
-use mathlib.Core.Path.{_≡_, refl, sym, ap, _∙_}
-use mathlib.Core.Logic.{⊎-elim}
-use native.Mathlib.Omega.{arith}
 use Rattle.claims.proofs.Rules.{rules}
 use Rattle.claims.proofs.word_of.Statement.{statement}
 use Rattle.claims.proofs.word_of.Tie as tie
-use Rattle.claims.proofs.word_of.Reads as reads
-use Rattle.claims.proofs.word_of.Lts as lts
 
 cast-at : tie.Need-cast-at
 cast-at c = search rules

@@ -6,10 +6,6 @@ use native.Mathlib.Omega.{arith}
 use Rattle.table.proofs.Rules.{rules}
 use Rattle.table.proofs.find_named.Statement.{statement}
 use Rattle.table.proofs.find_named.Tie as tie
-use Rattle.table.proofs.find_named.Reads as reads
-use Rattle.table.proofs.find_named.Lts as lts
-use Rattle.table.proofs.is_named.Reads as is-named-reads
-use Rattle.table.proofs.size.Reads as size-reads
 
 abbrev Inv-loop : tie.InvT-loop
 Inv-loop name among count places i₀ i = Searching (isNamed name among) places count i

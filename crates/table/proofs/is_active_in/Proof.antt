@@ -1,8 +1,6 @@
 use Rattle.table.proofs.Rules.{rules}
 use Rattle.table.proofs.is_active_in.Statement.{statement}
 use Rattle.table.proofs.is_active_in.Tie as tie
-use Rattle.table.proofs.is_active_in.Reads as reads
-use Rattle.table.proofs.is_active_in.Lts as lts
 
 enum-told : tie.Need-enum-told
 enum-told c = search rules

@@ -1,0 +1,354 @@
+-- The laws that close the needs of this crate's functions by `search rules`.
+-- Assumes nothing.
+use Prim.Native.Nat.{ℕ, _+_, _*_, _<_, _≤_}
+use mathlib.Core.Path.{_≡_, refl, sym, ap, _∙_}
+use mathlib.Core.Bool.{Bool, true, false, not}
+use mathlib.Core.List.{List, []}
+use native.Mathlib.Omega.{arith}
+use lib.Dec.{eqb, ltb, leb}
+use lib.ListN.{length, getD, set, replicate, length-map}
+use lib.Seq.{set-out}
+use borrow.Author.Tests.{eqb-false, eq-eqb, ne-eqb, le-leb, lt-leb}
+use mir.Val.{Fits}
+use mir.Syntax.{w16, w64}
+use Rattle.lists.specs.Lists.{firstIndex}
+use Rattle.lists.proofs.Lists.{first-low}
+use Rattle.lists.proofs.Loops.{Mapped, mapped-none, mapped-more, mapped-all}
+use Rattle.names.specs.declared.Credential.{Credential}
+use Rattle.names.specs.declared.Name.{Name}
+use Rattle.names.specs.declared.Session.{Session}
+use Rattle.table.specs.Table.{standing, size, tableOf, processAt, isActive, isNamed, firstPlace, countAmong, appended, replaced, removed, withoutSession}
+use Rattle.table.specs.declared.Active.{Active}
+use Rattle.table.specs.declared.Active.the-variants.{UserOf, ElevationIn}
+use Rattle.table.specs.declared.Among.{Among}
+use Rattle.table.specs.declared.Among.the-variants.{All, Of, SavedOf}
+use Rattle.table.specs.declared.Found.{Found}
+use Rattle.table.specs.declared.Found.the-variants.{At, Nothing}
+use Rattle.table.specs.declared.Process.{Process}
+use Rattle.table.specs.declared.Table.{Table}
+use Rattle.table.proofs.Laws.{count-few}
+use Rattle.table.proofs.Searched.{found-at, found-none}
+use Rattle.claims.specs.Numbers.{_▸_}
+use Rattle.claims.specs.Module.{isCredential, provisioned, granted, closedSession, unprovisioned, hasActive, activePlace, activeProcess}
+use Rattle.claims.specs.Claim.{isSpent, turnNumber, userNumber, claimNumber, admitted, claimant}
+use Rattle.claims.specs.declared.Claim.{Claim}
+use Rattle.claims.specs.declared.Claim.the-variants.{Elevated, ByUser}
+use Rattle.claims.specs.declared.Class.{Class}
+use Rattle.claims.specs.declared.Grants.{Grants}
+use Rattle.claims.specs.declared.Phase.{Phase}
+use Rattle.claims.specs.declared.Phase.the-variants.{Closed, Opened, Chosen}
+use Rattle.claims.specs.declared.State.{State}
+use Rattle.claims.specs.declared.UserClaim.{UserClaim}
+use Rattle.claims.proofs.Laws.{clear-first, clear-rest, clear-when, stop, pass, rows}
+use Rattle.claims.proofs.Rules.{rules as claim-rules}
+use Rattle.calls.specs.declared.Answer.{Answer}
+use Rattle.calls.specs.declared.Answer.the-variants.{Done, RefusedClaim}
+use Rattle.calls.specs.declared.Listed.{Listed}
+use Rattle.calls.specs.declared.Outcome.{Outcome}
+use Rattle.calls.specs.declared.Wanted.{Wanted}
+use Rattle.calls.specs.declared.Wanted.the-variants.{Every, Only}
+use Rattle.calls.specs.Listing.{amongOf, rowsOf, messageLength}
+use Rattle.calls.specs.Calls.{Call, Open, Close, Select, Start, Continue, Elevate, Drop, End, Record, List′, Kill, SetWord, saveOwn, listOthers, killOthers, isDevice, isVersion, isWanted, isFull, hasNamed, namedPlace, lacksSaving, isOwn, mayList, isShort, reach, number, withTable, withPhase, withWord, userProcess, elevation, activated, saved, oneMore, counted, ended, effect, refusal, outcome, listed, taken, fresh}
+use Rattle.calls.proofs.Laws.{outcome-done, outcome-refused}
+
+-- a search that finds none ends at the count
+past : (f : Process → Bool) (l : List Process) → length l ≤ firstIndex f l → firstIndex f l ≡ length l
+past f l h = omega (arith, first-low f l)
+
+-- ---- a call: refused with its number, or done
+module _ (st : State) (call : Call) {n : ℕ} {r : Outcome} (e : n ≡ number st call) where
+  pub by-refusal : {a : Answer} → (n ≡ 0 → ⊥) → refusal call n ≡ a → r ≡ record { state = st; answer = a } → r ≡ outcome st call
+  by-refusal {a} h q w = w ∙ rw (outcome-refused st call (λ z. h (e ∙ z)), ← e, q)
+
+  pub by-effect : {x : State} → n ≡ 0 → r ≡ record { state = x; answer = Done } → x ≡ effect st call → r ≡ outcome st call
+  by-effect z w q = w ∙ rw (outcome-done st call (sym e ∙ z), q)
+
+-- ---- what an accepted row of tests says of a part of it
+pub clear-begin : {n a : ℕ} (b : ℕ) → n ≡ a ▸ b → n ≡ 0 → a ≡ 0
+clear-begin {n} {a} b e z = clear-first a b (sym e ∙ z)
+
+pub clear-second : {n : ℕ} (a : ℕ) {b : ℕ} (c : ℕ) → n ≡ a ▸ b ▸ c → n ≡ 0 → b ≡ 0
+clear-second a {b} c e z = clear-first b c (clear-rest a (b ▸ c) (sym e ∙ z))
+
+-- ---- three tests that were asked together, with others behind them
+module _ {n : ℕ} (a b c m : ℕ) (e : n ≡ a ▸ b ▸ c) where
+  together : (a ▸ b ▸ c) ▸ m ≡ a ▸ b ▸ c ▸ m
+  together = rows a (b ▸ c) m ∙ ap (λ (x : ℕ). a ▸ x) (rows b c m)
+
+  pub known-stop : (n ≡ 0 → ⊥) → n ≡ a ▸ b ▸ c ▸ m
+  known-stop h = e ∙ sym (stop m (λ z. h (e ∙ z))) ∙ together
+
+  pub known-pass : {r : ℕ} → n ≡ 0 → r ≡ m → r ≡ a ▸ b ▸ c ▸ m
+  known-pass z q = q ∙ sym (pass m (sym e ∙ z)) ∙ together
+
+-- ---- the state with one part changed
+pub phase-outside : (st : State) (s : Session) (phase : Phase) → length (st .sessions) ≡ 4 → 4 ≤ s .0 → st ≡ withPhase st s phase
+phase-outside st s phase h k = rw (set-out (st .sessions) (s .0) (record { phase = phase }) (omega arith))
+
+pub word-outside : (st : State) (c : Credential) (word : ℕ) → length (st .credentials) ≡ 8 → 8 ≤ c .0 → st ≡ withWord st c word
+word-outside st c word h k = rw (set-out (st .credentials) (c .0) (record { provisioned = true; word = word }) (omega arith))
+
+-- ---- what the tests ask of the table
+module _ (st : State) (which : Active) {f : Found} (e : f ≡ firstPlace (isActive which) (standing (st .table))) where
+  pub active-none : f ≡ Nothing → false ≡ hasActive st which
+  unfolding hasActive
+  active-none q = sym (found-none (isActive which) (standing (st .table)) (sym e ∙ q) .none)
+
+  pub active-some : {k : ℕ} → f ≡ At k → true ≡ hasActive st which
+  unfolding hasActive
+  active-some q = sym (found-at (isActive which) (standing (st .table)) (sym e ∙ q) .some)
+
+  pub active-at : {k : ℕ} → f ≡ At k → k ≡ activePlace st which
+  unfolding activePlace
+  active-at q = found-at (isActive which) (standing (st .table)) (sym e ∙ q) .is
+
+  pub active-past : {n : ℕ} → f ≡ Nothing → n ≡ size (st .table) → n ≡ activePlace st which
+  unfolding activePlace size
+  active-past q w = w ∙ sym (past (isActive which) (standing (st .table)) (found-none (isActive which) (standing (st .table)) (sym e ∙ q) .past))
+
+module _ (st : State) (name : Name) (among : Among) {f : Found} (e : f ≡ firstPlace (isNamed name among) (standing (st .table))) where
+  pub named-none : f ≡ Nothing → false ≡ hasNamed st name among
+  unfolding hasNamed
+  named-none q = sym (found-none (isNamed name among) (standing (st .table)) (sym e ∙ q) .none)
+
+  pub named-some : {k : ℕ} → f ≡ At k → true ≡ hasNamed st name among
+  unfolding hasNamed
+  named-some q = sym (found-at (isNamed name among) (standing (st .table)) (sym e ∙ q) .some)
+
+  pub named-at : {k : ℕ} → f ≡ At k → k ≡ namedPlace st name among
+  unfolding namedPlace
+  named-at q = found-at (isNamed name among) (standing (st .table)) (sym e ∙ q) .is
+
+  pub named-past : {n : ℕ} → f ≡ Nothing → n ≡ size (st .table) → n ≡ namedPlace st name among
+  unfolding namedPlace size
+  named-past q w = w ∙ sym (past (isNamed name among) (standing (st .table)) (found-none (isNamed name among) (standing (st .table)) (sym e ∙ q) .past))
+
+pub full-is : (st : State) {n : ℕ} → n ≡ size (st .table) → leb 12 n ≡ isFull st
+unfolding isFull
+full-is st e = rw e
+
+-- ---- the other tests
+pub version-is : (byte : ℕ) → eqb byte 0x10 ≡ isVersion byte
+unfolding isVersion
+version-is byte = refl
+
+module _ (class : Class) where
+  pub device-high : 4 ≤ class .0 → leb (class .0) 31 ≡ isDevice class
+  unfolding isDevice
+  device-high h = rw (le-leb 4 (class .0) h)
+
+  pub device-low : class .0 < 4 → leb 4 (class .0) ≡ isDevice class
+  unfolding isDevice
+  device-low h = rw (lt-leb 4 (class .0) h)
+
+module _ (st : State) (c : Credential) {keep : Bool} where
+  pub saving-kept : {b : Bool} → keep ≡ true → b ≡ granted st c saveOwn → not b ≡ lacksSaving st c keep
+  unfolding lacksSaving
+  saving-kept k e = rw (k, e)
+
+  pub saving-not : keep ≡ false → keep ≡ lacksSaving st c keep
+  unfolding lacksSaving
+  saving-not k = rw k
+
+module _ {wanted : Wanted} where
+  pub wanted-every : wanted ≡ Every → true ≡ isWanted wanted
+  unfolding isWanted
+  wanted-every e = rw e
+
+  pub wanted-only : {c : Credential} {b : Bool} → wanted ≡ Only c → b ≡ isCredential c → b ≡ isWanted wanted
+  unfolding isWanted
+  wanted-only e q = q ∙ rw e
+
+  pub among-every : wanted ≡ Every → All ≡ amongOf wanted
+  among-every e = rw e
+
+  pub among-only : {c : Credential} → wanted ≡ Only c → Of c ≡ amongOf wanted
+  among-only e = rw e
+
+  module _ (c : Credential) where
+    pub own-every : wanted ≡ Every → false ≡ isOwn c wanted
+    unfolding isOwn
+    own-every e = rw e
+
+    pub own-only : {one : Credential} → wanted ≡ Only one → eqb (one .0) (c .0) ≡ isOwn c wanted
+    unfolding isOwn
+    own-only e = rw e
+
+module _ (st : State) (c : Credential) (wanted : Wanted) {a : Bool} (e : a ≡ isOwn c wanted) where
+  pub list-own : a ≡ true → a ≡ mayList st c wanted
+  unfolding mayList
+  list-own h = rw (sym e ∙ h) h
+
+  pub list-others : {b : Bool} → a ≡ false → b ≡ granted st c listOthers → b ≡ mayList st c wanted
+  unfolding mayList
+  list-others h q = q ∙ rw (sym e ∙ h)
+
+-- ---- the listing's length
+module _ (st : State) (wanted : Wanted) {among : Among} {n : ℕ} (a : among ≡ amongOf wanted) (e : n ≡ countAmong (st .table) among) where
+  few : length (st .table .places) ≡ 12 → n ≤ 12
+  few h = omega (arith, count-few (st .table) h among)
+
+  pub length-fits : length (st .table .places) ≡ 12 → Fits w64 (51 * n)
+  length-fits h = omega (arith, few h)
+
+  pub length-whole : length (st .table .places) ≡ 12 → Fits w64 (4 + 51 * n)
+  length-whole h = omega (arith, few h)
+
+  pub length-is : 4 + 51 * n ≡ messageLength (length (rowsOf st wanted))
+  unfolding messageLength rowsOf countAmong
+  length-is = rw (length-map, ← a, e)
+
+pub short-is : (st : State) (wanted : Wanted) (room : ℕ) {n : ℕ} → n ≡ messageLength (length (rowsOf st wanted)) → ltb room n ≡ isShort st wanted room
+unfolding isShort
+short-is st wanted room e = rw e
+
+-- ---- whom a kill reaches
+module _ (st : State) (c : Credential) {b : Bool} (e : b ≡ granted st c killOthers) where
+  pub reach-all : b ≡ true → All ≡ reach st c
+  unfolding reach
+  reach-all h = rw (sym e ∙ h)
+
+  pub reach-own : b ≡ false → Of c ≡ reach st c
+  unfolding reach
+  reach-own h = rw (sym e ∙ h)
+
+-- ---- the claim counted
+module _ (st : State) (s : Session) where
+  module _ (u : UserClaim) (z : admitted st s (ByUser u) ≡ 0) where
+    unspent : isSpent (activeProcess st (UserOf s (u .credential))) ≡ false
+    unfolding admitted claimNumber userNumber turnNumber
+    unspent =
+        let p : Process = activeProcess st (UserOf s (u .credential)) in
+        clear-when 13 tt (isSpent p) (clear-first _ _ (clear-rest _ _ (clear-rest _ _ (clear-rest _ _ (clear-rest _ _ z)))))
+
+    pub next-fits : {k : ℕ} {p : Process} → k ≡ activePlace st (UserOf s (u .credential)) → p ≡ processAt (st .table) k → p .next < 65536 → Fits w16 (p .next + 1)
+    unfolding isSpent activeProcess
+    next-fits {k} {p} a e f =
+        let q : p ≡ activeProcess st (UserOf s (u .credential)) = e ∙ ap (processAt (st .table)) a in
+        let g : p .next ≡ 65535 → ⊥ = eqb-false (p .next) 65535 (ap isSpent q ∙ unspent) in
+        omega (arith, g)
+
+    pub counted-is : {k : ℕ} {p : Process} {t : Table} {r : State}
+        → k ≡ activePlace st (UserOf s (u .credential)) → p ≡ processAt (st .table) k → t ≡ replaced (st .table) k (oneMore p) → r ≡ withTable st t
+        → r ≡ counted st s (ByUser u)
+    unfolding counted activeProcess
+    counted-is a b c d = d ∙ rw (c, b, a)
+
+  module _ {claim : Claim} where
+    pub counted-elevated : claim ≡ Elevated → st ≡ counted st s claim
+    unfolding counted
+    counted-elevated e = rw e
+
+    pub counted-user : {u : UserClaim} {r : State} → claim ≡ ByUser u → r ≡ counted st s (ByUser u) → r ≡ counted st s claim
+    counted-user e q = q ∙ rw e
+
+    pub admitted-user : (u : UserClaim) → claim ≡ ByUser u → admitted st s claim ≡ 0 → admitted st s (ByUser u) ≡ 0
+    admitted-user u e z = rw e at z
+
+-- ---- the process at a place saved or removed
+module _ (st : State) (at : ℕ) {keep : Bool} {t : Table} {r : State} where
+  pub ended-kept : {p q : Process} → keep ≡ true → p ≡ processAt (st .table) at → q ≡ saved p → t ≡ replaced (st .table) at q → r ≡ withTable st t → r ≡ ended st at keep
+  unfolding ended
+  ended-kept k a b c d = d ∙ rw (c, b, a, k)
+
+  pub ended-removed : keep ≡ false → t ≡ removed (st .table) at → r ≡ withTable st t → r ≡ ended st at keep
+  unfolding ended
+  ended-removed k c d = d ∙ rw (c, k)
+
+-- ---- a fresh module
+module _ (pair : Grants) where
+  pub taken-whole : pair .provisioned ≡ true → pair ≡ taken pair
+  unfolding taken
+  taken-whole e = rw e
+
+  pub taken-zero : pair .provisioned ≡ false → _≡_ {A = Grants} (record { provisioned = false; word = 0 }) (taken pair)
+  unfolding taken
+  taken-zero e = rw e
+
+pub take-on : {l₀ l : List Grants} {i : ℕ} {g : Grants} → Mapped taken l₀ l i → length l₀ ≡ 8 → i < 8 → g ≡ taken (getD l i unprovisioned) → Mapped taken l₀ (set l i g) (i + 1)
+take-on v h k e = rw e (mapped-more v unprovisioned (omega arith))
+
+pub fresh-is : {pairs l : List Grants} {i : ℕ} {t : Table} → Mapped taken pairs l i → length pairs ≡ 8 → 8 ≤ i → t ≡ tableOf []
+    → _≡_ {A = State} (record { sessions = replicate 4 closedSession; credentials = l; table = t }) (fresh pairs)
+unfolding fresh
+fresh-is v h k e = rw (mapped-all v (omega arith), e)
+
+-- ---- what each call does, as its code puts it together
+module _ (st : State) {x : State} where
+  pub effect-open : (s : Session) → x ≡ withPhase st s Opened → x ≡ effect st (Open s)
+  unfolding effect
+  effect-open s e = e
+
+  pub effect-select : (s : Session) (byte : ℕ) → x ≡ withPhase st s Chosen → x ≡ effect st (Select s byte)
+  unfolding effect
+  effect-select s byte e = e
+
+  pub effect-close : (s : Session) {t : Table} {y : State} → t ≡ withoutSession (st .table) s → y ≡ withTable st t → x ≡ withPhase y s Closed → x ≡ effect st (Close s)
+  unfolding effect
+  effect-close s a b c = c ∙ rw (b, a)
+
+  module _ {t : Table} (w : x ≡ withTable st t) where
+    pub effect-start : (s : Session) (c : Credential) (name : Name) {p : Process} → p ≡ userProcess s c name → t ≡ appended (st .table) p → x ≡ effect st (Start s c name)
+    unfolding effect
+    effect-start s c name a b = w ∙ rw (b, a)
+
+    pub effect-elevate : (s : Session) (c : Credential) (name : Name) (verdict : Bool) {p : Process} → p ≡ elevation s c name → t ≡ appended (st .table) p → x ≡ effect st (Elevate s c name verdict)
+    unfolding effect
+    effect-elevate s c name verdict a b = w ∙ rw (b, a)
+
+    pub effect-continue : (s : Session) (c : Credential) (name : Name) {at : ℕ} {p q : Process}
+        → at ≡ namedPlace st name (SavedOf c) → p ≡ processAt (st .table) at → q ≡ activated s p → t ≡ replaced (st .table) at q
+        → x ≡ effect st (Continue s c name)
+    unfolding effect
+    effect-continue s c name a b d e = w ∙ rw (e, d, b, a)
+
+    pub effect-drop : (s : Session) {at : ℕ} → at ≡ activePlace st (ElevationIn s) → t ≡ removed (st .table) at → x ≡ effect st (Drop s)
+    unfolding effect
+    effect-drop s a b = w ∙ rw (b, a)
+
+  module _ {y : State} where
+    pub effect-end : (s : Session) (u : UserClaim) (keep : Bool) {at : ℕ}
+        → at ≡ activePlace st (UserOf s (u .credential)) → y ≡ counted st s (ByUser u) → x ≡ ended y at keep → x ≡ effect st (End s u keep)
+    unfolding effect
+    effect-end s u keep a b c = c ∙ rw (b, a)
+
+    module _ (s : Session) (claim : Claim) (e : y ≡ counted st s claim) where
+      pub effect-kill : (name : Name) {c : Credential} {among : Among} {at : ℕ} {t : Table}
+          → c ≡ claimant st s claim → among ≡ reach st c → at ≡ namedPlace st name among → t ≡ removed (y .table) at → x ≡ withTable y t
+          → x ≡ effect st (Kill s claim name)
+      unfolding effect
+      effect-kill name a b d f g = g ∙ rw (f, d, b, a, e)
+
+      pub effect-set-word : (c : Credential) (word : ℕ) → x ≡ withWord y c word → x ≡ effect st (SetWord s claim c word)
+      unfolding effect
+      effect-set-word c word a = a ∙ rw e
+
+  pub effect-record : (s : Session) (claim : Claim) (class : Class) → x ≡ counted st s claim → x ≡ effect st (Record s claim class)
+  unfolding effect
+  effect-record s claim class e = e
+
+module _ (st : State) (s : Session) (claim : Claim) (wanted : Wanted) (room : ℕ) {n : ℕ} {o : Outcome} (e : n ≡ number st (List′ s claim wanted room)) where
+  pub list-refused : (n ≡ 0 → ⊥) → o ≡ record { state = st; answer = RefusedClaim n claim } → _≡_ {A = Listed} (record { outcome = o; length = 0 }) (listed st s claim wanted room)
+  unfolding listed refusal
+  list-refused h q =
+      let z : number st (List′ s claim wanted room) ≡ 0 → ⊥ = λ w. h (e ∙ w) in
+      rw (q, outcome-refused st (List′ s claim wanted room) z, ne-eqb (number st (List′ s claim wanted room)) 0 z, e)
+
+  pub list-done : {x : State} {m : ℕ} → n ≡ 0 → x ≡ counted st s claim → o ≡ record { state = x; answer = Done } → m ≡ messageLength (length (rowsOf st wanted)) → _≡_ {A = Listed} (record { outcome = o; length = m }) (listed st s claim wanted room)
+  unfolding listed effect
+  list-done h a q m =
+      let z : number st (List′ s claim wanted room) ≡ 0 = sym e ∙ h in
+      rw (q, a, m, outcome-done st (List′ s claim wanted room) z, eq-eqb (number st (List′ s claim wanted room)) 0 z)
+
+-- ---- a test of the claimant, whom the code has in a local
+module _ (st : State) {c d : Credential} {b : Bool} (e : c ≡ d) where
+  pub granted-by : (class : Class) → b ≡ granted st c class → b ≡ granted st d class
+  granted-by class q = q ∙ rw e
+
+  pub list-by : (wanted : Wanted) → b ≡ mayList st c wanted → b ≡ mayList st d wanted
+  list-by wanted q = q ∙ rw e
+
+  pub kill-by : (name : Name) {among : Among} → among ≡ reach st c → b ≡ hasNamed st name among → b ≡ hasNamed st name (reach st d)
+  kill-by name a q = q ∙ rw (a, e)
+
+pub ruleset rules = (claim-rules, by-refusal, by-effect, clear-begin, clear-second, known-stop, known-pass, phase-outside, word-outside, active-none, active-some, active-at, active-past, named-none, named-some, named-at, named-past, full-is, version-is, device-high, device-low, saving-kept, saving-not, wanted-every, wanted-only, among-every, among-only, own-every, own-only, list-own, list-others, length-fits, length-whole, length-is, short-is, reach-all, reach-own, next-fits, counted-is, counted-elevated, counted-user, admitted-user, ended-kept, ended-removed, taken-whole, taken-zero, mapped-none, take-on, fresh-is, effect-open, effect-select, effect-close, effect-start, effect-elevate, effect-continue, effect-drop, effect-end, effect-kill, effect-set-word, effect-record, list-refused, list-done, granted-by, list-by, kill-by)
