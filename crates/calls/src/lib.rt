@@ -233,16 +233,16 @@ fn elevation(s: Session, c: Credential, name: Name) -> Process
     }
 }
 
-fn activated(p: Process, s: Session) -> Process
-    ensures { λ r. ⌜ r ≡ activated s p ⌝ }
+fn activated(kept: Process, s: Session) -> Process
+    ensures { λ r. ⌜ r ≡ activated s kept ⌝ }
 {
-    let c = p.credential;
-    let name = p.name;
+    let c = kept.credential;
+    let name = kept.name;
     Process {
         credential: c,
         kind: Kind::User,
         session: s,
-        next: p.next,
+        next: kept.next,
         name: name,
     }
 }
@@ -671,13 +671,13 @@ pub fn list(st: State, s: Session, claim: Claim, wanted: Wanted, room: usize) ->
 // ---- kill
 
 // Which processes a credential may kill.
-fn reach(st: State, c: Credential) -> Among
-    ensures { λ r. ⌜ r ≡ reach st c ⌝ }
+fn reach(st: State, by: Credential) -> Among
+    ensures { λ r. ⌜ r ≡ reach st by ⌝ }
 {
-    if claims::granted(st, c, Class(KILL_OTHERS)) {
+    if claims::granted(st, by, Class(KILL_OTHERS)) {
         Among::All
     } else {
-        Among::Of(c)
+        Among::Of(by)
     }
 }
 
@@ -690,7 +690,7 @@ fn kill_number(st: State, s: Session, claim: Claim, name: Name) -> u8
     }
     let among = reach(st, claims::claimant(st, s, claim));
     if !has_named(st, name, among) {
-        return NO_PROCESS;
+        return NO_PROCESS; // to a stranger's name too, so that nobody learns that it exists
     }
     DONE
 }
@@ -711,10 +711,10 @@ pub fn kill(st: State, s: Session, claim: Claim, name: Name) -> Outcome
 
 // ---- set word
 
-fn set_word_number(st: State, s: Session, claim: Claim, c: Credential, word: u32) -> u8
-    ensures { λ r. ⌜ r ≡ number st (SetWord s claim c word) ⌝ }
+fn set_word_number(st: State, s: Session, claim: Claim, target: Credential, word: u32) -> u8
+    ensures { λ r. ⌜ r ≡ number st (SetWord s claim target word) ⌝ }
 {
-    if !claims::is_credential(c) {
+    if !claims::is_credential(target) {
         return ARGUMENT;
     }
     let n = claims::admitted(st, s, claim);
@@ -725,20 +725,20 @@ fn set_word_number(st: State, s: Session, claim: Claim, c: Credential, word: u32
     if !claims::granted(st, by, Class(SET_WORDS)) {
         return NOT_GRANTED;
     }
-    if !claims::provisioned(st, c) {
+    if !claims::provisioned(st, target) {
         return CREDENTIAL;
     }
     DONE
 }
 
-pub fn set_word(st: State, s: Session, claim: Claim, c: Credential, word: u32) -> Outcome
-    ensures { λ r. ⌜ r ≡ outcome st (SetWord s claim c word) ⌝ }
+pub fn set_word(st: State, s: Session, claim: Claim, target: Credential, word: u32) -> Outcome
+    ensures { λ r. ⌜ r ≡ outcome st (SetWord s claim target word) ⌝ }
 {
-    let n = set_word_number(st, s, claim, c, word);
+    let n = set_word_number(st, s, claim, target, word);
     if n != DONE {
         return refused_claim(st, n, claim);
     }
-    accepted(with_word(counted(st, s, claim), c, word))
+    accepted(with_word(counted(st, s, claim), target, word))
 }
 
 // ---- a fresh module
