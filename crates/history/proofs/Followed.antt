@@ -1,0 +1,284 @@
+-- What the table says of a name is what the history tells of it.
+-- Assumes nothing.
+use Prim.Native.Nat.{ℕ, _+_, _<_}
+use mathlib.Core.Path.{_≡_, refl, sym, ap, _∙_}
+use mathlib.Core.Bool.{Bool, true, false, cond, _&&_, _||_}
+use mathlib.Core.List.{List, [], _∷_}
+use native.Mathlib.Numerals.{add-one}
+use lib.Dec.{eqb}
+use borrow.Author.Tests.{eqb-true, eqb-false}
+use lib.ListN.{length, getD}
+use Rattle.lists.specs.Lists.{removeAt}
+use Rattle.lists.proofs.Tests.{split, clash}
+use Rattle.names.specs.Names.{sameName}
+use Rattle.names.specs.declared.Credential.{Credential}
+use Rattle.names.specs.declared.Kind.{Kind}
+use Rattle.names.specs.declared.Kind.the-variants.{User, Elevation, Saved}
+use Rattle.names.specs.declared.Name.{Name}
+use Rattle.names.specs.declared.Session.{Session}
+use Rattle.table.specs.Table.{freePlace, processAt, isUser, isElevation, isActive, isActiveIn, isNamed, appended, replaced, removed}
+use Rattle.table.specs.declared.Active.{Active}
+use Rattle.table.specs.declared.Active.the-variants.{UserOf, ElevationIn}
+use Rattle.table.specs.declared.Among.{Among}
+use Rattle.table.specs.declared.Among.the-variants.{SavedOf}
+use Rattle.table.specs.declared.Process.{Process}
+use Rattle.table.proofs.Laws.{standing-appended, standing-replaced, standing-removed, standing-without-session}
+use Rattle.table.proofs.Searched.{named-name, named-among, saved-of}
+use Rattle.claims.specs.Module.{activePlace, activeProcess}
+use Rattle.claims.specs.Claim.{claimant}
+use Rattle.claims.specs.declared.Claim.{Claim}
+use Rattle.claims.specs.declared.Claim.the-variants.{Elevated, ByUser}
+use Rattle.claims.specs.declared.State.{State}
+use Rattle.claims.specs.declared.UserClaim.{UserClaim}
+use Rattle.calls.specs.Calls.{Call, Open, Close, Drop, Select, Start, Continue, Elevate, End, Record, List′, Kill, SetWord, number, withTable, userProcess, elevation, activated, saved, oneMore, namedPlace, reach, counted, ended, effect, refusal, answerNumber, outcome}
+use Rattle.calls.specs.Run.{step, run}
+use Rattle.history.specs.Each.{Each}
+use Rattle.history.specs.History.{Event, history}
+use Rattle.history.specs.Lives.{Life, Gone, Live, Kept, counts, ends, shuts, drops, resumes, after, onward, follow, down}
+use Rattle.history.specs.Demand.{processes, Distinct, life, lifeOf}
+use Rattle.history.proofs.Rows.{Stands, each-imp, each-all, pairs-imp}
+use Rattle.history.proofs.Facts.{Added, Continued, ActiveStands, Admitted, Facts, facts}
+use Rattle.history.proofs.Invariant.{Inv}
+use Rattle.history.proofs.Kept.{active-more, named-more, unnamed, rest-apart, kept-counted, stands-counted, step-accepted, step-refused, kept-step}
+use Rattle.history.proofs.Looked.{look, Fixed, is-name, other-name, look-set, look-remove, look-reject, look-append}
+
+-- ---- what an automaton's step does to a process's life, at the process that is meant and at another
+module _ (s : Session) (u : UserClaim) (t : Session) (d : Credential) (i : ℕ) where
+  counts-other : (k : Kind) → isUser k && eqb (t .0) (s .0) && eqb (d .0) (u .credential .0) ≡ false → counts s (ByUser u) (life k t d i) ≡ life k t d i
+  unfolding counts
+  counts-other User h = ap (λ b. Live t d (cond b (u .number ∷ down i) (down i))) h
+  counts-other Elevation h = refl
+  counts-other Saved h = refl
+
+  counts-own : (k : Kind) → isUser k && eqb (t .0) (s .0) && eqb (d .0) (u .credential .0) ≡ true → u .number ≡ i → counts s (ByUser u) (life k t d i) ≡ life k t d (i + 1)
+  unfolding counts
+  counts-own User h e = ap (λ b. Live t d (cond b (u .number ∷ down i) (down i))) h ∙ rw (e, add-one)
+  counts-own Elevation h e = clash h refl
+  counts-own Saved h e = clash h refl
+
+module _ (s : Session) (c : Credential) (keep : Bool) (t : Session) (d : Credential) (i : ℕ) where
+  ends-other : (k : Kind) → isUser k && eqb (t .0) (s .0) && eqb (d .0) (c .0) ≡ false → ends s c keep (life k t d i) ≡ life k t d i
+  unfolding ends
+  ends-other User h = ap (λ b. cond b (cond keep (Kept d (down i)) Gone) (Live t d (down i))) h
+  ends-other Elevation h = refl
+  ends-other Saved h = refl
+
+  ends-own : (k : Kind) → isUser k && eqb (t .0) (s .0) && eqb (d .0) (c .0) ≡ true → ends s c keep (life k t d i) ≡ cond keep (Kept d (down i)) Gone
+  unfolding ends
+  ends-own User h = ap (λ b. cond b (cond keep (Kept d (down i)) Gone) (Live t d (down i))) h
+  ends-own Elevation h = clash h refl
+  ends-own Saved h = clash h refl
+
+module _ (s : Session) (t : Session) (d : Credential) (i : ℕ) where
+  shuts-is : (k : Kind) → shuts s (life k t d i) ≡ cond ((isUser k || isElevation k) && eqb (t .0) (s .0)) Gone (life k t d i)
+  unfolding shuts
+  shuts-is User = refl
+  shuts-is Elevation = refl
+  shuts-is Saved = refl
+
+  drops-is : (k : Kind) → drops s (life k t d i) ≡ cond (isElevation k && eqb (t .0) (s .0)) Gone (life k t d i)
+  unfolding drops
+  drops-is User = refl
+  drops-is Elevation = refl
+  drops-is Saved = refl
+
+  resumes-saved : (k : Kind) → k ≡ Saved → resumes s (life k t d i) ≡ Live s d (down i)
+  unfolding resumes
+  resumes-saved k e = rw e
+
+module _ (n : Name) (first st : State) (v : Inv first st) where
+  abbrev Follows : Call → Type 0
+  Follows call = look n (processes (effect st call)) ≡ after n call (look n (processes st))
+
+  -- ---- the others: of other names, and none the active process that is meant
+  module _ (i : ℕ) (h : i < length (processes st)) where
+    rest-distinct : Each (λ x. Distinct x (getD (processes st) i freePlace)) (removeAt i (processes st))
+    rest-distinct = each-imp (λ x a. a .names) (rest-apart first st v i h)
+
+    rest-free : (which : Active) → isActive which (getD (processes st) i freePlace) ≡ true → Each (λ x. isActive which x ≡ false) (removeAt i (processes st))
+    rest-free which e =
+        each-imp (λ x a. split (isActive which x) (λ k. absurd (a .alone which k e)) (λ k. k)) (rest-apart first st v i h)
+
+  -- ---- a new process
+  follows-added : (which : Active) (s : Session) (c : Credential) (y : Process) → Added st which s c (y .name) → look n (processes (withTable st (appended (st .table) y))) ≡ cond (sameName (y .name) n) (lifeOf y) (look n (processes st))
+  follows-added which s c y f =
+      rw (standing-appended (st .table) y (f .room))
+      (look-append n (λ o. cond (sameName (y .name) n) (lifeOf y) o) (processes st) y refl
+      (each-imp (λ x e q. rw (other-name n x (y .name) (unnamed (y .name) x e) q)) (f .unused)))
+
+  -- ---- a close
+  follows-close : (s : Session) → Follows (Close s)
+  unfolding effect after isActiveIn shuts
+  follows-close s =
+      rw (standing-without-session (st .table) s)
+      (look-reject n (shuts s) refl (isActiveIn s) (processes st)
+      (pairs-imp (λ p q a. a .names) (v .sound .pairs))
+      (each-all (processes st) (λ p. shuts-is s (p .session) (p .credential) (p .next) (p .kind))))
+
+  -- ---- a process replaced, and removed
+  module _ (g : Life → Life) (z : g Gone ≡ Gone) (i : ℕ) (h : i < length (processes st)) where
+    follows-replaced : (y : Process) → getD (processes st) i freePlace .name ≡ y .name → (sameName (y .name) n ≡ true → g (lifeOf (getD (processes st) i freePlace)) ≡ lifeOf y) → Each (Fixed n g) (removeAt i (processes st)) → look n (processes (withTable st (replaced (st .table) i y))) ≡ g (look n (processes st))
+    follows-replaced y e k r =
+        rw (standing-replaced (st .table) i y)
+        (look-set n g z (processes st) i freePlace y h (ap (λ m. sameName m n) e) k r)
+
+    follows-removed : (sameName (getD (processes st) i freePlace .name) n ≡ true → g (lifeOf (getD (processes st) i freePlace)) ≡ Gone) → Each (Fixed n g) (removeAt i (processes st)) → look n (processes (withTable st (removed (st .table) i))) ≡ g (look n (processes st))
+    follows-removed k r =
+        rw (standing-removed (st .table) i)
+        (look-remove n g z (processes st) i freePlace h k (rest-distinct i h) r)
+
+  -- ---- a continue
+  follows-continue : (s : Session) (c : Credential) (name : Name) → Continued st s c name → Follows (Continue s c name)
+  unfolding effect after processAt resumes
+  follows-continue s c name f =
+      let i : ℕ = namedPlace st name (SavedOf c) in
+      let x : Process = getD (processes st) i freePlace in
+      let m : x .name ≡ name = named-name x name (SavedOf c) (f .stands .passes) in
+      let k = saved-of x c (named-among x name (SavedOf c) (f .stands .passes)) .kind in
+      follows-replaced
+      (λ o. cond (sameName name n) (resumes s o) o)
+      (split (sameName name n) (λ e. rw e) (λ e. rw e))
+      i
+      (f .stands .inside)
+      (activated s x)
+      refl
+      (λ q. rw (is-name n x name (ap (λ (a : Name). a .bytes) m) q) (resumes-saved s (x .session) (x .credential) (x .next) (x .kind) k))
+      (each-imp (λ p d q. rw (other-name n p name (rw m at d) q)) (rest-distinct i (f .stands .inside)))
+
+  -- ---- a drop
+  follows-drop : (s : Session) → ActiveStands st (ElevationIn s) → Follows (Drop s)
+  unfolding effect after isActive drops
+  follows-drop s f =
+      let i : ℕ = activePlace st (ElevationIn s) in
+      let x : Process = getD (processes st) i freePlace in
+      follows-removed
+      (drops s)
+      refl
+      i
+      (f .inside)
+      (λ q. drops-is s (x .session) (x .credential) (x .next) (x .kind) ∙ rw (f .passes))
+      (each-imp (λ p e q. drops-is s (p .session) (p .credential) (p .next) (p .kind) ∙ rw e) (rest-free i (f .inside) (ElevationIn s) (f .passes)))
+
+  -- ---- a claim
+  pub follows-counted : (s : Session) (claim : Claim) → Admitted st s claim → look n (processes (counted st s claim)) ≡ counts s claim (look n (processes st))
+  unfolding counted counts activeProcess processAt isActive
+  follows-counted s Elevated f = refl
+  follows-counted s (ByUser u) f =
+      let which : Active = UserOf s (u .credential) in
+      let i : ℕ = activePlace st which in
+      let x : Process = getD (processes st) i freePlace in
+      follows-replaced
+      (counts s (ByUser u))
+      refl
+      i
+      (f .stands .inside)
+      (oneMore x)
+      refl
+      (λ q. counts-own s u (x .session) (x .credential) (x .next) (x .kind) (f .stands .passes) (f .number))
+      (each-imp (λ p e q. counts-other s u (p .session) (p .credential) (p .next) (p .kind) e) (rest-free i (f .stands .inside) which (f .stands .passes)))
+
+  -- the end of the process at a place
+  follows-ended : (s : Session) (c : Credential) (i : ℕ) → Stands (isActive (UserOf s c)) (processes st) freePlace i → (keep : Bool) → look n (processes (ended st i keep)) ≡ ends s c keep (look n (processes st))
+  unfolding ended ends processAt isActive
+  follows-ended s c i f true =
+      let x : Process = getD (processes st) i freePlace in
+      follows-replaced
+      (ends s c true)
+      refl
+      i
+      (f .inside)
+      (saved x)
+      refl
+      (λ q. ends-own s c true (x .session) (x .credential) (x .next) (x .kind) (f .passes))
+      (each-imp (λ p e q. ends-other s c true (p .session) (p .credential) (p .next) (p .kind) e) (rest-free i (f .inside) (UserOf s c) (f .passes)))
+  follows-ended s c i f false =
+      let x : Process = getD (processes st) i freePlace in
+      follows-removed
+      (ends s c false)
+      refl
+      i
+      (f .inside)
+      (λ q. ends-own s c false (x .session) (x .credential) (x .next) (x .kind) (f .passes))
+      (each-imp (λ p e q. ends-other s c false (p .session) (p .credential) (p .next) (p .kind) e) (rest-free i (f .inside) (UserOf s c) (f .passes)))
+
+  -- the process of a name removed
+  follows-killed : (name : Name) (among : Among) (i : ℕ) → Stands (isNamed name among) (processes st) freePlace i → look n (processes (withTable st (removed (st .table) i))) ≡ cond (sameName name n) Gone (look n (processes st))
+  follows-killed name among i f =
+      let x : Process = getD (processes st) i freePlace in
+      let m : x .name ≡ name = named-name x name among (f .passes) in
+      follows-removed
+      (λ o. cond (sameName name n) Gone o)
+      (split (sameName name n) (λ e. rw e) (λ e. rw e))
+      i
+      (f .inside)
+      (λ q. rw (is-name n x name (ap (λ (a : Name). a .bytes) m) q))
+      (each-imp (λ p d q. rw (other-name n p name (rw m at d) q)) (rest-distinct i (f .inside)))
+
+-- ---- a call, with what is known of it where it is accepted
+module _ (n : Name) (first st : State) (v : Inv first st) where
+  follows : (call : Call) → Facts st call → Follows n first st v call
+  unfolding effect after
+  follows (Open s) f = refl
+  follows (Close s) f = follows-close n first st v s
+  follows (Select s byte) f = refl
+  follows (Start s c name) f = follows-added n first st v (UserOf s c) s c (userProcess s c name) f
+  follows (Continue s c name) f = follows-continue n first st v s c name f
+  follows (Elevate s c name verdict) f = follows-added n first st v (ElevationIn s) s c (elevation s c name) f
+  follows (Drop s) f = follows-drop n first st v s f
+  follows (End s u keep) f =
+      let which : Active = UserOf s (u .credential) in
+      follows-ended n first (counted st s (ByUser u)) (kept-counted first st v s (ByUser u) f) s (u .credential) (activePlace st which)
+      (stands-counted st s (ByUser u) f (isActive which) (active-more which) (activePlace st which) (f .stands))
+      keep
+      ∙ ap (ends s (u .credential) keep) (follows-counted n first st v s (ByUser u) f)
+  follows (Record s claim class) f = follows-counted n first st v s claim f
+  follows (List′ s claim wanted room) f = follows-counted n first st v s claim f
+  follows (Kill s claim name) f =
+      let among : Among = reach st (claimant st s claim) in
+      follows-killed n first (counted st s claim) (kept-counted first st v s claim (f .admission)) name among (namedPlace st name among)
+      (stands-counted st s claim (f .admission) (isNamed name among) (named-more name among) (namedPlace st name among) (f .stands))
+      ∙ ap (λ o. cond (sameName name n) Gone o) (follows-counted n first st v s claim (f .admission))
+  follows (SetWord s claim c word) f = follows-counted n first st v s claim (f .admission)
+
+-- ---- the number that a call is answered
+refusal-is : (call : Call) (m : ℕ) → answerNumber (refusal call m) ≡ m
+unfolding refusal
+refusal-is (Open s) m = refl
+refusal-is (Close s) m = refl
+refusal-is (Select s byte) m = refl
+refusal-is (Start s c name) m = refl
+refusal-is (Continue s c name) m = refl
+refusal-is (Elevate s c name verdict) m = refl
+refusal-is (Drop s) m = refl
+refusal-is (End s u keep) m = refl
+refusal-is (Record s claim class) m = refl
+refusal-is (List′ s claim wanted room) m = refl
+refusal-is (Kill s claim name) m = refl
+refusal-is (SetWord s claim c word) m = refl
+
+pub answered-is : (st : State) (call : Call) → answerNumber (outcome st call .answer) ≡ number st call
+unfolding outcome
+answered-is st call =
+    split (eqb (number st call) 0)
+    (λ e. rw e (sym (eqb-true (number st call) 0 e)))
+    (λ e. rw e (refusal-is call (number st call)))
+
+-- ---- a call, refused or not
+abbrev pub event : State → Call → Event
+event st call = record { call = call; answered = answerNumber (outcome st call .answer) }
+
+follows-step : (n : Name) (first st : State) (v : Inv first st) (call : Call) → onward n (event st call) (look n (processes st)) ≡ look n (processes (step st call))
+unfolding onward
+follows-step n first st v call =
+    split (eqb (number st call) 0)
+    (λ e.
+    let z = eqb-true (number st call) 0 e in
+    rw (answered-is st call, e, step-accepted st call z) (sym (follows n first st v call (facts st call z))))
+    (λ e. rw (answered-is st call, e, step-refused st call (eqb-false (number st call) 0 e)))
+
+-- any calls, from any state of which the invariant holds
+pub followed : (n : Name) (first st : State) (calls : List Call) → Inv first st → follow n (history st calls) (look n (processes st)) ≡ look n (processes (run st calls))
+unfolding follow history run
+followed n first st [] v = refl
+followed n first st (call ∷ calls) v =
+    ap (follow n (history (step st call) calls)) (follows-step n first st v call) ∙ followed n first (step st call) calls (kept-step first st call v)

@@ -1,0 +1,4 @@
+pub mod Each
+pub mod History
+pub mod Lives
+pub mod Demand
