@@ -1,0 +1,5 @@
+pub mod Bytes
+pub mod Rows
+pub mod Rules
+pub mod Laws
+pub mod Unique
