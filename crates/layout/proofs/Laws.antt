@@ -1,0 +1,377 @@
+-- "each state having one form there": a slice that holds a state is the bytes of that state, and of no other; a state of the right form is read
+-- back from its bytes; and bytes that were written hold a state exactly where the state is of the right form and keeps demand 3's rules.
+-- Assumes nothing.
+use Prim.Native.Nat.{ℕ, _+_, _-_, _*_, _<_, _≤_}
+use mathlib.Core.Path.{_≡_, refl, sym, ap, subst, _∙_}
+use mathlib.Core.Logic.{_↔_}
+use mathlib.Core.Bool.{true}
+use mathlib.Core.List.{List, [], _∷_, _++_, map, append-nil}
+use native.Mathlib.Omega.{arith}
+use lib.Dec.{eqb, leb}
+use lib.ListN.{length, take, drop, getD, replicate, length-append, length-replicate, length-map, length-drop, take-append-drop}
+use lib.Seq.{take-all, drop-at, getD-drop, drop-drop, drop-cons, length-take-le}
+use borrow.Author.Tests.{eqb-true, leb-true, eq-eqb, ne-eqb, le-leb}
+use Rattle.lists.specs.Lists.{join, padded}
+use Rattle.lists.specs.Bytes.{Bytes}
+use Rattle.lists.proofs.Tests.{and-left, and-right, and-both}
+use Rattle.codec.specs.Codec.{rows, every, isZero, Each, each-nil, pairs-nil}
+use Rattle.codec.proofs.Codec.{rows-length, rows-take, rows-drop, join-append, every-split, every-take, each-every, each-append, each-take, each-replicate, each-all, map-append, map-drop, map-take, map-replicate, zeros-are, join-zeros, rows-zeros, bytes-drop, array-wide, array-long, array-back, array-fits, array-only, array-forth, array-good}
+use Rattle.table.specs.Table.{standing, tableOf, freePlace}
+use Rattle.table.specs.declared.Process.{Process}
+use Rattle.table.specs.declared.Table.{Table}
+use Rattle.claims.specs.declared.Grants.{Grants}
+use Rattle.claims.specs.declared.SessionState.{SessionState}
+use Rattle.claims.specs.declared.State.{State}
+use Rattle.layout.specs.Layout.{stateLength, byteOf, sessionBytes, sessionOf, sessionFits, grantsBytes, grantsOf, grantsFit, processBytes, processOf, processFits, countIn, placesIn, stateBytes, stateIn, nothingHeld, stateOf, stateWritten, shaped, sound, holdsState}
+use Rattle.layout.specs.Facts.{Wide, FormedGrants, FormedProcess, Formed, Sound}
+use Rattle.layout.proofs.Fields.{byte-small, byte-only, session-codec, grants-codec, process-codec, free-row, free-of, free-formed}
+use Rattle.layout.proofs.Sound.{sound-exactly}
+
+-- ---- the parts of the 681 bytes: 4, 40, one, the rest
+module _ (A B P : List ℕ) (c : ℕ) (a : length A ≡ 4) (b : length B ≡ 40) where
+  from-4 : drop 4 (A ++ (B ++ (c ∷ P))) ≡ B ++ (c ∷ P)
+  from-4 = drop-at A (B ++ (c ∷ P)) 4 a
+
+  from-44 : drop 44 (A ++ (B ++ (c ∷ P))) ≡ c ∷ P
+  from-44 = sym (drop-drop 40 4 (A ++ (B ++ (c ∷ P)))) ∙ rw from-4 (drop-at B (c ∷ P) 40 b)
+
+  from-45 : drop 45 (A ++ (B ++ (c ∷ P))) ≡ P
+  from-45 = sym (drop-drop 1 44 (A ++ (B ++ (c ∷ P)))) ∙ rw from-44
+
+  at-44 : getD (A ++ (B ++ (c ∷ P))) 44 0 ≡ c
+  at-44 = sym (getD-drop 44 (A ++ (B ++ (c ∷ P))) 0 0) ∙ rw from-44
+
+  whole : length (A ++ (B ++ (c ∷ P))) ≡ 45 + length P
+  whole = simp length-append (omega arith)
+
+parts : (b : List ℕ) → length b ≡ stateLength → b ≡ take 4 b ++ (take 40 (drop 4 b) ++ (getD b 44 0 ∷ drop 45 b))
+parts b h =
+    let k : 44 < length b = omega arith in
+    let d : drop 40 (drop 4 b) ≡ getD b 44 0 ∷ drop 45 b = drop-drop 40 4 b ∙ drop-cons b 44 0 k in
+    sym (rw (← d, take-append-drop 40 (drop 4 b), take-append-drop 4 b))
+
+-- ---- what a slice that is shaped has
+pub record Shape (b : List ℕ) : Type 0 where
+  pub long : length b ≡ stateLength
+  pub sessions : every sessionFits (rows 4 1 b) ≡ true
+  pub credentials : every grantsFit (rows 8 5 (drop 4 b)) ≡ true
+  pub room : countIn b ≤ 12
+  pub standing : every processFits (rows (countIn b) 53 (drop 45 b)) ≡ true
+  pub free : every isZero (drop (45 + countIn b * 53) b) ≡ true
+
+pub shape : (b : List ℕ) → shaped b ≡ true → Shape b
+unfolding shaped
+shape b e =
+    let e₁ = and-right (eqb (length b) stateLength) _ e in
+    let e₂ = and-right (every sessionFits (rows 4 1 b)) _ e₁ in
+    let e₃ = and-right (every grantsFit (rows 8 5 (drop 4 b))) _ e₂ in
+    let e₄ = and-right (leb (countIn b) 12) _ e₃ in
+    record {
+      long = eqb-true (length b) stateLength (and-left (eqb (length b) stateLength) _ e);
+      sessions = and-left (every sessionFits (rows 4 1 b)) _ e₁;
+      credentials = and-left (every grantsFit (rows 8 5 (drop 4 b))) _ e₂;
+      room = leb-true (countIn b) 12 (and-left (leb (countIn b) 12) _ e₃);
+      standing = and-left (every processFits (rows (countIn b) 53 (drop 45 b))) _ e₄;
+      free = and-right (every processFits (rows (countIn b) 53 (drop 45 b))) _ e₄;
+    }
+
+pub shape-test : (b : List ℕ) → Shape b → shaped b ≡ true
+unfolding shaped
+shape-test b v = rw (eq-eqb (length b) stateLength (v .long), v .sessions, v .credentials, le-leb (countIn b) 12 (v .room), v .standing) (v .free)
+
+-- ---- reading and writing, by the length of the slice
+module _ (b : List ℕ) where
+  pub state-in : length b ≡ stateLength → stateOf b ≡ stateIn b
+  unfolding stateOf
+  state-in h = rw (eq-eqb (length b) stateLength h)
+
+  pub state-not-in : (length b ≡ stateLength → ⊥) → stateOf b ≡ nothingHeld
+  unfolding stateOf
+  state-not-in h = rw (ne-eqb (length b) stateLength h)
+
+  module _ (st : State) where
+    pub state-written : length b ≡ stateLength → stateWritten b st ≡ stateBytes st
+    unfolding stateWritten
+    state-written h = rw (eq-eqb (length b) stateLength h)
+
+    pub state-not-written : (length b ≡ stateLength → ⊥) → stateWritten b st ≡ b
+    unfolding stateWritten
+    state-not-written h = rw (ne-eqb (length b) stateLength h)
+
+-- ---- a table whose places past the count are free is the table of those that stand, and the other way round
+abbrev tableWith : List Process → ℕ → Table
+tableWith l c = record { places = l; count = c }
+
+tidy-of : (l : List Process) (c : ℕ) → length l ≡ 12 → c ≤ 12 → drop c l ≡ replicate (12 - c) freePlace → tableWith l c ≡ tableOf (take c l)
+unfolding tableOf padded
+tidy-of l c h k e =
+    let n : length (take c l) ≡ c = length-take-le c l (omega arith) in
+    rw (n, ← e, take-append-drop)
+
+module _ {b : List ℕ} (v : Shape b) where
+  -- the rows past the count
+  free-rows : drop (countIn b) (rows 12 53 (drop 45 b)) ≡ replicate (12 - countIn b) (replicate 53 0)
+  free-rows =
+      let c : ℕ = countIn b in
+      let m : ℕ = 12 - c in
+      let t : 12 ≡ c + m = omega (arith, v .room) in
+      let d : drop (c * 53) (drop 45 b) ≡ drop (45 + c * 53) b = drop-drop (c * 53) 45 b in
+      let n : length (drop (45 + c * 53) b) ≡ m * 53 = simp length-drop (omega (arith, v .room, v .long)) in
+      let z : drop (45 + c * 53) b ≡ replicate (m * 53) 0 = zeros-are (drop (45 + c * 53) b) (v .free) ∙ rw n in
+      let e : drop c (rows (c + m) 53 (drop 45 b)) ≡ replicate m (replicate 53 0) = rows-drop c m 53 (drop 45 b) ∙ rw (d, z, rows-zeros m 53) in
+      rw (← t) at e
+
+  all-fit : every processFits (rows 12 53 (drop 45 b)) ≡ true
+  all-fit =
+      every-split processFits (countIn b) (rows 12 53 (drop 45 b)) (rw (rows-take (countIn b) 12 53 (drop 45 b) (v .room)) (v .standing))
+      (rw free-rows (each-every processFits _ (each-replicate (12 - countIn b) (replicate 53 0) free-fits)))
+    where
+      free-fits : processFits (replicate 53 0) ≡ true
+      free-fits = rw free-row at (process-codec .fits freePlace free-formed)
+
+  places-length : length (placesIn b) ≡ 12
+  unfolding placesIn
+  places-length = length-map (rows 12 53 (drop 45 b)) processOf ∙ rows-length 12 53 (drop 45 b)
+
+  stand : length (standing (stateIn b .table)) ≡ countIn b
+  unfolding standing
+  stand = length-take-le (countIn b) (placesIn b) (omega (arith, v .room, places-length))
+
+  shape-tidy : stateIn b .table ≡ tableOf (standing (stateIn b .table))
+  unfolding placesIn standing
+  shape-tidy =
+      tidy-of (placesIn b) (countIn b) places-length (v .room) (rw (map-drop processOf (countIn b) (rows 12 53 (drop 45 b)), free-rows, map-replicate, free-of))
+
+  module _ (g : Bytes b) where
+    pub shape-forth : stateBytes (stateOf b) ≡ b
+    unfolding stateBytes countIn placesIn
+    shape-forth =
+        let s : join (map sessionBytes (map sessionOf (rows 4 1 b))) ≡ take 4 b = array-forth session-codec 4 b (omega (arith, v .long)) g (v .sessions) in
+        let q : join (map grantsBytes (map grantsOf (rows 8 5 (drop 4 b)))) ≡ take 40 (drop 4 b) =
+        array-forth grants-codec 8 (drop 4 b) (simp length-drop (omega (arith, v .long))) (bytes-drop 4 b g) (v .credentials)
+        in
+        let l : length (drop 45 b) ≡ 636 = simp length-drop (omega (arith, v .long)) in
+        let p : join (map processBytes (map processOf (rows 12 53 (drop 45 b)))) ≡ drop 45 b =
+        array-forth process-codec 12 (drop 45 b) (omega arith) (bytes-drop 45 b g) all-fit ∙ take-all 636 (drop 45 b) (omega arith)
+        in
+        rw (state-in b (v .long), s, q, p, byte-small (getD b 44 0) (g 44)) (sym (parts b (v .long)))
+
+    pub shape-formed : Formed (stateOf b)
+    unfolding countIn placesIn standing
+    shape-formed =
+        let l : length (drop 45 b) ≡ 636 = simp length-drop (omega (arith, v .long)) in
+        rw (state-in b (v .long)) (record {
+          sessions = length-map (rows 4 1 b) sessionOf ∙ rows-length 4 1 b;
+          credentials = length-map (rows 8 5 (drop 4 b)) grantsOf ∙ rows-length 8 5 (drop 4 b);
+          words = array-good grants-codec 8 (drop 4 b) (simp length-drop (omega (arith, v .long))) (bytes-drop 4 b g) (v .credentials);
+          few = rw stand (v .room);
+          tidy = shape-tidy;
+          each =
+              rw (map-take processOf (countIn b) (rows 12 53 (drop 45 b)), rows-take (countIn b) 12 53 (drop 45 b) (v .room))
+              (array-good process-codec (countIn b) (drop 45 b) (omega (arith, v .room)) (bytes-drop 45 b g) (v .standing));
+        })
+
+-- ---- the bytes of a state
+abbrev sessionPart : State → List ℕ
+sessionPart st = join (map sessionBytes (st .sessions))
+
+abbrev credentialPart : State → List ℕ
+credentialPart st = join (map grantsBytes (st .credentials))
+
+abbrev placePart : State → List ℕ
+placePart st = join (map processBytes (st .table .places))
+
+module _ {st : State} (w : Wide st) where
+  all-sessions : Each (λ s. Unit) (st .sessions)
+  all-sessions = each-all (λ s. tt) (st .sessions)
+
+  pub sessions-long : length (sessionPart st) ≡ 4
+  sessions-long = array-long session-codec all-sessions ∙ rw (w .sessions)
+
+  pub credentials-long : length (credentialPart st) ≡ 40
+  credentials-long = array-long grants-codec (w .words) ∙ rw (w .credentials)
+
+  places-long : length (placePart st) ≡ 636
+  places-long = array-long process-codec (w .each) ∙ rw (w .places)
+
+  pub bytes-long : length (stateBytes st) ≡ stateLength
+  unfolding stateBytes
+  bytes-long = whole (sessionPart st) (credentialPart st) (placePart st) (byteOf (st .table .count)) sessions-long credentials-long ∙ rw places-long
+
+  credentials-at : drop 4 (stateBytes st) ≡ credentialPart st ++ (byteOf (st .table .count) ∷ placePart st)
+  unfolding stateBytes
+  credentials-at = from-4 (sessionPart st) (credentialPart st) (placePart st) (byteOf (st .table .count)) sessions-long credentials-long
+
+  count-at : countIn (stateBytes st) ≡ byteOf (st .table .count)
+  unfolding stateBytes countIn
+  count-at = at-44 (sessionPart st) (credentialPart st) (placePart st) (byteOf (st .table .count)) sessions-long credentials-long
+
+  places-at : drop 45 (stateBytes st) ≡ placePart st ++ []
+  unfolding stateBytes
+  places-at = from-45 (sessionPart st) (credentialPart st) (placePart st) (byteOf (st .table .count)) sessions-long credentials-long ∙ sym (append-nil (placePart st))
+
+  -- the bytes of a state whose fields are in their ranges, in every place, are read back
+  record Ranged : Type 0 where
+    pub words : Each FormedGrants (st .credentials)
+    pub room : st .table .count ≤ 12
+    pub all : Each FormedProcess (st .table .places)
+
+  ranged-count : Ranged → countIn (stateBytes st) ≡ st .table .count
+  ranged-count r = count-at ∙ byte-small (st .table .count) (omega (arith, r .room))
+
+  ranged-back : Ranged → stateOf (stateBytes st) ≡ st
+  unfolding stateBytes placesIn
+  ranged-back r =
+      let s : map sessionOf (rows 4 1 (stateBytes st)) ≡ st .sessions =
+      rw (w .sessions) at (array-back session-codec (credentialPart st ++ (byteOf (st .table .count) ∷ placePart st)) all-sessions)
+      in
+      let q : map grantsOf (rows 8 5 (drop 4 (stateBytes st))) ≡ st .credentials =
+      rw credentials-at (rw (w .credentials) at (array-back grants-codec (byteOf (st .table .count) ∷ placePart st) (r .words)))
+      in
+      let p : map processOf (rows 12 53 (drop 45 (stateBytes st))) ≡ st .table .places =
+      rw places-at (rw (w .places) at (array-back process-codec [] (r .all)))
+      in
+      state-in (stateBytes st) bytes-long ∙ rw (s, q, p, ranged-count r)
+
+  -- bytes that are shaped are those of a state of the right form
+  shape-ranged : Shape (stateBytes st) → Ranged
+  shape-ranged v =
+      record {
+        words = array-only grants-codec (byteOf (st .table .count) ∷ placePart st) (w .words) (rw (w .credentials, ← credentials-at) (v .credentials));
+        room = byte-only (st .table .count) 12 (omega arith) (rw count-at at (v .room));
+        all = array-only process-codec [] (w .each) (rw (w .places, ← places-at) (all-fit v));
+      }
+
+  shape-only : Shape (stateBytes st) → Formed st
+  unfolding standing
+  shape-only v =
+      let r = shape-ranged v in
+      let back : stateIn (stateBytes st) ≡ st = sym (state-in (stateBytes st) bytes-long) ∙ ranged-back r in
+      record {
+        sessions = w .sessions;
+        credentials = w .credentials;
+        words = r .words;
+        few = rw (length-take-le (st .table .count) (st .table .places) (omega (arith, r .room, w .places))) (r .room);
+        tidy = subst (λ (x : State). x .table ≡ tableOf (standing (x .table))) back (shape-tidy v);
+        each = each-take (st .table .count) (r .all);
+      }
+
+-- ---- a state of the right form
+module _ {st : State} (f : Formed st) where
+  pub count-is : st .table .count ≡ length (standing (st .table))
+  unfolding tableOf
+  count-is = ap (λ (t : Table). t .count) (f .tidy)
+
+  pub places-are : st .table .places ≡ standing (st .table) ++ replicate (12 - length (standing (st .table))) freePlace
+  unfolding tableOf padded
+  places-are = ap (λ (t : Table). t .places) (f .tidy)
+
+  all-formed : Each FormedProcess (st .table .places)
+  all-formed = rw places-are (each-append (f .each) (each-replicate (12 - length (standing (st .table))) freePlace free-formed))
+
+  pub formed-wide : Wide st
+  formed-wide =
+      record {
+        sessions = f .sessions;
+        credentials = f .credentials;
+        places = ap length places-are ∙ simp (length-append, length-replicate) (omega (arith, f .few));
+        words = array-wide grants-codec (f .words);
+        each = array-wide process-codec all-formed;
+      }
+
+  formed-ranged : Ranged formed-wide
+  formed-ranged = record { words = f .words; room = rw count-is (f .few); all = all-formed }
+
+  -- what was written is read
+  pub state-back : stateOf (stateBytes st) ≡ st
+  state-back = ranged-back formed-wide formed-ranged
+
+  formed-count : countIn (stateBytes st) ≡ st .table .count
+  formed-count = ranged-count formed-wide formed-ranged
+
+  -- past the places that stand, zeros
+  free-zeros : every isZero (drop (st .table .count * 53) (placePart st)) ≡ true
+  free-zeros =
+      let n : ℕ = length (standing (st .table)) in
+      let t : placePart st ≡ join (map processBytes (standing (st .table))) ++ join (replicate (12 - n) (replicate 53 0)) =
+      ap (λ (l : List Process). join (map processBytes l)) places-are ∙ rw (map-append, join-append, map-replicate, free-row)
+      in
+      let q : length (join (map processBytes (standing (st .table)))) ≡ n * 53 = array-long process-codec (array-wide process-codec (f .each)) in
+      rw (count-is, t, drop-at (join (map processBytes (standing (st .table)))) (join (replicate (12 - n) (replicate 53 0))) (n * 53) q) (join-zeros (12 - n) 53)
+
+  formed-shape : Shape (stateBytes st)
+  unfolding stateBytes
+  formed-shape =
+      let w : Wide st = formed-wide in
+      let p : every processFits (rows 12 53 (drop 45 (stateBytes st))) ≡ true =
+      rw (places-at w) (rw (w .places) at (array-fits process-codec [] all-formed))
+      in
+      record {
+        long = bytes-long w;
+        sessions = rw (w .sessions) at (array-fits session-codec (credentialPart st ++ (byteOf (st .table .count) ∷ placePart st)) (all-sessions w));
+        credentials = rw (credentials-at w) (rw (w .credentials) at (array-fits grants-codec (byteOf (st .table .count) ∷ placePart st) (f .words)));
+        room = rw (formed-count, count-is) (f .few);
+        standing =
+            rw (formed-count, ← rows-take (st .table .count) 12 53 (drop 45 (stateBytes st)) (formed-ranged .room))
+            (every-take processFits (st .table .count) (rows 12 53 (drop 45 (stateBytes st))) p);
+        free =
+            rw (formed-count, ← drop-drop (st .table .count * 53) 45 (stateBytes st), places-at w, append-nil) free-zeros;
+      }
+
+-- ---- what callers cite
+module _ (b : List ℕ) (e : holdsState b ≡ true) where
+  pub holds-shape : Shape b
+  unfolding holdsState
+  holds-shape = shape b (and-left (shaped b) (sound (stateOf b)) e)
+
+  pub holds-sound : Sound (stateOf b)
+  unfolding holdsState
+  holds-sound = sound-exactly (stateOf b) .0 (and-right (shaped b) (sound (stateOf b)) e)
+
+  module _ (h : Bytes b) where
+    -- what is read writes to the bytes that were read: each state has one form
+    pub one-form : stateBytes (stateOf b) ≡ b
+    one-form = shape-forth holds-shape h
+
+    pub holds-formed : Formed (stateOf b)
+    holds-formed = shape-formed holds-shape h
+
+-- so two slices that hold one state are equal
+pub form-once : (a b : List ℕ) → Bytes a → Bytes b → holdsState a ≡ true → holdsState b ≡ true → stateOf a ≡ stateOf b → a ≡ b
+form-once a b g h p q e = sym (one-form a p g) ∙ ap stateBytes e ∙ one-form b q h
+
+-- whatever is of the right form and keeps demand 3's rules is a state where it is written
+pub holds-written : {st : State} → Formed st → Sound st → holdsState (stateBytes st) ≡ true
+unfolding holdsState
+holds-written {st} f s = and-both (shape-test (stateBytes st) (formed-shape f)) (rw (state-back f) (sound-exactly st .1 s))
+
+-- and nothing else is
+pub holds-exactly : {st : State} → Wide st → (holdsState (stateBytes st) ≡ true) ↔ (Formed st × Sound st)
+holds-exactly {st} w = (tells, λ v. holds-written (v .0) (v .1))
+  where
+    tells : holdsState (stateBytes st) ≡ true → Formed st × Sound st
+    tells e =
+        let v : Shape (stateBytes st) = holds-shape (stateBytes st) e in
+        (shape-only w v, rw (ranged-back w (shape-ranged w v)) at (holds-sound (stateBytes st) e))
+
+-- ---- a slice into which a state was written
+module _ (b : List ℕ) (h : length b ≡ stateLength) {st : State} (f : Formed st) where
+  pub written-back : stateOf (stateWritten b st) ≡ st
+  written-back = rw (state-written b st h) (state-back f)
+
+  pub written-holds : Sound st → holdsState (stateWritten b st) ≡ true
+  written-holds s = rw (state-written b st h) (holds-written f s)
+
+-- ---- a module in which no process stands, whatever its sessions are: what a fresh one is made as
+module _ (sessions : List SessionState) (l : List Grants) where
+  abbrev idle : State
+  idle = record { sessions = sessions; credentials = l; table = tableOf [] }
+
+  pub idle-formed : length sessions ≡ 4 → length l ≡ 8 → Each FormedGrants l → Formed idle
+  unfolding standing tableOf padded
+  idle-formed h k v =
+      record { sessions = h; credentials = k; words = v; few = omega arith; tidy = refl; each = each-nil }
+
+  pub idle-sound : Sound idle
+  unfolding standing tableOf padded
+  idle-sound = record { owned = each-nil; apart = pairs-nil }

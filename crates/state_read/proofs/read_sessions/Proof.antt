@@ -1,0 +1,55 @@
+use Rattle.layout.specs.Layout.{sessionOf}
+use Rattle.codec.proofs.Loops.{FilledBy}
+use Prim.Native.Nat.{_-_}
+use Rattle.state_read.proofs.Rules.{rules}
+use Rattle.state_read.proofs.read_sessions.Statement.{statement}
+use Rattle.state_read.proofs.read_sessions.Tie as tie
+
+abbrev Inv-loop : tie.InvT-loop
+Inv-loop s out₀ i₀ out i = FilledBy sessionOf 4 1 0 s out₀ out i
+
+abbrev μ-loop : tie.MeasureT-loop
+μ-loop s out₀ i₀ out i = 4 - i
+
+closed-session-requires : tie.Need-closed-session-requires Inv-loop μ-loop
+closed-session-requires c κs = search rules
+
+loop-holds : tie.Need-loop-holds Inv-loop μ-loop
+loop-holds c = search rules
+
+shared-slice-read-phase-numbered : tie.Need-shared-slice-read-phase-numbered Inv-loop μ-loop
+shared-slice-read-phase-numbered c = search rules
+
+phase-numbered-requires : tie.Need-phase-numbered-requires Inv-loop μ-loop
+phase-numbered-requires c κs = search rules
+
+array-set-from-out : tie.Need-array-set-from-out Inv-loop μ-loop
+array-set-from-out c = search rules
+
+add-i : tie.Need-add-i Inv-loop μ-loop
+add-i c = search rules
+
+loop-less : tie.Need-loop-less Inv-loop μ-loop
+loop-less c = search rules
+
+loop-again : tie.Need-loop-again Inv-loop μ-loop
+loop-again c = search rules
+
+returns : tie.Need-returns Inv-loop μ-loop
+returns c = search rules
+
+pub read-sessions-spec : {M : Type 1} → statement M
+read-sessions-spec =
+    tie.close
+    (tie.spec
+    Inv-loop
+    μ-loop
+    closed-session-requires
+    loop-holds
+    shared-slice-read-phase-numbered
+    phase-numbered-requires
+    array-set-from-out
+    add-i
+    loop-less
+    loop-again
+    returns)

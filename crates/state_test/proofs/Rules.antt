@@ -1,0 +1,383 @@
+-- The laws that close the needs of this crate's functions by `search rules`: each premise is as a place's record has it.
+-- Assumes nothing.
+use Prim.Native.Nat.{ℕ, zero, suc, _+_, _-_, _*_, _<_, _≤_}
+use mathlib.Core.Path.{_≡_, refl, sym, ap, _∙_}
+use mathlib.Core.Bool.{Bool, true, false, _&&_, _||_, not}
+use mathlib.Core.List.{List, [], _∷_, _++_, map}
+use native.Mathlib.Omega.{arith}
+use native.Mathlib.Nat.{add-zero}
+use native.Mathlib.Numerals.{add-one}
+use borrow.Author.Needs.{needs}
+use borrow.Author.Tests.{eqb-true, eqb-false, eq-eqb, ne-eqb, le-leb, lt-leb, not-true, not-false}
+use lib.Dec.{eqb, leb}
+use lib.ListN.{length, take, drop, getD, List·getD-eq-default, length-map, length-take, length-drop, take-append-drop, drop-of-length-le}
+use lib.Seq.{drop-cons, drop-drop, getD-drop, getD-take, take-all}
+use Rattle.lists.specs.Bytes.{number}
+use Rattle.lists.proofs.Lists.{length-mapped}
+use Rattle.lists.proofs.Tests.{split}
+use Rattle.codec.specs.Codec.{rows, every, pairwise, isZero, Widened}
+use Rattle.codec.proofs.Codec.{rows-length, rows-take, map-take}
+use Rattle.codec.proofs.Loops.{RowsTo, rows-begin, rows-on, rows-fail, rows-all, RecordsTo, records-begin, records-on, records-fail, records-all, zero-begin, zero-on, zero-all, map-part, and-assoc, and-true, and-false, paired-begin, paired-on, paired-fail, paired-all}
+use Rattle.names.specs.Names.{sameBytes, sameName, kindOf}
+use Rattle.names.specs.declared.Kind.the-variants.{Saved}
+use Rattle.table.specs.Table.{standing, freePlace, isUser, isElevation, isActive, isActiveIn}
+use Rattle.table.specs.declared.Process.{Process}
+use Rattle.claims.specs.Module.{closedSession, unprovisioned, provisioned, phaseOf, isChosen}
+use Rattle.claims.specs.declared.Grants.{Grants}
+use Rattle.layout.specs.Layout.{phaseNumbered, sessionOf, sessionFits, grantsOf, grantsFit, keptZero, processOf, processFits, countIn, placesIn, stateOf, isOwned, areRivals, areApart, sound, shaped, holdsState}
+use Rattle.layout.proofs.Laws.{state-in}
+use Rattle.layout.proofs.Parts.{grants-part, place-part, next-in}
+
+-- ---- a credential's row
+module _ (x : List ℕ) where
+  pub grants-high : 1 < getD x 0 0 → false ≡ grantsFit x
+  unfolding grantsFit
+  grants-high h = rw (lt-leb (getD x 0 0) 1 h)
+
+  pub grants-on : getD x 0 0 ≡ 1 → true ≡ grantsFit x
+  unfolding grantsFit
+  grants-on e = rw e
+
+  pub grants-off : {r : Bool} → r ≡ every isZero (drop 1 x) → getD x 0 0 ≤ 1 → (getD x 0 0 ≡ 1 → ⊥) → r ≡ grantsFit x
+  unfolding grantsFit
+  grants-off e h n = e ∙ rw (le-leb (getD x 0 0) 1 h, ne-eqb (getD x 0 0) 1 n)
+
+-- ---- a place
+kind-saved : (n : ℕ) → 2 ≤ n → kindOf n ≡ Saved
+kind-saved zero h = absurd (omega arith)
+kind-saved (suc zero) h = absurd (omega arith)
+kind-saved (suc (suc n)) h = refl
+
+module _ (x : List ℕ) where
+  pub process-credential : 7 < getD x 0 0 → false ≡ processFits x
+  unfolding processFits
+  process-credential h = rw (lt-leb (getD x 0 0) 7 h)
+
+  module _ (c : getD x 0 0 ≤ 7) where
+    pub process-type : 2 < getD x 1 0 → false ≡ processFits x
+    unfolding processFits
+    process-type h = rw (le-leb (getD x 0 0) 7 c, lt-leb (getD x 1 0) 2 h)
+
+    module _ (t : getD x 1 0 ≤ 2) where
+      pub process-session : 3 < getD x 2 0 → false ≡ processFits x
+      unfolding processFits
+      process-session h = rw (le-leb (getD x 0 0) 7 c, le-leb (getD x 1 0) 2 t, lt-leb (getD x 2 0) 3 h)
+
+      module _ (s : getD x 2 0 ≤ 3) where
+        in-range : processFits x ≡ keptZero (kindOf (getD x 1 0)) (getD x 2 0) (number (take 2 (drop 3 x)))
+        unfolding processFits
+        in-range = rw (le-leb (getD x 0 0) 7 c, le-leb (getD x 1 0) 2 t, le-leb (getD x 2 0) 3 s)
+
+        pub process-user : getD x 1 0 ≡ 0 → true ≡ processFits x
+        process-user e = sym (in-range ∙ rw e)
+
+        pub process-elevation : getD x 1 0 ≡ 1 → {n : ℕ} → length x ≡ 53 → n ≡ number (getD x 3 0 ∷ getD x 4 0 ∷ []) → eqb n 0 ≡ processFits x
+        process-elevation e h q = sym (in-range ∙ rw (e, next-in x h, q))
+
+        pub process-saved : (getD x 1 0 ≡ 0 → ⊥) → (getD x 1 0 ≡ 1 → ⊥) → eqb (getD x 2 0) 0 ≡ processFits x
+        process-saved n m = sym (in-range ∙ rw (kind-saved (getD x 1 0) (omega arith)))
+
+-- ---- two names, 16 bytes at a time
+pub record Told (x y : List ℕ) (same : Bool) (i : ℕ) : Type 0 where
+  pub low : i ≤ length x
+  pub even : length x ≡ length y
+  pub rest : sameBytes x y ≡ (same && sameBytes (drop i x) (drop i y))
+
+told-on : {x y : List ℕ} {same same′ : Bool} {i : ℕ} → Told x y same i → i < length x → same′ ≡ (same && eqb (getD x i 0) (getD y i 0)) → Told x y same′ (i + 1)
+unfolding sameBytes
+told-on {x} {y} {same} {same′} {i} v h e =
+    let k : i < length y = omega (arith, v .even) in
+    record {
+      low = omega arith;
+      even = v .even;
+      rest =
+          v .rest
+          ∙ rw (drop-cons x i 0 h, drop-cons y i 0 k, e, add-one) (sym (and-assoc same (eqb (getD x i 0) (getD y i 0)) (sameBytes (drop (suc i) x) (drop (suc i) y))));
+    }
+
+-- the 16 bytes from an index on, in two slices
+pub record Same16 (a b : List ℕ) (at : ℕ) (same : Bool) (i : ℕ) : Type 0 where
+  pub low : i ≤ 16
+  pub first : at + 16 ≤ length a
+  pub second : at + 16 ≤ length b
+  pub told : Told (take 16 (drop at a)) (take 16 (drop at b)) same i
+
+part-16 : (a : List ℕ) (at : ℕ) → at + 16 ≤ length a → length (take 16 (drop at a)) ≡ 16
+part-16 a at h = simp (length-take, length-drop) (omega arith)
+
+pub same-begin : (a b : List ℕ) (at : ℕ) → at + 16 ≤ length a → at + 16 ≤ length b → Same16 a b at true 0
+same-begin a b at h k =
+    record { low = omega arith; first = h; second = k; told = record { low = omega arith; even = part-16 a at h ∙ sym (part-16 b at k); rest = refl } }
+
+module _ {a b : List ℕ} {at : ℕ} {same : Bool} {i : ℕ} (v : Same16 a b at same i) (h : i < 16) where
+  elem : (l : List ℕ) → getD (take 16 (drop at l)) i 0 ≡ getD l (at + i) 0
+  elem l = getD-take 16 (drop at l) i 0 h ∙ getD-drop at l i 0
+
+  next : {same′ : Bool} → same′ ≡ (same && eqb (getD a (at + i) 0) (getD b (at + i) 0)) → Same16 a b at same′ (i + 1)
+  next e =
+      record {
+        low = omega arith;
+        first = v .first;
+        second = v .second;
+        told = told-on (v .told) (omega (arith, part-16 a at (v .first))) (rw (elem a, elem b) e);
+      }
+
+  pub same-differ : {same′ : Bool} → (getD a (at + i) 0 ≡ getD b (at + i) 0 → ⊥) → same′ ≡ false → Same16 a b at same′ (i + 1)
+  same-differ n e = next (e ∙ rw (ne-eqb (getD a (at + i) 0) (getD b (at + i) 0) n) (sym (and-false same)))
+
+  pub same-agree : {same′ : Bool} → getD a (at + i) 0 ≡ getD b (at + i) 0 → same′ ≡ same → Same16 a b at same′ (i + 1)
+  same-agree n e = next (e ∙ rw (eq-eqb (getD a (at + i) 0) (getD b (at + i) 0) n) (sym (and-true same)))
+
+pub same-all : {a b : List ℕ} {at : ℕ} {same : Bool} {i : ℕ} → Same16 a b at same i → 16 ≤ i → same ≡ sameBytes (take 16 (drop at a)) (take 16 (drop at b))
+unfolding sameBytes
+same-all {a} {b} {at} {same} {i} v h =
+    let m : length (take 16 (drop at a)) ≤ i = omega (arith, part-16 a at (v .first)) in
+    let n : length (take 16 (drop at b)) ≤ i = omega (arith, part-16 b at (v .second)) in
+    sym (v .told .rest ∙ rw (drop-of-length-le (take 16 (drop at a)) m, drop-of-length-le (take 16 (drop at b)) n) (and-true same))
+
+-- ---- the whole name: three parts
+same-append : (x y u w : List ℕ) → length x ≡ length u → sameBytes (x ++ y) (u ++ w) ≡ (sameBytes x u && sameBytes y w)
+unfolding sameBytes
+same-append [] y [] w h = refl
+same-append [] y (b ∷ u) w h = absurd (omega arith)
+same-append (a ∷ x) y [] w h = absurd (omega arith)
+same-append (a ∷ x) y (b ∷ u) w h = rw (same-append x y u w (omega arith)) (sym (and-assoc (eqb a b) (sameBytes x u) (sameBytes y w)))
+
+abbrev samePart : List ℕ → List ℕ → ℕ → Bool
+samePart a b at = sameBytes (take 16 (drop at a)) (take 16 (drop at b))
+
+three-parts : (a : List ℕ) → length a ≡ 53 → drop 5 a ≡ take 16 (drop 5 a) ++ (take 16 (drop 21 a) ++ take 16 (drop 37 a))
+three-parts a h =
+    let t : take 16 (drop 37 a) ≡ drop 37 a = take-all 16 (drop 37 a) (simp length-drop (omega arith)) in
+    let d : take 16 (drop 21 a) ++ drop 37 a ≡ drop 21 a = rw (← drop-drop 16 21 a) (take-append-drop 16 (drop 21 a)) in
+    sym (rw (t, d, ← drop-drop 16 5 a) (take-append-drop 16 (drop 5 a)))
+
+module _ (a b : List ℕ) (h : length a ≡ 53) (k : length b ≡ 53) where
+  name-parts : sameBytes (drop 5 a) (drop 5 b) ≡ (samePart a b 5 && (samePart a b 21 && samePart a b 37))
+  name-parts =
+      let x : List ℕ = take 16 (drop 21 a) ++ take 16 (drop 37 a) in
+      let y : List ℕ = take 16 (drop 21 b) ++ take 16 (drop 37 b) in
+      ap (λ (l : List ℕ). sameBytes l (drop 5 b)) (three-parts a h) ∙ ap (λ (l : List ℕ). sameBytes (take 16 (drop 5 a) ++ x) l) (three-parts b k)
+      ∙ same-append (take 16 (drop 5 a)) x (take 16 (drop 5 b)) y (part-16 a 5 (omega arith) ∙ sym (part-16 b 5 (omega arith)))
+      ∙ rw (same-append (take 16 (drop 21 a)) (take 16 (drop 37 a)) (take 16 (drop 21 b)) (take 16 (drop 37 b)) (part-16 a 21 (omega arith) ∙ sym (part-16 b 21 (omega arith))))
+
+  module _ {p : Bool} (e : p ≡ samePart a b 5) where
+    pub name-first : not p ≡ true → false ≡ sameBytes (drop 5 a) (drop 5 b)
+    name-first t = sym (name-parts ∙ rw (← e, not-true p t))
+
+    module _ (t : not p ≡ false) {q : Bool} (f : q ≡ samePart a b 21) where
+      pub name-second : not q ≡ true → false ≡ sameBytes (drop 5 a) (drop 5 b)
+      name-second u = sym (name-parts ∙ rw (← e, not-false p t, ← f, not-true q u))
+
+      pub name-third : not q ≡ false → {r : Bool} → r ≡ samePart a b 37 → r ≡ sameBytes (drop 5 a) (drop 5 b)
+      name-third u g = g ∙ sym (name-parts ∙ rw (← e, not-false p t, ← f, not-false q u))
+
+-- ---- two places. The test of rivals, by the types' numbers and whether the sessions and the credentials agree
+abbrev rivalry : ℕ → ℕ → Bool → Bool → Bool
+rivalry k l session credential =
+    (isUser (kindOf k) && (isUser (kindOf l) && session && credential)) || (isElevation (kindOf k) && (isElevation (kindOf l) && session))
+
+rivalry-elsewhere : (k l : ℕ) (c : Bool) → rivalry k l false c ≡ false
+rivalry-elsewhere zero zero c = refl
+rivalry-elsewhere zero (suc zero) c = refl
+rivalry-elsewhere zero (suc (suc l)) c = refl
+rivalry-elsewhere (suc zero) zero c = refl
+rivalry-elsewhere (suc zero) (suc zero) c = refl
+rivalry-elsewhere (suc zero) (suc (suc l)) c = refl
+rivalry-elsewhere (suc (suc k)) l c = refl
+
+rivalry-other : (k l : ℕ) (s c : Bool) → (k ≡ l → ⊥) → rivalry k l s c ≡ false
+rivalry-other zero zero s c n = absurd (n refl)
+rivalry-other zero (suc zero) s c n = refl
+rivalry-other zero (suc (suc l)) s c n = refl
+rivalry-other (suc zero) zero s c n = refl
+rivalry-other (suc zero) (suc zero) s c n = absurd (n refl)
+rivalry-other (suc zero) (suc (suc l)) s c n = refl
+rivalry-other (suc (suc k)) l s c n = refl
+
+rivalry-same : (k : ℕ) (c : Bool) → (k ≡ 0 → ⊥) → rivalry k k true c ≡ eqb k 1
+rivalry-same zero c n = absurd (n refl)
+rivalry-same (suc zero) c n = refl
+rivalry-same (suc (suc k)) c n = sym (ne-eqb (suc (suc k)) 1 (λ e. omega arith))
+
+module _ (a b : List ℕ) where
+  rivals-are : areRivals (processOf a) (processOf b) ≡ rivalry (getD a 1 0) (getD b 1 0) (eqb (getD b 2 0) (getD a 2 0)) (eqb (getD b 0 0) (getD a 0 0))
+  unfolding areRivals processOf isActive
+  rivals-are = refl
+
+  pub rivals-elsewhere : (getD a 2 0 ≡ getD b 2 0 → ⊥) → false ≡ areRivals (processOf a) (processOf b)
+  rivals-elsewhere n =
+      sym (rivals-are ∙ rw (ne-eqb (getD b 2 0) (getD a 2 0) (λ e. n (sym e))) (rivalry-elsewhere (getD a 1 0) (getD b 1 0) (eqb (getD b 0 0) (getD a 0 0))))
+
+  pub rivals-other : (getD a 1 0 ≡ getD b 1 0 → ⊥) → false ≡ areRivals (processOf a) (processOf b)
+  rivals-other n = sym (rivals-are ∙ rivalry-other (getD a 1 0) (getD b 1 0) (eqb (getD b 2 0) (getD a 2 0)) (eqb (getD b 0 0) (getD a 0 0)) n)
+
+  module _ (e : getD a 2 0 ≡ getD b 2 0) (f : getD a 1 0 ≡ getD b 1 0) where
+    rivals-here : areRivals (processOf a) (processOf b) ≡ rivalry (getD a 1 0) (getD a 1 0) true (eqb (getD b 0 0) (getD a 0 0))
+    rivals-here = rivals-are ∙ rw (eq-eqb (getD b 2 0) (getD a 2 0) (sym e), ← f)
+
+    pub rivals-users : getD a 1 0 ≡ 0 → eqb (getD a 0 0) (getD b 0 0) ≡ areRivals (processOf a) (processOf b)
+    rivals-users z =
+        split (eqb (getD a 0 0) (getD b 0 0))
+        (λ t. t ∙ sym (rivals-here ∙ rw (z, eq-eqb (getD b 0 0) (getD a 0 0) (sym (eqb-true (getD a 0 0) (getD b 0 0) t)))))
+        (λ t. t ∙ sym (rivals-here ∙ rw (z, ne-eqb (getD b 0 0) (getD a 0 0) (λ q. eqb-false (getD a 0 0) (getD b 0 0) t (sym q)))))
+
+    pub rivals-last : (getD a 1 0 ≡ 0 → ⊥) → eqb (getD a 1 0) 1 ≡ areRivals (processOf a) (processOf b)
+    rivals-last n = sym (rivals-here ∙ rivalry-same (getD a 1 0) (eqb (getD b 0 0) (getD a 0 0)) n)
+
+  module _ {r : Bool} (e : r ≡ areRivals (processOf a) (processOf b)) where
+    pub apart-rivals : r ≡ true → false ≡ areApart (processOf a) (processOf b)
+    unfolding areApart
+    apart-rivals t = rw (← e, t)
+
+    pub apart-name : r ≡ false → {m : Bool} → m ≡ sameBytes (drop 5 a) (drop 5 b) → not m ≡ areApart (processOf a) (processOf b)
+    unfolding areApart processOf sameName
+    apart-name t f = rw (← e, t, f)
+
+-- ---- an owner
+chosen-of : (b : ℕ) → isChosen (phaseNumbered b) ≡ eqb b 2
+unfolding isChosen
+chosen-of zero = refl
+chosen-of (suc zero) = refl
+chosen-of (suc (suc zero)) = refl
+chosen-of (suc (suc (suc n))) = sym (ne-eqb (suc (suc (suc n))) 2 (λ e. omega arith))
+
+module _ (s x : List ℕ) (long : length s ≡ 681) {c : ℕ} (w : Widened (getD x 0 0) c) where
+  grants-8 : length (map grantsOf (rows 8 5 (drop 4 s))) ≡ 8
+  grants-8 = length-map (rows 8 5 (drop 4 s)) grantsOf ∙ rows-length 8 5 (drop 4 s)
+
+  pub owner-none : 8 ≤ c → false ≡ isOwned (stateOf s) (processOf x)
+  unfolding isOwned processOf provisioned
+  owner-none h =
+      let e : getD (map grantsOf (rows 8 5 (drop 4 s))) (getD x 0 0) unprovisioned ≡ unprovisioned =
+      List·getD-eq-default (map grantsOf (rows 8 5 (drop 4 s))) unprovisioned (omega (arith, grants-8, w .is))
+      in
+      let none : getD (map grantsOf (rows 8 5 (drop 4 s))) (getD x 0 0) unprovisioned .provisioned ≡ false = ap (λ (g : Grants). g .provisioned) e in
+      rw (state-in s long, none)
+
+  flag : c < 8 → getD (map grantsOf (rows 8 5 (drop 4 s))) (getD x 0 0) unprovisioned .provisioned ≡ eqb (getD s (4 + c * 5) 0) 1
+  unfolding grantsOf
+  flag h =
+      let p : 0 < 4 + c * 5 + 5 - (4 + c * 5) = omega arith in
+      rw (← w .is, map-part grantsOf 8 5 4 s c unprovisioned h, getD-take (4 + c * 5 + 5 - (4 + c * 5)) (drop (4 + c * 5) s) 0 0 p, getD-drop (4 + c * 5) s 0 0, add-zero)
+
+  module _ (h : c < 8) where
+    pub owner-not : (getD s (4 + c * 5) 0 ≡ 1 → ⊥) → false ≡ isOwned (stateOf s) (processOf x)
+    unfolding isOwned processOf provisioned
+    owner-not n = rw (state-in s long, flag h, ne-eqb (getD s (4 + c * 5) 0) 1 n)
+
+    module _ (f : getD s (4 + c * 5) 0 ≡ 1) where
+      pub owner-saved : 2 ≤ getD x 1 0 → true ≡ isOwned (stateOf s) (processOf x)
+      unfolding isOwned processOf provisioned isActiveIn
+      owner-saved k = rw (state-in s long, flag h, eq-eqb (getD s (4 + c * 5) 0) 1 f, kind-saved (getD x 1 0) k)
+
+      active : (k : ℕ) → k < 2 → (isUser (kindOf k) || isElevation (kindOf k)) ≡ true
+      active zero l = refl
+      active (suc zero) l = refl
+      active (suc (suc k)) l = absurd (omega arith)
+
+      module _ (k : getD x 1 0 < 2) {t : ℕ} (u : Widened (getD x 2 0) t) where
+        seated : isOwned (stateOf s) (processOf x) ≡ isChosen (getD (map sessionOf (rows 4 1 s)) (getD x 2 0) closedSession .phase)
+        unfolding isOwned processOf provisioned isActiveIn phaseOf
+        seated =
+            rw (state-in s long, flag h, eq-eqb (getD s (4 + c * 5) 0) 1 f, active (getD x 1 0) k, eq-eqb (getD x 2 0) (getD x 2 0) refl)
+
+        pub owner-nowhere : 4 ≤ t → false ≡ isOwned (stateOf s) (processOf x)
+        unfolding isChosen
+        owner-nowhere z =
+            let l : length (map sessionOf (rows 4 1 s)) ≡ 4 = length-map (rows 4 1 s) sessionOf ∙ rows-length 4 1 s in
+            let e : getD (map sessionOf (rows 4 1 s)) (getD x 2 0) closedSession ≡ closedSession =
+            List·getD-eq-default (map sessionOf (rows 4 1 s)) closedSession (omega (arith, l, u .is))
+            in
+            sym (seated ∙ rw e)
+
+        pub owner-there : t < 4 → eqb (getD s t 0) 2 ≡ isOwned (stateOf s) (processOf x)
+        unfolding sessionOf
+        owner-there z =
+            let p : 0 < 0 + t * 1 + 1 - (0 + t * 1) = omega arith in
+            let q : 0 + t * 1 ≡ t = omega arith in
+            let e : getD (map sessionOf (rows 4 1 s)) (getD x 2 0) closedSession .phase ≡ phaseNumbered (getD s t 0) =
+            rw (← u .is, map-part sessionOf 4 1 0 s t closedSession z, getD-take (0 + t * 1 + 1 - (0 + t * 1)) (drop (0 + t * 1) s) 0 0 p, getD-drop (0 + t * 1) s 0 0, q, add-zero)
+            in
+            sym (seated ∙ rw e (chosen-of (getD s t 0)))
+
+-- ---- the rows of a slice of 681 bytes
+module _ {s : List ℕ} {i : ℕ} (v : RowsTo sessionFits 4 1 0 s i) (h : i < 4) where
+  at-row : sessionFits (take (0 + i * 1 + 1 - (0 + i * 1)) (drop (0 + i * 1) s)) ≡ leb (getD s i 0) 2
+  unfolding sessionFits
+  at-row =
+      let p : 0 < 0 + i * 1 + 1 - (0 + i * 1) = omega arith in
+      let q : 0 + i * 1 ≡ i = omega arith in
+      rw (getD-take (0 + i * 1 + 1 - (0 + i * 1)) (drop (0 + i * 1) s) 0 0 p, getD-drop (0 + i * 1) s 0 0, q, add-zero)
+
+  pub session-on : getD s i 0 ≤ 2 → RowsTo sessionFits 4 1 0 s (i + 1)
+  session-on k = rows-on {b = true} v h (sym (at-row ∙ le-leb (getD s i 0) 2 k)) refl
+
+  pub session-fail : 2 < getD s i 0 → false ≡ every sessionFits (rows 4 1 s)
+  session-fail k = rows-fail {b = false} v h (sym (at-row ∙ lt-leb (getD s i 0) 2 k)) refl
+
+pub session-all : {s : List ℕ} {i : ℕ} → RowsTo sessionFits 4 1 0 s i → 4 ≤ i → true ≡ every sessionFits (rows 4 1 s)
+session-all v h = rows-all v h
+
+-- every record: from the first on
+pub owned-fail : {f : Process → Bool} {n : ℕ} {s : List ℕ} {i : ℕ} {b : Bool} → RecordsTo f processOf n 53 45 s 0 i → i < n → b ≡ f (processOf (take (45 + i * 53 + 53 - (45 + i * 53)) (drop (45 + i * 53) s))) → not b ≡ true → false ≡ every f (map processOf (rows n 53 (drop 45 s)))
+owned-fail v h e q = records-fail v h e q
+
+pub owned-all : {f : Process → Bool} {n : ℕ} {s : List ℕ} {i : ℕ} → RecordsTo f processOf n 53 45 s 0 i → n ≤ i → true ≡ every f (map processOf (rows n 53 (drop 45 s)))
+owned-all v h = records-all v h
+
+-- the place at i with the later ones
+pub apart-begin : {f : Process → Bool} (n : ℕ) (s : List ℕ) (i : ℕ) → i < n → RecordsTo f processOf n 53 45 s (i + 1) (i + 1)
+apart-begin {f} n s i h = records-begin f processOf n 53 45 s (i + 1) (omega arith)
+
+module _ {n : ℕ} {s : List ℕ} {i a j : ℕ} {b : Bool} (v : RecordsTo (areApart (getD (map processOf (rows n 53 (drop 45 s))) i freePlace)) processOf n 53 45 s a j) (k : i < n) (h : j < n) (e : b ≡ areApart (processOf (take (45 + i * 53 + 53 - (45 + i * 53)) (drop (45 + i * 53) s))) (processOf (take (45 + j * 53 + 53 - (45 + j * 53)) (drop (45 + j * 53) s)))) where
+  with-first : b ≡ areApart (getD (map processOf (rows n 53 (drop 45 s))) i freePlace) (processOf (take (45 + j * 53 + 53 - (45 + j * 53)) (drop (45 + j * 53) s)))
+  with-first = e ∙ ap (λ (p : Process). areApart p (processOf (take (45 + j * 53 + 53 - (45 + j * 53)) (drop (45 + j * 53) s)))) (sym (map-part processOf n 53 45 s i freePlace k))
+
+  pub apart-on : not b ≡ false → RecordsTo (areApart (getD (map processOf (rows n 53 (drop 45 s))) i freePlace)) processOf n 53 45 s a (j + 1)
+  apart-on q = records-on v h with-first q
+
+  pub apart-fail : not b ≡ true → false ≡ every (areApart (getD (map processOf (rows n 53 (drop 45 s))) i freePlace)) (drop a (map processOf (rows n 53 (drop 45 s))))
+  apart-fail q = records-fail v h with-first q
+
+-- ---- all together: the first test that fails, and the last
+pub holds-short : (b : List ℕ) → (length b ≡ 681 → ⊥) → false ≡ holdsState b
+unfolding holdsState shaped
+holds-short b n = rw (ne-eqb (length b) 681 n)
+
+module _ (b : List ℕ) (h : length b ≡ 681) {n : ℕ} (w : Widened (getD b 44 0) n) where
+  pub holds-many : 12 < n → false ≡ holdsState b
+  unfolding holdsState shaped countIn
+  holds-many k =
+      rw (eq-eqb (length b) 681 h, ← w .is, lt-leb n 12 k, and-false (every grantsFit (rows 8 5 (drop 4 b))), and-false (every sessionFits (rows 4 1 b)))
+
+  module _ (k : n ≤ 12) where
+    tests : holdsState b ≡ (every sessionFits (rows 4 1 b) && (every grantsFit (rows 8 5 (drop 4 b)) && (every processFits (rows n 53 (drop 45 b)) && (every isZero (drop (45 + n * 53) b) && (every (isOwned (stateOf b)) (map processOf (rows n 53 (drop 45 b))) && pairwise areApart (map processOf (rows n 53 (drop 45 b))))))))
+    unfolding holdsState shaped countIn sound standing placesIn
+    tests =
+        rw (state-in b h, eq-eqb (length b) 681 h, ← w .is, le-leb n 12 k, map-take processOf n (rows 12 53 (drop 45 b)), rows-take n 12 53 (drop 45 b) k) (simp and-assoc)
+
+    module _ {p : Bool} (e : p ≡ every sessionFits (rows 4 1 b)) where
+      pub holds-sessions : not p ≡ true → false ≡ holdsState b
+      holds-sessions t = sym (tests ∙ rw (← e, not-true p t))
+
+      module _ (t : not p ≡ false) {q : Bool} (f : q ≡ every grantsFit (rows 8 5 (drop 4 b))) where
+        pub holds-credentials : not q ≡ true → false ≡ holdsState b
+        holds-credentials u = sym (tests ∙ rw (← e, not-false p t, ← f, not-true q u))
+
+        module _ (u : not q ≡ false) {r : Bool} (g : r ≡ every processFits (rows n 53 (drop 45 b))) where
+          pub holds-places : not r ≡ true → false ≡ holdsState b
+          holds-places x = sym (tests ∙ rw (← e, not-false p t, ← f, not-false q u, ← g, not-true r x))
+
+          module _ (x : not r ≡ false) {z : Bool} (i : z ≡ every isZero (drop (45 + n * 53) b)) where
+            pub holds-free : not z ≡ true → false ≡ holdsState b
+            holds-free y = sym (tests ∙ rw (← e, not-false p t, ← f, not-false q u, ← g, not-false r x, ← i, not-true z y))
+
+            module _ (y : not z ≡ false) {o : Bool} (j : o ≡ every (isOwned (stateOf b)) (map processOf (rows n 53 (drop 45 b)))) where
+              pub holds-owners : not o ≡ true → false ≡ holdsState b
+              holds-owners l = sym (tests ∙ rw (← e, not-false p t, ← f, not-false q u, ← g, not-false r x, ← i, not-false z y, ← j, not-true o l))
+
+              pub holds-pairs : not o ≡ false → {a : Bool} → a ≡ pairwise areApart (map processOf (rows n 53 (drop 45 b))) → a ≡ holdsState b
+              holds-pairs l m = m ∙ sym (tests ∙ rw (← e, not-false p t, ← f, not-false q u, ← g, not-false r x, ← i, not-false z y, ← j, not-false o l))
+
+pub ruleset rules = (needs, length-mapped, grants-high, grants-on, grants-off, process-credential, process-type, process-session, process-user, process-elevation, process-saved, same-begin, same-all, name-first, name-second, name-third, rivals-elsewhere, rivals-other, rivals-users, rivals-last, apart-rivals, apart-name, owner-none, owner-not, owner-saved, owner-nowhere, owner-there, grants-part, place-part, session-on, session-fail, session-all, owned-fail, owned-all, apart-begin, apart-on, apart-fail, holds-short, holds-many, holds-sessions, holds-credentials, holds-places, holds-free, holds-owners, holds-pairs, zero-begin, zero-on, zero-all, rows-begin, rows-on, rows-fail, rows-all, records-begin, records-on, records-all, paired-begin, paired-on, paired-fail, paired-all)

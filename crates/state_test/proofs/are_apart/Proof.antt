@@ -1,0 +1,18 @@
+use Rattle.state_test.proofs.Rules.{rules}
+use Rattle.state_test.proofs.are_apart.Statement.{statement}
+use Rattle.state_test.proofs.are_apart.Tie as tie
+
+are-rivals-requires : tie.Need-are-rivals-requires
+are-rivals-requires c κs = search rules
+
+returns : tie.Need-returns
+returns c = search rules
+
+same-name-requires : tie.Need-same-name-requires
+same-name-requires c κs = search rules
+
+returns-2 : tie.Need-returns-2
+returns-2 c = search rules
+
+pub are-apart-spec : {M : Type 1} → statement M
+are-apart-spec = tie.close (tie.spec are-rivals-requires returns same-name-requires returns-2)

@@ -1,0 +1,80 @@
+use Rattle.state_test.proofs.Rules.{rules}
+use Rattle.state_test.proofs.holds.Statement.{statement}
+use Rattle.state_test.proofs.holds.Tie as tie
+
+returns : tie.Need-returns
+returns c = search rules
+
+shared-slice-read-wide : tie.Need-shared-slice-read-wide
+shared-slice-read-wide c = search rules
+
+wide-requires : tie.Need-wide-requires
+wide-requires c κs = search rules
+
+returns-2 : tie.Need-returns-2
+returns-2 c = search rules
+
+sessions-fit-requires : tie.Need-sessions-fit-requires
+sessions-fit-requires c κs = search rules
+
+returns-3 : tie.Need-returns-3
+returns-3 c = search rules
+
+credentials-fit-requires : tie.Need-credentials-fit-requires
+credentials-fit-requires c κs = search rules
+
+returns-4 : tie.Need-returns-4
+returns-4 c = search rules
+
+places-fit-requires : tie.Need-places-fit-requires
+places-fit-requires c κs = search rules
+
+returns-5 : tie.Need-returns-5
+returns-5 c = search rules
+
+mul-zero-from : tie.Need-mul-zero-from
+mul-zero-from c = search rules
+
+add-zero-from : tie.Need-add-zero-from
+add-zero-from c = search rules
+
+zero-from-requires : tie.Need-zero-from-requires
+zero-from-requires c κs = search rules
+
+returns-6 : tie.Need-returns-6
+returns-6 c = search rules
+
+all-owned-requires : tie.Need-all-owned-requires
+all-owned-requires c κs = search rules
+
+returns-7 : tie.Need-returns-7
+returns-7 c = search rules
+
+all-apart-requires : tie.Need-all-apart-requires
+all-apart-requires c κs = search rules
+
+returns-8 : tie.Need-returns-8
+returns-8 c = search rules
+
+pub holds-spec : {M : Type 1} → statement M
+holds-spec =
+    tie.close
+    (tie.spec
+    returns
+    shared-slice-read-wide
+    wide-requires
+    returns-2
+    sessions-fit-requires
+    returns-3
+    credentials-fit-requires
+    returns-4
+    places-fit-requires
+    returns-5
+    mul-zero-from
+    add-zero-from
+    zero-from-requires
+    returns-6
+    all-owned-requires
+    returns-7
+    all-apart-requires
+    returns-8)

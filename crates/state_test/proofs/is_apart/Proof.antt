@@ -1,0 +1,103 @@
+use Rattle.table.specs.Table.{freePlace}
+use Rattle.codec.specs.Codec.{rows}
+use lib.ListN.{getD, drop}
+use mathlib.Core.List.{map}
+use Rattle.layout.specs.Layout.{processOf, areApart}
+use Rattle.codec.proofs.Loops.{RecordsTo}
+use Prim.Native.Nat.{_+_, _-_}
+use Rattle.state_test.proofs.Rules.{rules}
+use Rattle.state_test.proofs.is_apart.Statement.{statement}
+use Rattle.state_test.proofs.is_apart.Tie as tie
+
+abbrev Inv-loop : tie.InvT-loop
+Inv-loop s n i a e j₀ j = RecordsTo (areApart (getD (map processOf (rows n 53 (drop 45 s))) i freePlace)) processOf n 53 45 s (i + 1) j
+
+abbrev μ-loop : tie.MeasureT-loop
+μ-loop s n i a e j₀ j = n - j
+
+mul-a : tie.Need-mul-a Inv-loop μ-loop
+mul-a c = search rules
+
+add-a : tie.Need-add-a Inv-loop μ-loop
+add-a c = search rules
+
+add-e : tie.Need-add-e Inv-loop μ-loop
+add-e c = search rules
+
+add-j : tie.Need-add-j Inv-loop μ-loop
+add-j c = search rules
+
+loop-holds : tie.Need-loop-holds Inv-loop μ-loop
+loop-holds c = search rules
+
+mul-f : tie.Need-mul-f Inv-loop μ-loop
+mul-f c = search rules
+
+add-f : tie.Need-add-f Inv-loop μ-loop
+add-f c = search rules
+
+add-g : tie.Need-add-g Inv-loop μ-loop
+add-g c = search rules
+
+sub-are-apart : tie.Need-sub-are-apart Inv-loop μ-loop
+sub-are-apart c = search rules
+
+part-are-apart-start : tie.Need-part-are-apart-start Inv-loop μ-loop
+part-are-apart-start c = search rules
+
+part-are-apart-end : tie.Need-part-are-apart-end Inv-loop μ-loop
+part-are-apart-end c = search rules
+
+sub-are-apart-2 : tie.Need-sub-are-apart-2 Inv-loop μ-loop
+sub-are-apart-2 c = search rules
+
+part-are-apart-start-2 : tie.Need-part-are-apart-start-2 Inv-loop μ-loop
+part-are-apart-start-2 c = search rules
+
+part-are-apart-end-2 : tie.Need-part-are-apart-end-2 Inv-loop μ-loop
+part-are-apart-end-2 c = search rules
+
+are-apart-requires : tie.Need-are-apart-requires Inv-loop μ-loop
+are-apart-requires c κs = search rules
+
+returns : tie.Need-returns Inv-loop μ-loop
+returns c = search rules
+
+add-j-2 : tie.Need-add-j-2 Inv-loop μ-loop
+add-j-2 c = search rules
+
+loop-less : tie.Need-loop-less Inv-loop μ-loop
+loop-less c = search rules
+
+loop-again : tie.Need-loop-again Inv-loop μ-loop
+loop-again c = search rules
+
+returns-2 : tie.Need-returns-2 Inv-loop μ-loop
+returns-2 c = search rules
+
+pub is-apart-spec : {M : Type 1} → statement M
+is-apart-spec =
+    tie.close
+    (tie.spec
+    Inv-loop
+    μ-loop
+    mul-a
+    add-a
+    add-e
+    add-j
+    loop-holds
+    mul-f
+    add-f
+    add-g
+    sub-are-apart
+    part-are-apart-start
+    part-are-apart-end
+    sub-are-apart-2
+    part-are-apart-start-2
+    part-are-apart-end-2
+    are-apart-requires
+    returns
+    add-j-2
+    loop-less
+    loop-again
+    returns-2)

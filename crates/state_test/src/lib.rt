@@ -1,0 +1,297 @@
+// Whether a slice holds a state, tested where it lies. docs/STATE.md draws the layout.
+ghost use mathlib.Core.Path.{_≡_};
+ghost use mathlib.Core.List.{map};
+ghost use Prim.Native.Nat.{_+_, _<_, _≤_};
+ghost use lib.ListN.{length, take, drop, getD};
+ghost use Rattle.codec.specs.Codec.{rows, every, pairwise, isZero, Widened};
+ghost use Rattle.names.specs.Names.{sameBytes};
+ghost use Rattle.table.specs.Table.{freePlace};
+ghost use Rattle.layout.specs.Layout.{sessionFits, grantsFit, processOf, processFits, stateOf, isOwned, areRivals, areApart, holdsState};
+
+// ---- bytes
+
+// A byte as an index.
+fn wide(x: u8) -> usize
+    ensures { λ r. ⌜ Widened x r ⌝ }
+{
+    x as usize
+}
+
+// Whether every byte from an index on is zero. There is no exit, so that many are read at a time.
+fn zero_from(s: &[u8], from: usize) -> bool
+    requires { ⌜ from ≤ length (now s) ⌝ }
+    ensures { λ r. ⌜ r ≡ every isZero (drop from (now (s .entry))) ⌝ }
+{
+    let mut d: u8 = 0;
+    let mut i = from;
+    while i < s.len() {
+        d = d | s[i];
+        i += 1;
+    }
+    d == 0
+}
+
+// Whether 16 bytes agree, from an index on. There is no exit, so that many are read at a time.
+fn same16<'a>(a: &'a [u8], b: &'a [u8], at: usize) -> bool
+    requires { ⌜ at + 16 ≤ length (now a) ⌝ }
+    requires { ⌜ at + 16 ≤ length (now b) ⌝ }
+    ensures { λ r. ⌜ r ≡ sameBytes (take 16 (drop at (now (a .entry)))) (take 16 (drop at (now (b .entry)))) ⌝ }
+{
+    let mut same = true;
+    let mut i: usize = 0;
+    while i < 16 {
+        if a[at + i] != b[at + i] {
+            same = false;
+        }
+        i += 1;
+    }
+    same
+}
+
+// ---- the fields
+
+fn sessions_fit(s: &[u8]) -> bool
+    requires { ⌜ length (now s) ≡ 681 ⌝ }
+    ensures { λ r. ⌜ r ≡ every sessionFits (rows 4 1 (now (s .entry))) ⌝ }
+{
+    let mut i: usize = 0;
+    while i < 4 {
+        let phase = s[i];
+        if 2 < phase {
+            return false;
+        }
+        i += 1;
+    }
+    true
+}
+
+fn grants_fit(row: &[u8]) -> bool
+    requires { ⌜ length (now row) ≡ 5 ⌝ }
+    ensures { λ r. ⌜ r ≡ grantsFit (now (row .entry)) ⌝ }
+{
+    let flag = row[0];
+    if 1 < flag {
+        return false;
+    }
+    if flag == 1 {
+        return true;
+    }
+    zero_from(row, 1)
+}
+
+fn credentials_fit(s: &[u8]) -> bool
+    requires { ⌜ length (now s) ≡ 681 ⌝ }
+    ensures { λ r. ⌜ r ≡ every grantsFit (rows 8 5 (drop 4 (now (s .entry)))) ⌝ }
+{
+    let mut i: usize = 0;
+    while i < 8 {
+        let a = 4 + i * 5;
+        let e = a + 5;
+        if !grants_fit(&s[a..e]) {
+            return false;
+        }
+        i += 1;
+    }
+    true
+}
+
+fn process_fits(row: &[u8]) -> bool
+    requires { ⌜ length (now row) ≡ 53 ⌝ }
+    ensures { λ r. ⌜ r ≡ processFits (now (row .entry)) ⌝ }
+{
+    let kind = row[1];
+    let session = row[2];
+    if 7 < row[0] {
+        return false;
+    }
+    if 2 < kind {
+        return false;
+    }
+    if 3 < session {
+        return false;
+    }
+    if kind == 0 {
+        return true;
+    }
+    if kind == 1 {
+        return names::number16(row[3], row[4]) == 0;
+    }
+    session == 0
+}
+
+fn places_fit(s: &[u8], n: usize) -> bool
+    requires { ⌜ length (now s) ≡ 681 ⌝ }
+    requires { ⌜ n ≤ 12 ⌝ }
+    ensures { λ r. ⌜ r ≡ every processFits (rows n 53 (drop 45 (now (s .entry)))) ⌝ }
+{
+    let mut i: usize = 0;
+    while i < n {
+        let a = 45 + i * 53;
+        let e = a + 53;
+        if !process_fits(&s[a..e]) {
+            return false;
+        }
+        i += 1;
+    }
+    true
+}
+
+// ---- owners and sessions
+
+// Whether the owner of a place is provisioned, and its session open with version 1.0 where it is active.
+fn is_owned<'a>(s: &'a [u8], row: &'a [u8]) -> bool
+    requires { ⌜ length (now s) ≡ 681 ⌝ }
+    requires { ⌜ length (now row) ≡ 53 ⌝ }
+    ensures { λ r. ⌜ r ≡ isOwned (stateOf (now (s .entry))) (processOf (now (row .entry))) ⌝ }
+{
+    let credential = wide(row[0]);
+    let kind = row[1];
+    let session = wide(row[2]);
+    if 8 <= credential {
+        return false;
+    }
+    if s[4 + credential * 5] != 1 {
+        return false;
+    }
+    if 2 <= kind {
+        return true;
+    }
+    if 4 <= session {
+        return false;
+    }
+    s[session] == 2
+}
+
+fn all_owned(s: &[u8], n: usize) -> bool
+    requires { ⌜ length (now s) ≡ 681 ⌝ }
+    requires { ⌜ n ≤ 12 ⌝ }
+    ensures { λ r. ⌜ r ≡ every (isOwned (stateOf (now (s .entry)))) (map processOf (rows n 53 (drop 45 (now (s .entry))))) ⌝ }
+{
+    let mut i: usize = 0;
+    while i < n {
+        let a = 45 + i * 53;
+        let e = a + 53;
+        if !is_owned(s, &s[a..e]) {
+            return false;
+        }
+        i += 1;
+    }
+    true
+}
+
+// ---- pairs
+
+// Whether both places are the active user process of one session and credential, or both the elevation of one session.
+fn are_rivals<'a>(a: &'a [u8], b: &'a [u8]) -> bool
+    requires { ⌜ length (now a) ≡ 53 ⌝ }
+    requires { ⌜ length (now b) ≡ 53 ⌝ }
+    ensures { λ r. ⌜ r ≡ areRivals (processOf (now (a .entry))) (processOf (now (b .entry))) ⌝ }
+{
+    let kind = a[1];
+    let other = b[1];
+    let session = a[2];
+    let elsewhere = b[2];
+    if session != elsewhere {
+        return false;
+    }
+    if kind != other {
+        return false;
+    }
+    if kind == 0 {
+        return a[0] == b[0];
+    }
+    kind == 1
+}
+
+// Whether the names of two places agree in all 48 bytes: 16, then 16, then 16.
+fn same_name<'a>(a: &'a [u8], b: &'a [u8]) -> bool
+    requires { ⌜ length (now a) ≡ 53 ⌝ }
+    requires { ⌜ length (now b) ≡ 53 ⌝ }
+    ensures { λ r. ⌜ r ≡ sameBytes (drop 5 (now (a .entry))) (drop 5 (now (b .entry))) ⌝ }
+{
+    if !same16(a, b, 5) {
+        return false;
+    }
+    if !same16(a, b, 21) {
+        return false;
+    }
+    same16(a, b, 37)
+}
+
+fn are_apart<'a>(a: &'a [u8], b: &'a [u8]) -> bool
+    requires { ⌜ length (now a) ≡ 53 ⌝ }
+    requires { ⌜ length (now b) ≡ 53 ⌝ }
+    ensures { λ r. ⌜ r ≡ areApart (processOf (now (a .entry))) (processOf (now (b .entry))) ⌝ }
+{
+    if are_rivals(a, b) {
+        return false;
+    }
+    !same_name(a, b)
+}
+
+// Whether the place at i is apart from each later one.
+fn is_apart(s: &[u8], n: usize, i: usize) -> bool
+    requires { ⌜ length (now s) ≡ 681 ⌝ }
+    requires { ⌜ n ≤ 12 ⌝ }
+    requires { ⌜ i < n ⌝ }
+    ensures { λ r. ⌜ r ≡ every (areApart (getD (map processOf (rows n 53 (drop 45 (now (s .entry))))) i freePlace)) (drop (i + 1) (map processOf (rows n 53 (drop 45 (now (s .entry)))))) ⌝ }
+{
+    let a = 45 + i * 53;
+    let e = a + 53;
+    let mut j = i + 1;
+    while j < n {
+        let f = 45 + j * 53;
+        let g = f + 53;
+        if !are_apart(&s[a..e], &s[f..g]) {
+            return false;
+        }
+        j += 1;
+    }
+    true
+}
+
+fn all_apart(s: &[u8], n: usize) -> bool
+    requires { ⌜ length (now s) ≡ 681 ⌝ }
+    requires { ⌜ n ≤ 12 ⌝ }
+    ensures { λ r. ⌜ r ≡ pairwise areApart (map processOf (rows n 53 (drop 45 (now (s .entry))))) ⌝ }
+{
+    let mut i: usize = 0;
+    while i < n {
+        if !is_apart(s, n, i) {
+            return false;
+        }
+        i += 1;
+    }
+    true
+}
+
+// ---- the whole
+
+// Whether a slice holds a state.
+pub fn holds(s: &[u8]) -> bool
+    ensures { λ r. ⌜ r ≡ holdsState (now (s .entry)) ⌝ }
+{
+    if s.len() != 681 {
+        return false;
+    }
+    let n = wide(s[44]);
+    if 12 < n {
+        return false;
+    }
+    if !sessions_fit(s) {
+        return false;
+    }
+    if !credentials_fit(s) {
+        return false;
+    }
+    if !places_fit(s, n) {
+        return false;
+    }
+    if !zero_from(s, 45 + n * 53) {
+        return false;
+    }
+    if !all_owned(s, n) {
+        return false;
+    }
+    all_apart(s, n)
+}
