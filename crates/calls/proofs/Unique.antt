@@ -30,6 +30,8 @@ use Rattle.calls.proofs.set_word.Kinds as set-word-kinds
 use Rattle.calls.proofs.set_word.Reads as set-word
 use Rattle.calls.proofs.fresh.Kinds as fresh-kinds
 use Rattle.calls.proofs.fresh.Reads as fresh
+use Rattle.calls.proofs.among_of.Kinds as among-of-kinds
+use Rattle.calls.proofs.among_of.Reads as among-of
 
 pub answer-number-once : OneAnswer 0 answer-number-kinds.ps answer-number-kinds.r answer-number.Post
 answer-number-once κs a x y s t p q = p ∙ sym q
@@ -72,3 +74,6 @@ set-word-once κs a x y s t p q = p ∙ sym q
 
 pub fresh-once : OneAnswer 0 fresh-kinds.ps fresh-kinds.r fresh.Post
 fresh-once κs a x y s t p q = p ∙ sym q
+
+pub among-of-once : OneAnswer 0 among-of-kinds.ps among-of-kinds.r among-of.Post
+among-of-once κs a x y s t p q = p ∙ sym q

@@ -594,7 +594,8 @@ fn is_wanted(wanted: Wanted) -> bool
     }
 }
 
-fn among_of(wanted: Wanted) -> Among
+// The processes that a listing has.
+pub fn among_of(wanted: Wanted) -> Among
     ensures { λ r. ⌜ r ≡ amongOf wanted ⌝ }
 {
     match wanted {

@@ -22,6 +22,8 @@ use Rattle.table.proofs.removed.Kinds as removed-kinds
 use Rattle.table.proofs.removed.Reads as removed
 use Rattle.table.proofs.without_session.Kinds as without-session-kinds
 use Rattle.table.proofs.without_session.Reads as without-session
+use Rattle.table.proofs.is_among.Kinds as is-among-kinds
+use Rattle.table.proofs.is_among.Reads as is-among
 
 pub size-once : OneAnswer 0 size-kinds.ps size-kinds.r size.Post
 size-once κs a x y s t p q = p ∙ sym q
@@ -52,3 +54,6 @@ without-session-once κs a x y s t p q = p ∙ sym q
 
 pub count-among-once : OneAnswer 0 count-among-kinds.ps count-among-kinds.r count-among.Post
 count-among-once κs a x y s t p q = p ∙ sym q
+
+pub is-among-once : OneAnswer 0 is-among-kinds.ps is-among-kinds.r is-among.Post
+is-among-once κs a x y s t p q = p ∙ sym q

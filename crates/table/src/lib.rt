@@ -99,7 +99,8 @@ fn is_active_in(p: Process, session: Session) -> bool
     }
 }
 
-fn is_among(p: Process, among: Among) -> bool
+// Whether p is among those.
+pub fn is_among(p: Process, among: Among) -> bool
     ensures { λ r. ⌜ r ≡ isAmong among p ⌝ }
 {
     let kind = p.kind;

@@ -1,8 +1,8 @@
 -- The rows of a table's processes: how many there are, and the loops that count and write them.
 -- Assumes nothing.
-use Prim.Native.Nat.{ℕ, suc, _+_, _*_, _<_, _≤_}
+use Prim.Native.Nat.{ℕ, _+_, _*_, _<_, _≤_}
 use mathlib.Core.Path.{_≡_, refl, sym, ap, _∙_}
-use mathlib.Core.Bool.{Bool, true, false}
+use mathlib.Core.Bool.{true, false}
 use mathlib.Core.List.{List, [], _∷_, _++_, map}
 use native.Mathlib.Numerals.{add-one}
 use native.Mathlib.Omega.{arith}
@@ -11,7 +11,7 @@ use lib.ListN.{length, getD, take, drop, length-take, length-drop, length-map, d
 use lib.Seq.{drop-cons, getD-take, length-take-le}
 use Rattle.lists.specs.Bytes.{bytesOf}
 use Rattle.lists.specs.Lists.{select, join}
-use Rattle.lists.proofs.Tests.{split}
+use Rattle.lists.proofs.Lists.{length-select}
 use Rattle.names.specs.Names.{rowBytes}
 use Rattle.names.specs.declared.Row.{Row}
 use Rattle.table.specs.Table.{isAmong}
@@ -24,12 +24,6 @@ use Rattle.wire.specs.Wire.{rowsAmong, rowsOver, listingOver}
 use Rattle.wire.proofs.Bytes.{over-none, over-part, over-append, over-length}
 
 -- belongs in lists: as many as pass are at most all
-length-select : {A : Type 0} (f : A → Bool) (l : List A) → length (select f l) ≤ length l
-unfolding select
-length-select f [] = omega arith
-length-select f (x ∷ xs) =
-    split (f x) (λ e. rw e (omega (arith, length-select f xs))) (λ e. rw e (omega (arith, length-select f xs)))
-
 pub rows-few : (wanted : Wanted) (l : List Process) → length (rowsAmong wanted l) ≤ length l
 unfolding rowsAmong
 rows-few wanted l = rw length-map (length-select (isAmong (amongOf wanted)) l)
@@ -57,32 +51,6 @@ unfolding rowsAmong select
 rest-none wanted l n i h k =
     let few : length (take n l) ≤ i = omega (arith, length-take-le n l k) in
     rw (drop-of-length-le (take n l) few)
-
--- ---- the loop that counts: k rows are before place i
-pub record Counted (wanted : Wanted) (l : List Process) (n k i : ℕ) : Type 0 where
-  pub low : i ≤ n
-  pub within : n ≤ length l
-  pub small : n ≤ 12
-  pub few : k ≤ i
-  pub is : length (rowsAmong wanted (take n l)) ≡ k + length (rest wanted l n i)
-
-pub counted-none : (wanted : Wanted) (l : List Process) (n : ℕ) → n ≤ length l → n ≤ 12 → Counted wanted l n 0 0
-counted-none wanted l n h s = record { low = omega arith; within = h; small = s; few = omega arith; is = omega arith }
-
-module _ {wanted : Wanted} {l : List Process} {n k i : ℕ} (v : Counted wanted l n k i) where
-  module _ (h : i < n) where
-    pub counted-hit : isAmong (amongOf wanted) (getD l i noProcess) ≡ true → Counted wanted l n (k + 1) (i + 1)
-    counted-hit e =
-        let one : length (rest wanted l n i) ≡ suc (length (rest wanted l n (i + 1))) = ap length (rest-hit wanted l n i h (v .within) e) in
-        record { low = omega arith; within = v .within; small = v .small; few = omega arith; is = omega arith }
-
-    pub counted-miss : isAmong (amongOf wanted) (getD l i noProcess) ≡ false → Counted wanted l n k (i + 1)
-    counted-miss e =
-        let none : length (rest wanted l n i) ≡ length (rest wanted l n (i + 1)) = ap length (rest-miss wanted l n i h (v .within) e) in
-        record { low = omega arith; within = v .within; small = v .small; few = omega arith; is = omega arith }
-
-  pub counted-all : n ≤ i → k ≡ length (rowsAmong wanted (take n l))
-  counted-all h = omega (arith, ap length (rest-none wanted l n i h (v .within)))
 
 -- ---- the loop that writes: k rows are written, and those that are left would go on from there
 abbrev bytesOfRows : List Row → List ℕ

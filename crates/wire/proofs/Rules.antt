@@ -12,17 +12,17 @@ use borrow.Author.Tests.{not-true, not-false, eq-eqb, ne-eqb, le-leb, lt-leb, lt
 use mir.Val.{Fits}
 use mir.Syntax.{w16, w64}
 use lib.Dec.{eqb, leb, ltb}
-use lib.ListN.{length, getD, take, drop, set, length-take, length-drop, List·getD-eq-default}
+use lib.ListN.{length, getD, take, drop, set, length-take, length-drop, length-map, List·getD-eq-default}
 use lib.Seq.{getD-take, getD-drop}
 use Rattle.lists.specs.Bytes.{bytesOf, number}
 use Rattle.lists.proofs.Lists.{length-mapped}
 use Rattle.lists.proofs.Tests.{split, and-left, and-right}
 use Rattle.names.specs.Names.{rowBytes, rowIn, isRow, readRow}
-use Rattle.names.specs.declared.Credential.{Credential}
 use Rattle.names.specs.declared.Row.{Row}
 use Rattle.names.specs.declared.RowRead.{RowRead}
 use Rattle.names.proofs.Laws.{row-read, row-in}
-use Rattle.table.specs.Table.{standing, size, isAmong}
+use Rattle.table.specs.Table.{standing, size, isAmong, countAmong}
+use Rattle.table.specs.declared.Among.{Among}
 use Rattle.table.specs.declared.Process.{Process}
 use Rattle.table.specs.declared.Table.{Table}
 use Rattle.table.proofs.Laws.{standing-front, standing-few, size-few}
@@ -31,14 +31,13 @@ use Rattle.claims.specs.Numbers.{_unless_}
 use Rattle.claims.proofs.Laws.{stop, pass, when-true, when-false, unless-true, unless-false}
 use Rattle.calls.specs.Listing.{amongOf, rowOf, authProcesses, messageLength, listing}
 use Rattle.calls.specs.declared.Wanted.{Wanted}
-use Rattle.calls.specs.declared.Wanted.the-variants.{Every, Only}
 use Rattle.wire.specs.Bytes.{head, isHeaded, headNumber, allFrom, over}
 use Rattle.wire.specs.Wire.{request, getAuthProcesses, requestNumber, readRequest, requestRoom, rowPart, isRowAt, isListing, countNumber, readCount, refusedRow, rowNumber, readRowAt, rowsAmong, rowsOver, listingOver, listingLength}
 use Rattle.wire.specs.declared.CountRead.{CountRead}
 use Rattle.wire.specs.declared.RequestRead.{RequestRead}
 use Rattle.wire.specs.declared.RowAnswer.{RowAnswer}
 use Rattle.wire.proofs.Bytes.{Tested, tested-none, tested-more, tested-miss, tested-all, all-at, over-short, over-length}
-use Rattle.wire.proofs.Rows.{rows-few, Counted, counted-none, counted-hit, counted-miss, counted-all, Written, written-none, written-room, written-hit, written-miss, written-all, listing-whole}
+use Rattle.wire.proofs.Rows.{rows-few, Written, written-none, written-room, written-hit, written-miss, written-all, listing-whole}
 use Rattle.wire.proofs.Rows as Rows
 use Rattle.wire.proofs.Laws.{list-bytes, list-stays}
 
@@ -224,14 +223,13 @@ module _ (message : List ℕ) (at : ℕ) {counted : CountRead} (e : counted ≡ 
           rw (none, q, whole, row-read (take 51 (drop (4 + 51 * at) message)) (listing-row message listed at (omega (arith, counts))))
 
 -- ---- the rows of a table
-module _ (p : Process) {wanted : Wanted} where
-  pub wanted-every : wanted ≡ Every → true ≡ isAmong (amongOf wanted) p
-  unfolding isAmong
-  wanted-every w = rw w
+module _ (wanted : Wanted) {among : Among} (e : among ≡ amongOf wanted) where
+  pub wanted-is : {b : Bool} (p : Process) → b ≡ isAmong among p → b ≡ isAmong (amongOf wanted) p
+  wanted-is p q = q ∙ rw e
 
-  pub wanted-only : {c : Credential} → wanted ≡ Only c → eqb (p .credential .0) (c .0) ≡ isAmong (amongOf wanted) p
-  unfolding isAmong
-  wanted-only w = rw w
+  pub count-is : {n : ℕ} (t : Table) → n ≡ countAmong t among → n ≡ length (rowsAmong wanted (standing t))
+  unfolding countAmong rowsAmong
+  count-is t q = q ∙ rw (e, length-map)
 
 module _ (t : Table) {n : ℕ} (e : n ≡ size t) where
   front : take n (t .places) ≡ standing t
@@ -239,25 +237,12 @@ module _ (t : Table) {n : ℕ} (e : n ≡ size t) where
   front = ap (λ (m : ℕ). take m (t .places)) e ∙ standing-front t
 
   module _ (wanted : Wanted) where
-    pub count-begin : length (t .places) ≡ 12 → Counted wanted (t .places) n 0 0
-    count-begin h = counted-none wanted (t .places) n (omega (arith, size-few t h)) (omega (arith, size-few t h))
-
-    pub count-end : {k i : ℕ} → Counted wanted (t .places) n k i → n ≤ i → k ≡ length (rowsAmong wanted (standing t))
-    count-end v h = counted-all v h ∙ rw front
-
     pub rows-begin : {old : List ℕ} → length (t .places) ≡ 12 → messageLength (length (rowsAmong wanted (standing t))) ≤ length old → Written wanted old (t .places) n old 0 0
     unfolding messageLength
     rows-begin {old} h r = written-none wanted old (t .places) n (omega (arith, size-few t h)) (omega (arith, size-few t h)) (rw front r)
 
     pub rows-end : {old new : List ℕ} {k i : ℕ} → Written wanted old (t .places) n new k i → n ≤ i → new ≡ rowsOver (rowsAmong wanted (standing t)) old
     rows-end v h = written-all v h ∙ rw front
-
-module _ {wanted : Wanted} {l : List Process} {n k k′ i : ℕ} {b : Bool} (v : Counted wanted l n k i) (h : i < n) (e : b ≡ isAmong (amongOf wanted) (getD l i noProcess)) where
-  pub count-on : b ≡ true → k′ ≡ k + 1 → Counted wanted l n k′ (i + 1)
-  count-on t q = rw q (counted-hit v h (sym e ∙ t))
-
-  pub count-over : b ≡ false → k′ ≡ k → Counted wanted l n k′ (i + 1)
-  count-over t q = rw q (counted-miss v h (sym e ∙ t))
 
 module _ {wanted : Wanted} {old : List ℕ} {l : List Process} {n : ℕ} {new : List ℕ} {k i : ℕ} {b : Bool}
     (v : Written wanted old l n new k i) (h : i < n) (e : b ≡ isAmong (amongOf wanted) (getD l i noProcess)) where
@@ -324,4 +309,4 @@ module _ (t : Table) (wanted : Wanted) (old : List ℕ) {count : ℕ} (e : count
       pub listing-put : {new : List ℕ} → new ≡ rowsOver (rowsAmong wanted (standing t)) mid → new ≡ listingOver (rowsAmong wanted (standing t)) old
       listing-put q = q ∙ rw (m, e) (listing-whole (rowsAmong wanted (standing t)) old (omega (arith, length-is)))
 
-pub ruleset rules = (needs, length-mapped, byte-past, headed-code, headed-length, head-number, head-put, head-reach, over-stays, request-refused, request-got, room-short, room-enough, request-put, row-whole, row-cut, tested-none, test-on, test-miss, test-all, listing-rows, listing-not, count-refused, count-got, row-refused, row-past, row-inside, row-answer, wanted-every, wanted-only, count-begin, count-end, rows-begin, rows-end, count-on, count-over, rows-room, rows-on, rows-over, rows-length, rows-fit, listing-fits, count-fits, listing-short, listing-stays, listing-length, listing-room, listing-put, list-bytes, list-stays)
+pub ruleset rules = (needs, length-mapped, byte-past, headed-code, headed-length, head-number, head-put, head-reach, over-stays, request-refused, request-got, room-short, room-enough, request-put, row-whole, row-cut, tested-none, test-on, test-miss, test-all, listing-rows, listing-not, count-refused, count-got, row-refused, row-past, row-inside, row-answer, wanted-is, count-is, rows-begin, rows-end, rows-room, rows-on, rows-over, rows-length, rows-fit, listing-fits, count-fits, listing-short, listing-stays, listing-length, listing-room, listing-put, list-bytes, list-stays)

@@ -201,10 +201,8 @@ pub fn read_row_at(message: &[u8], at: usize) -> RowAnswer
 fn is_wanted(p: Process, wanted: Wanted) -> bool
     ensures { λ r. ⌜ r ≡ isAmong (amongOf wanted) p ⌝ }
 {
-    match wanted {
-        Wanted::Every => true,
-        Wanted::Only(c) => p.credential.0 == c.0,
-    }
+    let among = calls::among_of(wanted);
+    table::is_among(p, among)
 }
 
 fn row_of(p: Process) -> Row
@@ -224,18 +222,8 @@ fn row_of(p: Process) -> Row
 fn row_count(t: Table, wanted: Wanted) -> usize
     ensures { λ r. ⌜ r ≡ length (rowsAmong wanted (standing t)) ⌝ }
 {
-    let n = table::size(t);
-    let places = t.places;
-    let mut count: usize = 0;
-    let mut i: usize = 0;
-    while i < n {
-        let p = places[i];
-        if is_wanted(p, wanted) {
-            count += 1;
-        }
-        i += 1;
-    }
-    count
+    let rows = calls::among_of(wanted);
+    table::count_among(t, rows)
 }
 
 // The rows, each in the 51 bytes from its own offset.

@@ -2,17 +2,14 @@ use Rattle.wire.proofs.Rules.{rules}
 use Rattle.wire.proofs.is_wanted.Statement.{statement}
 use Rattle.wire.proofs.is_wanted.Tie as tie
 
-enum-told : tie.Need-enum-told
-enum-told c = search rules
+among-of-requires : tie.Need-among-of-requires
+among-of-requires c κs = search rules
 
-enum-known-wanted : tie.Need-enum-known-wanted
-enum-known-wanted c = search rules
+is-among-requires : tie.Need-is-among-requires
+is-among-requires c κs = search rules
 
 returns : tie.Need-returns
 returns c = search rules
 
-returns-2 : tie.Need-returns-2
-returns-2 c = search rules
-
 pub is-wanted-spec : {M : Type 1} → statement M
-is-wanted-spec = tie.close (tie.spec enum-told enum-known-wanted returns returns-2)
+is-wanted-spec = tie.close (tie.spec among-of-requires is-among-requires returns)
