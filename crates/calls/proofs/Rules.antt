@@ -191,8 +191,8 @@ module _ (st : State) (wanted : Wanted) {among : Among} {n : ℕ} (a : among ≡
   pub length-fits : length (st .table .places) ≡ 12 → Fits w64 (51 * n)
   length-fits h = omega (arith, few h)
 
-  pub length-whole : length (st .table .places) ≡ 12 → Fits w64 (4 + 51 * n)
-  length-whole h = omega (arith, few h)
+  pub length-whole : (k : ℕ) → k ≤ 64 → length (st .table .places) ≡ 12 → Fits w64 (k + 51 * n)
+  length-whole k small h = omega (arith, few h)
 
   pub length-is : 4 + 51 * n ≡ messageLength (length (rowsOf st wanted))
   unfolding messageLength rowsOf countAmong

@@ -9,7 +9,8 @@ use native.Mathlib.Omega.{arith}
 use borrow.Author.Tests.{eqb-true}
 use lib.ListN.{length, getD, take, drop, set, replicate, length-drop, length-append, length-replicate, replicate-append-replicate, take-append-drop}
 use lib.Seq.{split-at, set-split, length-take-le, take-at, drop-at, drop-drop, take-add, getD-drop}
-use Rattle.codec.specs.Codec.{rows, every, pairwise, isZero, Each, each-nil, each-cons, Pairs, pairs-nil, pairs-cons}
+use Rattle.codec.specs.Codec.{rows, every, pairwise, isZero}
+use Rattle.lists.specs.Each.{Each, each-nil, each-cons, Pairs, pairs-nil, pairs-cons}
 use Rattle.lists.specs.Lists.{join}
 use Rattle.lists.specs.Bytes.{number, Bytes}
 use Rattle.lists.proofs.Tests.{and-left, and-right}

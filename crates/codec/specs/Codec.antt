@@ -24,15 +24,6 @@ pairwise f (x ∷ xs) = every (f x) xs && pairwise f xs
 abbrev pub isZero : ℕ → Bool
 isZero x = eqb x 0
 
--- a fact of each element; and of each element with each later one
-pub data Each {A : Type 0} (P : A → Type 0) : List A → Type 0 where
-  each-nil : Each P []
-  each-cons : {x : A} {l : List A} → P x → Each P l → Each P (x ∷ l)
-
-pub data Pairs {A : Type 0} (R : A → A → Type 0) : List A → Type 0 where
-  pairs-nil : Pairs R []
-  pairs-cons : {x : A} {l : List A} → Each (R x) l → Pairs R l → Pairs R (x ∷ l)
-
 -- the list with these in the place of as many, from an offset on
 unfoldable pub over : {A : Type 0} → ℕ → List A → List A → List A
 over off ys b = take off b ++ (ys ++ drop (off + length ys) b)

@@ -24,7 +24,7 @@ use Rattle.claims.specs.declared.State.{State}
 use Rattle.claims.specs.declared.UserClaim.{UserClaim}
 use Rattle.claims.proofs.Laws.{clear-first, clear-rest, clear-when, clear-unless}
 use Rattle.calls.specs.Calls.{Call, Open, Close, Drop, Select, Start, Continue, Elevate, End, Record, List′, Kill, SetWord, isFull, hasNamed, namedPlace, reach, number}
-use Rattle.history.specs.Each.{Each}
+use Rattle.lists.specs.Each.{Each}
 use Rattle.history.specs.Demand.{processes}
 use Rattle.history.proofs.Rows.{Stands, found, each-fails}
 

@@ -32,7 +32,7 @@ use Rattle.claims.specs.declared.State.{State}
 use Rattle.claims.specs.declared.UserClaim.{UserClaim}
 use Rattle.calls.specs.Calls.{Call, Open, Close, Drop, Select, Start, Continue, Elevate, End, Record, List′, Kill, SetWord, number, withTable, userProcess, elevation, activated, saved, oneMore, namedPlace, reach, counted, ended, effect, refusal, answerNumber, outcome}
 use Rattle.calls.specs.Run.{step, run}
-use Rattle.history.specs.Each.{Each}
+use Rattle.lists.specs.Each.{Each}
 use Rattle.history.specs.History.{Event, history}
 use Rattle.history.specs.Lives.{Life, Gone, Live, Kept, counts, ends, shuts, drops, resumes, after, onward, follow, down}
 use Rattle.history.specs.Demand.{processes, Distinct, life, lifeOf}

@@ -26,7 +26,7 @@ use Rattle.claims.specs.declared.Phase.the-variants.{Chosen}
 use Rattle.claims.specs.declared.SessionState.{SessionState}
 use Rattle.claims.specs.declared.State.{State}
 use Rattle.calls.specs.Calls.{withTable, withPhase, withWord, taken, fresh}
-use Rattle.history.specs.Each.{Each, each-nil, each-cons, Pairs, pairs-nil}
+use Rattle.lists.specs.Each.{Each, each-nil, each-cons, Pairs, pairs-nil}
 use Rattle.history.specs.Demand.{processes, isRunning, Distinct, NotBoth, Holds, SameOwners}
 use Rattle.history.proofs.Rows.{passes-set, same-set, each-imp, each-imp₂, each-both, pairs-imp, pairs-imp₂, each-append, each-remove, each-set, each-reject, pairs-append, pairs-remove, pairs-reject, pairs-set}
 

@@ -32,7 +32,7 @@ use Rattle.claims.specs.declared.Phase.the-variants.{Closed, Opened}
 use Rattle.claims.specs.declared.State.{State}
 use Rattle.calls.specs.Calls.{Call, Open, Close, Drop, Select, Start, Continue, Elevate, End, Record, List′, Kill, SetWord, withTable, userProcess, elevation, activated, saved, oneMore, namedPlace, counted, ended, effect, outcome, number, reach, fresh}
 use Rattle.calls.specs.Run.{step, run}
-use Rattle.history.specs.Each.{Each}
+use Rattle.lists.specs.Each.{Each}
 use Rattle.history.specs.Demand.{processes}
 use Rattle.history.proofs.Rows.{Stands, stands-set, each-imp, each-imp₂, each-at, each-remove, each-left, pairs-rest}
 use Rattle.history.proofs.Facts.{Added, Continued, Admitted, Facts, facts}

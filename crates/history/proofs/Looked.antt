@@ -12,7 +12,7 @@ use Rattle.names.specs.Names.{sameName}
 use Rattle.names.specs.declared.Name.{Name}
 use Rattle.names.proofs.Laws.{same-iff, differ-iff}
 use Rattle.table.specs.declared.Process.{Process}
-use Rattle.history.specs.Each.{Each, each-nil, each-cons, Pairs, pairs-cons}
+use Rattle.lists.specs.Each.{Each, each-nil, each-cons, Pairs, pairs-cons}
 use Rattle.history.specs.Lives.{Life, Gone}
 use Rattle.history.specs.Demand.{Distinct, lifeOf}
 use Rattle.history.proofs.Rows.{each-imp, each-reject}

@@ -10,7 +10,7 @@ use lib.ListN.{length, getD, set, length-set}
 use Rattle.lists.specs.Lists.{any, firstIndex, reject, select, removeAt}
 use Rattle.lists.proofs.Tests.{split, below, clash}
 use Rattle.lists.proofs.Lists.{first-passes}
-use Rattle.history.specs.Each.{Each, each-nil, each-cons, Pairs, pairs-nil, pairs-cons}
+use Rattle.lists.specs.Each.{Each, each-nil, each-cons, Pairs, pairs-nil, pairs-cons}
 
 module _ {A : Type 0} where
   -- ---- an element that passes a test stands at a place

@@ -32,7 +32,7 @@ use Rattle.calls.specs.Calls.{Call, Start, number, outcome, taken, fresh}
 use Rattle.calls.specs.Listing.{amongOf, rowOf, rowsOf, messageLength}
 use Rattle.calls.specs.Run.{step, run, numbers}
 use Rattle.calls.specs.declared.Wanted.{Wanted}
-use Rattle.history.specs.Each.{Each, each-nil, each-cons, Pairs, pairs-nil, pairs-cons}
+use Rattle.lists.specs.Each.{Each, each-nil, each-cons, Pairs, pairs-nil, pairs-cons}
 use Rattle.history.specs.History.{Event, history}
 use Rattle.history.specs.Lives.{Life, Gone, Live, after, onward, follow, told, accepted, count, down}
 use Rattle.history.specs.Demand.{processes, isRunning, Distinct, Demand3, at, ByPlaces, life, lifeOf, Tells, Holds, Ranges, SameOwners, Carries, by-end, by-record, by-list, by-kill, by-set-word, IsClaimOf}

@@ -22,7 +22,7 @@ use Rattle.claims.specs.declared.UserClaim.{UserClaim}
 use Rattle.calls.specs.Calls.{Call, End, Record, List′, Kill, SetWord}
 use Rattle.calls.specs.Listing.{rowsOf, messageLength}
 use Rattle.calls.specs.declared.Wanted.{Wanted}
-use Rattle.history.specs.Each.{Each, Pairs}
+use Rattle.lists.specs.Each.{Each, Pairs}
 use Rattle.history.specs.History.{Event}
 use Rattle.history.specs.Lives.{Life, Gone, Live, Raised, Kept, told, accepted, count, down}
 

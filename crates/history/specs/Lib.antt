@@ -1,4 +1,3 @@
-pub mod Each
 pub mod History
 pub mod Lives
 pub mod Demand

@@ -11,7 +11,8 @@ use lib.Seq.{length-take-le, set-append-left}
 use Rattle.lists.specs.Lists.{join, padded}
 use Rattle.lists.specs.Bytes.{bytesOf, Bytes}
 use Rattle.lists.proofs.Bytes.{length-bytes}
-use Rattle.codec.specs.Codec.{over, Each}
+use Rattle.codec.specs.Codec.{over}
+use Rattle.lists.specs.Each.{Each}
 use Rattle.codec.proofs.Codec.{each-take, array-long, join-at, join-set}
 use Rattle.codec.proofs.Loops.{over-middle}
 use Rattle.table.specs.Table.{standing, tableOf, freePlace, processAt, replaced}

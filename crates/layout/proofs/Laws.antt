@@ -14,7 +14,8 @@ use borrow.Author.Tests.{eqb-true, leb-true, eq-eqb, ne-eqb, le-leb}
 use Rattle.lists.specs.Lists.{join, padded}
 use Rattle.lists.specs.Bytes.{Bytes}
 use Rattle.lists.proofs.Tests.{and-left, and-right, and-both}
-use Rattle.codec.specs.Codec.{rows, every, isZero, Each, each-nil, pairs-nil}
+use Rattle.codec.specs.Codec.{rows, every, isZero}
+use Rattle.lists.specs.Each.{Each, each-nil, pairs-nil}
 use Rattle.codec.proofs.Codec.{rows-length, rows-take, rows-drop, join-append, every-split, every-take, each-every, each-append, each-take, each-replicate, each-all, map-append, map-drop, map-take, map-replicate, zeros-are, join-zeros, rows-zeros, bytes-drop, array-wide, array-long, array-back, array-fits, array-only, array-forth, array-good}
 use Rattle.table.specs.Table.{standing, tableOf, freePlace}
 use Rattle.table.specs.declared.Process.{Process}

@@ -3,7 +3,7 @@ use Prim.Native.Nat.{ℕ, _^_, _<_, _≤_}
 use mathlib.Core.Path.{_≡_}
 use mathlib.Core.Bool.{true, false}
 use lib.ListN.{length}
-use Rattle.codec.specs.Codec.{Each, Pairs}
+use Rattle.lists.specs.Each.{Each, Pairs}
 use Rattle.names.specs.declared.Kind.the-variants.{Elevation, Saved}
 use Rattle.table.specs.Table.{standing, tableOf, isActive, isActiveIn}
 use Rattle.table.specs.declared.Active.{Active}

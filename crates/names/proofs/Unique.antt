@@ -15,6 +15,10 @@ use Rattle.names.proofs.put_row.Kinds as put-row-kinds
 use Rattle.names.proofs.put_row.Reads as put-row
 use Rattle.names.proofs.read_row.Kinds as read-row-kinds
 use Rattle.names.proofs.read_row.Reads as read-row
+use Rattle.names.proofs.type_number.Kinds as type-number-kinds
+use Rattle.names.proofs.type_number.Reads as type-number
+use Rattle.names.proofs.kind_of.Kinds as kind-of-kinds
+use Rattle.names.proofs.kind_of.Reads as kind-of
 
 pub same-once : OneAnswer 0 same-kinds.ps same-kinds.r same.Post
 same-once κs a x y s t p q = p ∙ sym q
@@ -33,3 +37,9 @@ put-row-once κs a x y s t p q = p ∙ sym q
 
 pub read-row-once : OneAnswer 1 read-row-kinds.ps read-row-kinds.r read-row.Post
 read-row-once κs a x y s t p q = p ∙ sym q
+
+pub type-number-once : OneAnswer 0 type-number-kinds.ps type-number-kinds.r type-number.Post
+type-number-once κs a x y s t p q = p ∙ sym q
+
+pub kind-of-once : OneAnswer 0 kind-of-kinds.ps kind-of-kinds.r kind-of.Post
+kind-of-once κs a x y s t p q = p ∙ sym q

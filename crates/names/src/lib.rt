@@ -92,7 +92,8 @@ pub fn put_name(part: &mut [u8], name: Name)
     }
 }
 
-fn type_number(kind: Kind) -> u8
+// The type's number.
+pub fn type_number(kind: Kind) -> u8
     ensures { λ r. ⌜ r ≡ typeNumber kind ⌝ }
 {
     match kind {
@@ -102,7 +103,8 @@ fn type_number(kind: Kind) -> u8
     }
 }
 
-fn kind_of(number: u8) -> Kind
+// The type of a number; a number over 2, which is no type's, is taken for 2.
+pub fn kind_of(number: u8) -> Kind
     ensures { λ r. ⌜ r ≡ kindOf number ⌝ }
 {
     if number == 0 {

@@ -4,7 +4,6 @@ ghost use mathlib.Core.List.{map, [], _∷_};
 ghost use lib.ListN.{length, drop};
 ghost use Rattle.lists.specs.Bytes.{number};
 ghost use Rattle.codec.specs.Codec.{rows, Widened};
-ghost use Rattle.names.specs.Names.{kindOf};
 ghost use Rattle.claims.specs.Module.{closedSession, unprovisioned};
 ghost use Rattle.layout.specs.Layout.{phaseNumbered, sessionOf, grantsOf, processOf, placesIn, nothingHeld, stateOf};
 use claims::Grants;
@@ -12,20 +11,19 @@ use claims::Phase;
 use claims::SessionState;
 use claims::State;
 use names::Credential;
-use names::Kind;
 use names::Session;
 use table::Process;
 use table::Table;
 
 // ---- a byte as a number of more bits
 
-fn wide16(x: u8) -> u16
+pub fn wide16(x: u8) -> u16
     ensures { λ r. ⌜ Widened x r ⌝ }
 {
     x as u16
 }
 
-fn wide(x: u8) -> usize
+pub fn wide(x: u8) -> usize
     ensures { λ r. ⌜ Widened x r ⌝ }
 {
     x as usize
@@ -40,7 +38,8 @@ fn number32(a: u8, b: u8, c: u8, d: u8) -> u32
 
 // ---- a session
 
-fn phase_numbered(number: u8) -> Phase
+// The phase of a number; closed, where a number is no phase's.
+pub fn phase_numbered(number: u8) -> Phase
     ensures { λ r. ⌜ r ≡ phaseNumbered number ⌝ }
 {
     if number == 1 {
@@ -114,24 +113,12 @@ fn read_credentials(s: &[u8]) -> [Grants; 8]
 
 // ---- a place
 
-fn kind_of(number: u8) -> Kind
-    ensures { λ r. ⌜ r ≡ kindOf number ⌝ }
-{
-    if number == 0 {
-        return Kind::User;
-    }
-    if number == 1 {
-        return Kind::Elevation;
-    }
-    Kind::Saved
-}
-
 fn process_of(row: &[u8]) -> Process
     requires { ⌜ length (now row) ≡ 53 ⌝ }
     ensures { λ r. ⌜ r ≡ processOf (now (row .entry)) ⌝ }
 {
     let credential = wide16(row[0]);
-    let kind = kind_of(row[1]);
+    let kind = names::kind_of(row[1]);
     let session = row[2];
     let next = names::number16(row[3], row[4]);
     let read = names::read_name(&row[5..53]);

@@ -3,19 +3,12 @@ ghost use mathlib.Core.Path.{_≡_};
 ghost use mathlib.Core.List.{map};
 ghost use Prim.Native.Nat.{_+_, _<_, _≤_};
 ghost use lib.ListN.{length, take, drop, getD};
-ghost use Rattle.codec.specs.Codec.{rows, every, pairwise, isZero, Widened};
+ghost use Rattle.codec.specs.Codec.{rows, every, pairwise, isZero};
 ghost use Rattle.names.specs.Names.{sameBytes};
 ghost use Rattle.table.specs.Table.{freePlace};
 ghost use Rattle.layout.specs.Layout.{sessionFits, grantsFit, processOf, processFits, stateOf, isOwned, areRivals, areApart, holdsState};
 
 // ---- bytes
-
-// A byte as an index.
-fn wide(x: u8) -> usize
-    ensures { λ r. ⌜ Widened x r ⌝ }
-{
-    x as usize
-}
 
 // Whether every byte from an index on is zero. There is no exit, so that many are read at a time.
 fn zero_from(s: &[u8], from: usize) -> bool
@@ -144,9 +137,9 @@ fn is_owned<'a>(s: &'a [u8], row: &'a [u8]) -> bool
     requires { ⌜ length (now row) ≡ 53 ⌝ }
     ensures { λ r. ⌜ r ≡ isOwned (stateOf (now (s .entry))) (processOf (now (row .entry))) ⌝ }
 {
-    let credential = wide(row[0]);
+    let credential = state_read::wide(row[0]);
     let kind = row[1];
-    let session = wide(row[2]);
+    let session = state_read::wide(row[2]);
     if 8 <= credential {
         return false;
     }
@@ -274,7 +267,7 @@ pub fn holds(s: &[u8]) -> bool
     if s.len() != 681 {
         return false;
     }
-    let n = wide(s[44]);
+    let n = state_read::wide(s[44]);
     if 12 < n {
         return false;
     }

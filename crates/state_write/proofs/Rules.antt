@@ -173,8 +173,8 @@ written-all old st h p q r t =
     put-whole (put-next (put-next (put-next p q h₁) r h₂) t h₃) h ∙ rw (state-written old st h) (simp append-assoc)
 
 -- ---- two bytes
-pub next-room : (b : List ℕ) (at i v : ℕ) → length b ≡ 681 → at < 12 → 48 + at * 53 + 1 < length (set b i v)
-next-room b at i v h k = simp length-set (omega arith)
+pub next-room : (b : List ℕ) (at from i v : ℕ) → length b ≡ 681 → at < 12 → from ≤ 48 → from + at * 53 + 1 < length (set b i v)
+next-room b at from i v h k l = simp length-set (omega arith)
 
 module _ (b : List ℕ) (at next : ℕ) where
   pub next-put : length b ≡ 681 → at < 12 → set (set b (48 + at * 53) (next % 256)) (48 + at * 53 + 1) (next / 256 % 256) ≡ nextWritten b at next

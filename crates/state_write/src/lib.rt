@@ -4,13 +4,11 @@ ghost use mathlib.Core.List.{map, [], _∷_};
 ghost use lib.ListN.{length};
 ghost use Rattle.lists.specs.Lists.{join};
 ghost use Rattle.codec.specs.Codec.{Put};
-ghost use Rattle.names.specs.Names.{typeNumber};
 ghost use Rattle.layout.specs.Layout.{byteOf, phaseNumber, sessionBytes, flagNumber, grantsBytes, processBytes, stateWritten, nextWritten};
 use claims::Grants;
 use claims::Phase;
 use claims::SessionState;
 use claims::State;
-use names::Kind;
 use table::Process;
 
 // A number in one byte; one that a byte does not hold stands for none.
@@ -90,16 +88,6 @@ fn put_count(s: &mut [u8], count: usize)
 
 // ---- a place
 
-fn type_number(kind: Kind) -> u8
-    ensures { λ r. ⌜ r ≡ typeNumber kind ⌝ }
-{
-    match kind {
-        Kind::User => 0,
-        Kind::Elevation => 1,
-        Kind::Saved => 2,
-    }
-}
-
 fn put_process(part: &mut [u8], p: Process)
     requires { ⌜ length (now part) ≡ 53 ⌝ }
     ensures { λ r. ⌜ now (part .exit) ≡ processBytes p ⌝ }
@@ -107,7 +95,7 @@ fn put_process(part: &mut [u8], p: Process)
     let kind = p.kind;
     let next = p.next;
     part[0] = byte_of(p.credential.0 as usize);
-    part[1] = type_number(kind);
+    part[1] = names::type_number(kind);
     part[2] = p.session.0;
     part[3] = (next % 256) as u8;
     part[4] = (next / 256 % 256) as u8;

@@ -23,7 +23,6 @@ use Rattle.wire.specs.Bytes.{head, over}
 use Rattle.wire.specs.Wire.{rowsAmong, rowsOver, listingOver}
 use Rattle.wire.proofs.Bytes.{over-none, over-part, over-append, over-length}
 
--- belongs in lists: as many as pass are at most all
 pub rows-few : (wanted : Wanted) (l : List Process) → length (rowsAmong wanted l) ≤ length l
 unfolding rowsAmong
 rows-few wanted l = rw length-map (length-select (isAmong (amongOf wanted)) l)

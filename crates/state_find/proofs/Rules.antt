@@ -1,0 +1,203 @@
+-- The laws that close the needs of this crate's functions by `search rules`: each premise is as a place's record has it.
+-- Assumes nothing.
+use Prim.Native.Nat.{ℕ, zero, suc, _+_, _-_, _*_, _<_, _≤_}
+use mathlib.Core.Path.{_≡_, refl, sym, ap, _∙_}
+use mathlib.Core.Bool.{Bool, true, false}
+use mathlib.Core.List.{List, [], _∷_, map}
+use native.Mathlib.Omega.{arith}
+use native.Mathlib.Nat.{add-zero}
+use borrow.Author.Needs.{needs}
+use borrow.Author.Tests.{eq-eqb, ne-eqb}
+use lib.Dec.{eqb}
+use lib.ListN.{length, take, drop, getD, replicate, List·getD-eq-default, length-map}
+use lib.Seq.{getD-take, getD-drop}
+use Rattle.lists.specs.Bytes.{number}
+use Rattle.lists.specs.Lists.{firstIndex}
+use Rattle.lists.proofs.Lists.{length-mapped}
+use Rattle.codec.specs.Codec.{rows, Widened}
+use Rattle.codec.proofs.Codec.{rows-length}
+use Rattle.codec.proofs.Loops.{map-part}
+use Rattle.names.specs.Names.{kindOf}
+use Rattle.names.specs.declared.Credential.{Credential}
+use Rattle.names.specs.declared.Session.{Session}
+use Rattle.table.specs.Table.{standing, size, isUser, isElevation, isActive, firstPlace, processAt}
+use Rattle.table.specs.declared.Active.{Active}
+use Rattle.table.specs.declared.Active.the-variants.{UserOf, ElevationIn}
+use Rattle.table.specs.declared.Found.the-variants.{At, Nothing}
+use Rattle.table.specs.declared.Process.{Process}
+use Rattle.table.proofs.Laws.{standing-of, size-few}
+use Rattle.table.proofs.Rules.{noProcess, size-part, size-all, Searching, begin, on, hit, none, process-got, process-none}
+use Rattle.claims.specs.Module.{closedSession, phaseOf, unprovisioned, provisioned}
+use Rattle.claims.specs.declared.Grants.{Grants}
+use Rattle.claims.specs.declared.Phase.{Phase}
+use Rattle.claims.specs.declared.Phase.the-variants.{Closed}
+use Rattle.claims.specs.declared.SessionState.{SessionState}
+use Rattle.layout.specs.Layout.{phaseNumbered, sessionOf, grantsOf, processOf, countIn, placesIn, stateOf}
+use Rattle.layout.proofs.Laws.{state-in, state-not-in}
+use Rattle.layout.proofs.Parts.{place-part, next-in}
+
+-- ---- sessions and credentials
+-- the same everywhere, and past the end
+same-everywhere : {A : Type 0} (n i : ℕ) (x : A) → getD (replicate n x) i x ≡ x
+same-everywhere zero i x = refl
+same-everywhere (suc n) zero x = refl
+same-everywhere (suc n) (suc i) x = same-everywhere n i x
+
+module _ (s : List ℕ) (session : Session) where
+  pub phase-short : (length s ≡ 681 → ⊥) → Closed ≡ phaseOf (stateOf s) session
+  unfolding phaseOf
+  phase-short n = sym (rw (state-not-in s n) (ap (λ (x : SessionState). x .phase) (same-everywhere 4 (session .0) closedSession)))
+
+  module _ (h : length s ≡ 681) where
+    pub phase-past : 4 ≤ session .0 → Closed ≡ phaseOf (stateOf s) session
+    unfolding phaseOf
+    phase-past k =
+        let l : length (map sessionOf (rows 4 1 s)) ≡ 4 = length-map (rows 4 1 s) sessionOf ∙ rows-length 4 1 s in
+        let past : length (map sessionOf (rows 4 1 s)) ≤ session .0 = omega (arith, l) in
+        let e : getD (map sessionOf (rows 4 1 s)) (session .0) closedSession ≡ closedSession =
+        List·getD-eq-default (map sessionOf (rows 4 1 s)) closedSession past
+        in
+        sym (rw (state-in s h) (ap (λ (x : SessionState). x .phase) e))
+
+    pub phase-read : session .0 < 4 → {p : Phase} → p ≡ phaseNumbered (getD s (session .0) 0) → p ≡ phaseOf (stateOf s) session
+    unfolding phaseOf sessionOf
+    phase-read k e =
+        let t : ℕ = session .0 in
+        let z : 0 < 0 + t * 1 + 1 - (0 + t * 1) = omega arith in
+        let q : 0 + t * 1 ≡ t = omega arith in
+        let r : getD (map sessionOf (rows 4 1 s)) t closedSession .phase ≡ phaseNumbered (getD s t 0) =
+        rw (map-part sessionOf 4 1 0 s t closedSession k, getD-take (0 + t * 1 + 1 - (0 + t * 1)) (drop (0 + t * 1) s) 0 0 z, getD-drop (0 + t * 1) s 0 0, q, add-zero)
+        in
+        e ∙ sym (rw (state-in s h) r)
+
+module _ (s : List ℕ) (c : Credential) where
+  pub provisioned-short : (length s ≡ 681 → ⊥) → false ≡ provisioned (stateOf s) c
+  unfolding provisioned
+  provisioned-short n = sym (rw (state-not-in s n) (ap (λ (g : Grants). g .provisioned) (same-everywhere 8 (c .0) unprovisioned)))
+
+  module _ (h : length s ≡ 681) where
+    pub provisioned-past : 8 ≤ c .0 → false ≡ provisioned (stateOf s) c
+    unfolding provisioned
+    provisioned-past k =
+        let l : length (map grantsOf (rows 8 5 (drop 4 s))) ≡ 8 = length-map (rows 8 5 (drop 4 s)) grantsOf ∙ rows-length 8 5 (drop 4 s) in
+        let past : length (map grantsOf (rows 8 5 (drop 4 s))) ≤ c .0 = omega (arith, l) in
+        let e : getD (map grantsOf (rows 8 5 (drop 4 s))) (c .0) unprovisioned ≡ unprovisioned =
+        List·getD-eq-default (map grantsOf (rows 8 5 (drop 4 s))) unprovisioned past
+        in
+        sym (rw (state-in s h) (ap (λ (g : Grants). g .provisioned) e))
+
+    pub provisioned-read : c .0 < 8 → eqb (getD s (4 + c .0 * 5) 0) 1 ≡ provisioned (stateOf s) c
+    unfolding provisioned grantsOf
+    provisioned-read k =
+        let t : ℕ = c .0 in
+        let z : 0 < 4 + t * 5 + 5 - (4 + t * 5) = omega arith in
+        let r : getD (map grantsOf (rows 8 5 (drop 4 s))) t unprovisioned .provisioned ≡ eqb (getD s (4 + t * 5) 0) 1 =
+        rw (map-part grantsOf 8 5 4 s t unprovisioned k, getD-take (4 + t * 5 + 5 - (4 + t * 5)) (drop (4 + t * 5) s) 0 0 z, getD-drop (4 + t * 5) s 0 0, add-zero)
+        in
+        sym (rw (state-in s h) r)
+
+-- ---- a place
+not-user : (k : ℕ) → (k ≡ 0 → ⊥) → isUser (kindOf k) ≡ false
+not-user zero n = absurd (n refl)
+not-user (suc zero) n = refl
+not-user (suc (suc k)) n = refl
+
+not-elevation : (k : ℕ) → (k ≡ 1 → ⊥) → isElevation (kindOf k) ≡ false
+not-elevation zero n = refl
+not-elevation (suc zero) n = absurd (n refl)
+not-elevation (suc (suc k)) n = refl
+
+module _ (x : List ℕ) {which : Active} where
+  module _ {s : Session} {c : Credential} (w : which ≡ UserOf s c) where
+    pub active-no-user : (getD x 1 0 ≡ 0 → ⊥) → false ≡ isActive which (processOf x)
+    unfolding isActive processOf
+    active-no-user n = rw (w, not-user (getD x 1 0) n)
+
+    module _ (k : getD x 1 0 ≡ 0) where
+      pub active-elsewhere : (getD x 2 0 ≡ s .0 → ⊥) → false ≡ isActive which (processOf x)
+      unfolding isActive processOf
+      active-elsewhere n = rw (w, k, ne-eqb (getD x 2 0) (s .0) n)
+
+      pub active-user : {r : ℕ} → getD x 2 0 ≡ s .0 → Widened (getD x 0 0) r → eqb r (c .0) ≡ isActive which (processOf x)
+      unfolding isActive processOf
+      active-user e v = rw (w, k, eq-eqb (getD x 2 0) (s .0) e, v .is)
+
+  module _ {s : Session} (w : which ≡ ElevationIn s) where
+    pub active-no-elevation : (getD x 1 0 ≡ 1 → ⊥) → false ≡ isActive which (processOf x)
+    unfolding isActive processOf
+    active-no-elevation n = rw (w, not-elevation (getD x 1 0) n)
+
+    pub active-elevation : getD x 1 0 ≡ 1 → eqb (getD x 2 0) (s .0) ≡ isActive which (processOf x)
+    unfolding isActive processOf
+    active-elevation k = rw (w, k)
+
+-- ---- the places
+module _ (s : List ℕ) where
+  nothing-stands : (length s ≡ 681 → ⊥) → standing (stateOf s .table) ≡ []
+  nothing-stands n = rw (state-not-in s n) (standing-of [])
+
+  pub find-short : (f : Process → Bool) → (length s ≡ 681 → ⊥) → Nothing ≡ firstPlace f (standing (stateOf s .table))
+  unfolding firstPlace firstIndex
+  find-short f n = rw (nothing-stands n)
+
+  pub next-short : (at : ℕ) → (length s ≡ 681 → ⊥) → 0 ≡ processAt (stateOf s .table) at .next
+  unfolding processAt
+  next-short at n = rw (nothing-stands n)
+
+  module _ (h : length s ≡ 681) where
+    places-12 : length (stateOf s .table .places) ≡ 12
+    unfolding placesIn
+    places-12 = rw (state-in s h) (length-map (rows 12 53 (drop 45 s)) processOf ∙ rows-length 12 53 (drop 45 s))
+
+    count-read : {c : ℕ} → Widened (getD s 44 0) c → stateOf s .table .count ≡ c
+    unfolding countIn
+    count-read w = rw (state-in s h) (sym (w .is))
+
+    pub size-some : {c : ℕ} → Widened (getD s 44 0) c → c < 12 → c ≡ size (stateOf s .table)
+    size-some w k = sym (count-read w) ∙ size-part (stateOf s .table) places-12 (rw (count-read w) k)
+
+    pub size-every : {c : ℕ} → Widened (getD s 44 0) c → 12 ≤ c → 12 ≡ size (stateOf s .table)
+    size-every w k = size-all (stateOf s .table) places-12 (rw (count-read w) k)
+
+    place-at : (i : ℕ) → i < 12 → getD (stateOf s .table .places) i noProcess ≡ processOf (take (45 + i * 53 + 53 - (45 + i * 53)) (drop (45 + i * 53) s))
+    unfolding placesIn
+    place-at i k = rw (state-in s h) (map-part processOf 12 53 45 s i noProcess k)
+
+    pub find-begin : {f : Process → Bool} {n : ℕ} → n ≡ size (stateOf s .table) → Searching f (stateOf s .table .places) n 0
+    find-begin {f} e = begin f (stateOf s .table) e places-12
+
+    module _ {f : Process → Bool} {n i : ℕ} {b : Bool} (v : Searching f (stateOf s .table .places) n i) (k : i < n) (e : b ≡ f (processOf (take (45 + i * 53 + 53 - (45 + i * 53)) (drop (45 + i * 53) s)))) where
+      tested : b ≡ f (getD (stateOf s .table .places) i noProcess)
+      tested = e ∙ ap f (sym (place-at i (omega (arith, v .small))))
+
+      pub find-on : b ≡ false → Searching f (stateOf s .table .places) n (i + 1)
+      find-on t = on v k tested t
+
+      pub find-hit : {at : ℕ} → n ≡ size (stateOf s .table) → b ≡ true → at ≡ i → At at ≡ firstPlace f (standing (stateOf s .table))
+      find-hit q t a = hit (stateOf s .table) q v k tested t a
+
+    pub find-none : {f : Process → Bool} {n i : ℕ} → n ≡ size (stateOf s .table) → Searching f (stateOf s .table .places) n i → n ≤ i → Nothing ≡ firstPlace f (standing (stateOf s .table))
+    find-none q v k = none (stateOf s .table) q v k
+
+    pub next-past : {at : ℕ} → 12 ≤ at → 0 ≡ processAt (stateOf s .table) at .next
+    next-past {at} k = ap (λ (p : Process). p .next) (process-none (stateOf s .table) {n = size (stateOf s .table)} refl (omega (arith, size-few (stateOf s .table) places-12)) refl)
+
+    module _ {n at : ℕ} (e : n ≡ size (stateOf s .table)) where
+      pub next-none : n ≤ at → 0 ≡ processAt (stateOf s .table) at .next
+      next-none k = ap (λ (p : Process). p .next) (process-none (stateOf s .table) e k refl)
+
+      pub next-read : {r : ℕ} → at < 12 → at < n → r ≡ number (getD s (48 + at * 53) 0 ∷ getD s (48 + at * 53 + 1) 0 ∷ []) → r ≡ processAt (stateOf s .table) at .next
+      unfolding processOf
+      next-read low k q =
+          let row : List ℕ = take (45 + at * 53 + 53 - (45 + at * 53)) (drop (45 + at * 53) s) in
+          let byte : (j : ℕ) → j < 53 → getD row j 0 ≡ getD s (45 + at * 53 + j) 0 =
+          λ j t. (let u : j < 45 + at * 53 + 53 - (45 + at * 53) = omega arith in getD-take (45 + at * 53 + 53 - (45 + at * 53)) (drop (45 + at * 53) s) j 0 u ∙ getD-drop (45 + at * 53) s j 0)
+          in
+          let three : 45 + at * 53 + 3 ≡ 48 + at * 53 = omega arith in
+          let four : 45 + at * 53 + 4 ≡ 48 + at * 53 + 1 = omega arith in
+          let next : number (take 2 (drop 3 row)) ≡ number (getD s (48 + at * 53) 0 ∷ getD s (48 + at * 53 + 1) 0 ∷ []) =
+          next-in row (place-part s at h low) ∙ rw (byte 3 (omega arith), byte 4 (omega arith), three, four)
+          in
+          q ∙ sym next ∙ ap (λ (p : Process). p .next) (sym (place-at at low) ∙ process-got (stateOf s .table) e k places-12)
+
+pub ruleset rules = (needs, length-mapped, phase-short, phase-past, phase-read, provisioned-short, provisioned-past, provisioned-read, active-no-user, active-elsewhere, active-user, active-no-elevation, active-elevation, find-short, next-short, size-some, size-every, find-begin, find-on, find-hit, find-none, next-past, next-none, next-read, place-part)
