@@ -1,0 +1,402 @@
+-- The laws that close the needs of this crate's functions by `search rules`: each premise is as a place's record has it.
+-- Assumes nothing.
+use Prim.Native.Nat.{ℕ, _<_, _≤_, zero, suc, _+_}
+use mathlib.Core.Path.{_≡_, refl, sym, ap, _∙_}
+use mathlib.Core.Bool.{Bool, true, false, not, _&&_}
+use mathlib.Core.List.{List, [], _∷_}
+use native.Mathlib.Omega.{arith}
+use lib.Dec.{eqb, leb}
+use lib.ListN.{length, drop, getD, set, replicate, drop-of-length-le}
+use borrow.Author.Needs.{needs}
+use borrow.Author.Tests.{eqb-true, eq-eqb, ne-eqb, lt-ltb, le-ltb, lt-leb, le-leb}
+use Rattle.lists.proofs.Tests.{split, clash, and-right, and-left}
+use Rattle.names.specs.Names.{typeNumber, nameIn}
+use Rattle.names.specs.declared.Credential.{Credential}
+use Rattle.names.specs.declared.NameRead.{NameRead}
+use Rattle.names.specs.declared.Session.{Session}
+use Rattle.names.proofs.Laws.{name-in}
+use Rattle.claims.specs.Numbers.{_unless_, _▸_}
+use Rattle.claims.specs.declared.Claim.{Claim}
+use Rattle.claims.specs.declared.Claim.the-variants.{Elevated, ByUser}
+use Rattle.claims.specs.declared.Class.{Class}
+use Rattle.claims.specs.declared.State.{State}
+use Rattle.claims.specs.declared.UserClaim.{UserClaim}
+use Rattle.claims.proofs.Laws.{stop, pass, unless-true, unless-false}
+use Rattle.calls.specs.Calls.{Call, Open, Close, Select, Start, Continue, Elevate, Drop, End, Record, Kill, SetWord, number, outcome, answerNumber, List′, listed, fresh}
+use Rattle.calls.specs.declared.Answer.{Answer}
+use Rattle.calls.specs.declared.Listed.{Listed}
+use Rattle.calls.specs.declared.Outcome.{Outcome}
+use Rattle.calls.specs.declared.Wanted.{Wanted}
+use Rattle.calls.specs.declared.Wanted.the-variants.{Every, Only}
+use Rattle.calls.proofs.Laws.{outcome-done, answer-number}
+use Rattle.layout.specs.Layout.{stateOf, stateWritten, holdsState, byteOf}
+use Rattle.layout.proofs.Laws.{holds-shape, state-written}
+use Rattle.wire.specs.Wire.{listedBytes, readRowAt}
+use Rattle.wire.specs.declared.CountRead.{CountRead}
+use Rattle.wire.specs.declared.RequestRead.{RequestRead}
+use Rattle.wire.specs.declared.RowAnswer.{RowAnswer}
+use lib.Seq.{drop-cons}
+use native.Mathlib.Numerals.{add-one}
+use Rattle.lists.proofs.Loops.{Copied, copied-none, copied-more, copied-all}
+use Rattle.codec.specs.Codec.{every}
+use Rattle.claims.specs.Module.{unprovisioned}
+use Rattle.claims.specs.declared.Grants.{Grants}
+use Rattle.host.specs.Fresh.{pairsOf, arePairs, canFresh, FreshEntry}
+use Rattle.host.specs.Entry.{sessionOf, classOf, credentialOf, wantedOf, isFlag, userClaimOf, claimOf, isClaimed, entryNumber, entryBytes, Entry}
+use Rattle.host.specs.Messages.{entryResponse, entryLength, ListEntry, Given, rowEntryNumber, RowEntry}
+use Rattle.host.specs.Stored.{Stored}
+
+-- ---- arguments
+module _ (n : ℕ) where
+  pub byte-in : n < 256 → n ≡ byteOf n
+  unfolding byteOf
+  byte-in h = rw (lt-ltb n 256 h)
+
+  pub byte-out : 256 ≤ n → 255 ≡ byteOf n
+  unfolding byteOf
+  byte-out h = rw (le-ltb n 256 h)
+
+  pub session-is : {b : ℕ} → b ≡ byteOf n → _≡_ {A = Session} (record { 0 = b }) (sessionOf n)
+  unfolding sessionOf
+  session-is e = rw e
+
+  pub class-is : {b : ℕ} → b ≡ byteOf n → _≡_ {A = Class} (record { 0 = b }) (classOf n)
+  unfolding classOf
+  class-is e = rw e
+
+  pub credential-in : n < 65536 → _≡_ {A = Credential} (record { 0 = n }) (credentialOf n)
+  unfolding credentialOf
+  credential-in h = rw (lt-ltb n 65536 h)
+
+  pub credential-out : 65536 ≤ n → _≡_ {A = Credential} (record { 0 = 65535 }) (credentialOf n)
+  unfolding credentialOf
+  credential-out h = rw (le-ltb n 65536 h)
+
+  pub wanted-every : n ≡ 65535 → Every ≡ wantedOf n
+  unfolding wantedOf
+  wanted-every h = rw (eq-eqb n 65535 h)
+
+  pub wanted-only : {c : Credential} → (n ≡ 65535 → ⊥) → c ≡ credentialOf n → Only c ≡ wantedOf n
+  unfolding wantedOf
+  wanted-only h e = rw (ne-eqb n 65535 h, e)
+
+  pub flag-is : leb n 1 ≡ isFlag n
+  unfolding isFlag
+  flag-is = refl
+
+module _ (credential number verdict : ℕ) where
+  pub user-claim-is : {c : Credential} → c ≡ credentialOf credential → _≡_ {A = UserClaim} (record { credential = c; number = number; verdict = eqb verdict 1 }) (userClaimOf credential number verdict)
+  unfolding userClaimOf
+  user-claim-is e = rw e
+
+  module _ (kind : ℕ) where
+    pub claim-elevated : kind ≡ 1 → Elevated ≡ claimOf kind credential number verdict
+    unfolding claimOf
+    claim-elevated h = rw (eq-eqb kind 1 h)
+
+    pub claim-user : {u : UserClaim} → (kind ≡ 1 → ⊥) → u ≡ userClaimOf credential number verdict → ByUser u ≡ claimOf kind credential number verdict
+    unfolding claimOf
+    claim-user h e = rw (ne-eqb kind 1 h, e)
+
+module _ (kind verdict : ℕ) where
+  pub claimed-elevated : kind ≡ 1 → true ≡ isClaimed kind verdict
+  unfolding isClaimed isFlag
+  claimed-elevated h = rw h
+
+  pub claimed-user : {b : Bool} → kind ≡ 0 → b ≡ isFlag verdict → b ≡ isClaimed kind verdict
+  unfolding isClaimed isFlag
+  claimed-user h e = e ∙ rw h
+
+  pub claimed-none : (kind ≡ 0 → ⊥) → (kind ≡ 1 → ⊥) → eqb kind 0 ≡ isClaimed kind verdict
+  unfolding isClaimed isFlag
+  claimed-none h k =
+      let g : 1 < kind = omega (arith, h, k) in
+      rw (lt-leb kind 1 g, ne-eqb kind 0 h)
+
+module _ (a b : Bool) where
+  pub both-true : {c : Bool} → a ≡ true → c ≡ b → c ≡ a && b
+  both-true h e = e ∙ rw h
+
+  pub both-false : a ≡ false → a ≡ a && b
+  both-false h = rw h
+
+-- ---- what an outcome leaves
+module _ (before : List ℕ) (o : Outcome) {a : Answer} {n : ℕ} (e : a ≡ o .answer) (q : n ≡ answerNumber a) where
+  pub stored-done : {after : List ℕ} {x : State} → n ≡ 0 → x ≡ o .state → after ≡ stateWritten before x → Stored before o 0 after
+  stored-done z s w =
+      let m : answerNumber (o .answer) ≡ n = sym (q ∙ ap answerNumber e) in
+      record { number-is = sym (m ∙ z); bytes-are = w ∙ rw (m, z, s) }
+
+  pub stored-refused : (n ≡ 0 → ⊥) → Stored before o n before
+  stored-refused h =
+      let m : answerNumber (o .answer) ≡ n = sym (q ∙ ap answerNumber e) in
+      record { number-is = sym m; bytes-are = rw (m, ne-eqb n 0 h) }
+
+-- ---- an entry: refused for its arguments or for the slice, or as the call answers
+not-true : (h : Bool) → not h ≡ true → h ≡ false
+not-true true e = clash e refl
+not-true false e = refl
+
+not-false : (h : Bool) → not h ≡ false → h ≡ true
+not-false true e = refl
+not-false false e = clash refl e
+
+module _ {tested : Bool} (fine : Bool) (f : tested ≡ fine) (before : List ℕ) (call : Call) {h : Bool} (e : h ≡ tested && holdsState before) where
+  pub entry-refused : not h ≡ true → Entry fine before call 1 before
+  unfolding entryNumber entryBytes _unless_ _▸_
+  entry-refused n =
+      let z : (fine && holdsState before) ≡ false = rw (← f) (sym e ∙ not-true h n) in
+      record { number-is = rw z; bytes-are = rw z }
+
+  module _ (n : not h ≡ false) where
+    ready : (fine && holdsState before) ≡ true
+    ready = rw (← f) (sym e ∙ not-false h n)
+
+    number-of : entryNumber fine before call ≡ number (stateOf before) call
+    unfolding entryNumber _unless_ _▸_
+    number-of = rw ready
+
+    pub entry-called : {st : State} {other : Call} {o : Outcome} {r : ℕ} {after : List ℕ}
+        → st ≡ stateOf before → o ≡ outcome st other → other ≡ call → Stored before o r after → Entry fine before call r after
+    unfolding entryBytes
+    entry-called {st} {other} {o} {r} {after} s q w v =
+        let a : o ≡ outcome (stateOf before) call = rw (← s, ← w) q in
+        let m : answerNumber (o .answer) ≡ number (stateOf before) call = ap (λ (x : Outcome). answerNumber (x .answer)) a ∙ answer-number (stateOf before) call in
+        let long : length before ≡ 681 = holds-shape before (and-right fine (holdsState before) ready) .long in
+        record {
+          number-is = v .number-is ∙ m ∙ sym number-of;
+          bytes-are = v .bytes-are ∙ rw (m, number-of)
+              (split (eqb (number (stateOf before) call) 0)
+              (λ z. rw (z, state-written before (o .state) long, a, outcome-done (stateOf before) call (eqb-true (number (stateOf before) call) 0 z)))
+              (λ z. rw z));
+        }
+
+-- ---- the listing
+module _ {tested : Bool} (fine : Bool) (f : tested ≡ fine) (before : List ℕ) (s : Session) (claim : Claim) (wanted : Wanted) (old : List ℕ) {h : Bool} (e : h ≡ tested && holdsState before) where
+  pub list-refused : not h ≡ true → ListEntry fine before s claim wanted old 1 before old 0
+  unfolding entryResponse entryLength
+  list-refused n =
+      let call : Call = List′ s claim wanted (length old) in
+      let v : Entry fine before call 1 before = entry-refused fine f before call e n in
+      record { entry = v; response-is = rw (← v .number-is); length-is = rw (← v .number-is) }
+
+  module _ (n : not h ≡ false) where
+    pub list-called : {st : State} {s₁ : Session} {claim₁ : Claim} {wanted₁ : Wanted} {l : Listed} {r : ℕ} {after new : List ℕ}
+        → st ≡ stateOf before → s₁ ≡ s → claim₁ ≡ claim → wanted₁ ≡ wanted
+        → (l ≡ listed st s₁ claim₁ wanted₁ (length old)) × (new ≡ listedBytes st s₁ claim₁ wanted₁ old)
+        → Stored before (l .outcome) r after → ListEntry fine before s claim wanted old r after new (l .length)
+    unfolding entryResponse entryLength listed listedBytes
+    list-called {st} {s₁} {claim₁} {wanted₁} {l} {r} {after} {new} a b c d (p, q) v =
+        let call : Call = List′ s claim wanted (length old) in
+        let m : entryNumber fine before call ≡ number (stateOf before) call = number-of fine f before call e n in
+        let g : l ≡ listed (stateOf before) s claim wanted (length old) = rw (← a, ← b, ← c, ← d) p in
+        record {
+          entry = entry-called fine f before call e n refl (ap (λ (x : Listed). x .outcome) g) refl v;
+          response-is = q ∙ rw (m, a, b, c, d);
+          length-is = ap (λ (x : Listed). x .length) g ∙ rw m;
+        }
+
+-- ---- a value handed out
+pub given-refused : {a n : ℕ} (value before : ℕ) → a ≡ n → (a ≡ 0 → ⊥) → Given n value before a before
+given-refused {a} value before e h = record { number-is = e; value-is = rw (← e, ne-eqb a 0 h) }
+
+pub given-done : {a n x value : ℕ} (before : ℕ) → a ≡ n → a ≡ 0 → x ≡ value → Given n value before 0 x
+given-done before e z q = record { number-is = sym z ∙ e; value-is = q ∙ rw (← e, z) }
+
+module _ {read other : RequestRead} (e : read ≡ other) where
+  pub request-number : read .number ≡ other .number
+  request-number = rw e
+
+  pub request-credential : read .credential ≡ other .credential
+  request-credential = rw e
+
+module _ {read other : CountRead} (e : read ≡ other) where
+  pub count-number : read .number ≡ other .number
+  count-number = rw e
+
+  pub count-count : read .count ≡ other .count
+  count-count = rw e
+
+-- ---- a row handed out
+module _ (message : List ℕ) (at credential kind : ℕ) (name : List ℕ) {read : RowAnswer} (e : read ≡ readRowAt message at) where
+  row-number : {n : ℕ} → n ≡ read .number ▸ 1 unless eqb (length name) 48 → n ≡ rowEntryNumber message at name
+  unfolding rowEntryNumber
+  row-number q = q ∙ rw e
+
+  row-kept : {n : ℕ} → n ≡ rowEntryNumber message at name → (n ≡ 0 → ⊥) → RowEntry message at credential kind name n credential kind name
+  row-kept {n} q h =
+      let z : eqb (rowEntryNumber message at name) 0 ≡ false = rw (← q) (ne-eqb n 0 h) in
+      record { number-is = q; credential-is = rw z; kind-is = rw z; name-is = rw z }
+
+  pub row-refused : (read .number ≡ 0 → ⊥) → RowEntry message at credential kind name (read .number) credential kind name
+  row-refused h = row-kept (row-number (sym (stop (1 unless eqb (length name) 48) h))) h
+
+  module _ (z : read .number ≡ 0) where
+    pub row-nowhere : (length name ≡ 48 → ⊥) → RowEntry message at credential kind name 1 credential kind name
+    row-nowhere h =
+        let q : 1 ≡ read .number ▸ 1 unless eqb (length name) 48 = sym (pass (1 unless eqb (length name) 48) z ∙ unless-false 1 (ne-eqb (length name) 48 h)) in
+        row-kept (row-number q) (λ (w : 1 ≡ 0). absurd (omega arith))
+
+    pub row-done : {k : ℕ} {name₁ : List ℕ} → length name ≡ 48 → k ≡ typeNumber (read .row .kind) → name₁ ≡ nameIn name (read .row .name)
+        → RowEntry message at credential kind name 0 (read .row .credential .0) k name₁
+    row-done h a b =
+        let q : 0 ≡ rowEntryNumber message at name = row-number (sym (pass (1 unless eqb (length name) 48) z ∙ unless-true 1 (eq-eqb (length name) 48 h))) in
+        let g : eqb (rowEntryNumber message at name) 0 ≡ true = rw (← q) in
+        record {
+          number-is = q;
+          credential-is = rw (g, ← e);
+          kind-is = a ∙ rw (g, ← e);
+          name-is = b ∙ rw (g, ← e) (name-in name (read .row .name) h);
+        }
+
+-- ---- a fresh module
+pub record Flags (l : List ℕ) (i : ℕ) : Type 0 where
+  pub low : i ≤ length l
+  pub rest : every isFlag l ≡ every isFlag (drop i l)
+
+pub flags-begin : (l : List ℕ) → Flags l 0
+flags-begin l = record { low = omega arith; rest = refl }
+
+module _ {l : List ℕ} {i : ℕ} (v : Flags l i) where
+  module _ (h : i < length l) where
+    ahead : every isFlag l ≡ leb (getD l i 0) 1 && every isFlag (drop (i + 1) l)
+    unfolding every isFlag
+    ahead = v .rest ∙ rw (drop-cons l i 0 h, add-one)
+
+    pub flags-on : getD l i 0 ≤ 1 → Flags l (i + 1)
+    flags-on k = record { low = omega arith; rest = ahead ∙ rw (le-leb (getD l i 0) 1 k) }
+
+    pub flags-fail : 1 < getD l i 0 → false ≡ every isFlag l
+    flags-fail k = sym (ahead ∙ rw (lt-leb (getD l i 0) 1 k))
+
+  pub flags-all : length l ≤ i → true ≡ every isFlag l
+  unfolding every
+  flags-all h = sym (v .rest ∙ rw (drop-of-length-le l h))
+
+module _ (flags words : List ℕ) where
+  pub pairs-flags : (length flags ≡ 8 → ⊥) → false ≡ arePairs flags words
+  unfolding arePairs
+  pairs-flags h = rw (ne-eqb (length flags) 8 h)
+
+  module _ (k : length flags ≡ 8) where
+    pub pairs-words : (length words ≡ 8 → ⊥) → false ≡ arePairs flags words
+    unfolding arePairs
+    pairs-words h = rw (eq-eqb (length flags) 8 k, ne-eqb (length words) 8 h)
+
+    pub pairs-are : {b : Bool} → length words ≡ 8 → b ≡ every isFlag flags → b ≡ arePairs flags words
+    unfolding arePairs
+    pairs-are h e = e ∙ rw (eq-eqb (length flags) 8 k, eq-eqb (length words) 8 h)
+
+  module _ (e : arePairs flags words ≡ true) where
+    pub flags-long : length flags ≡ 8
+    unfolding arePairs
+    flags-long = eqb-true (length flags) 8 (and-left (eqb (length flags) 8) _ e)
+
+    pub words-long : length words ≡ 8
+    unfolding arePairs
+    words-long = eqb-true (length words) 8 (and-left (eqb (length words) 8) _ (and-right (eqb (length flags) 8) _ e))
+
+pairs-length : (flags words : List ℕ) → length flags ≡ length words → length (pairsOf flags words) ≡ length flags
+unfolding pairsOf
+pairs-length [] words h = refl
+pairs-length (f ∷ flags) [] h = absurd (omega arith)
+pairs-length (f ∷ flags) (w ∷ words) h = let k : length flags ≡ length words = omega arith in rw (pairs-length flags words k)
+
+pairs-at : (flags words : List ℕ) (i : ℕ) → length flags ≡ length words → i < length flags → getD (pairsOf flags words) i unprovisioned ≡ record { provisioned = eqb (getD flags i 0) 1; word = getD words i 0 }
+unfolding pairsOf
+pairs-at [] words i h k = absurd (omega arith)
+pairs-at (f ∷ flags) [] i h k = absurd (omega arith)
+pairs-at (f ∷ flags) (w ∷ words) zero h k = refl
+pairs-at (f ∷ flags) (w ∷ words) (suc i) h k = pairs-at flags words i (omega arith) (omega arith)
+
+module _ (flags words : List ℕ) (a : length flags ≡ 8) (b : length words ≡ 8) where
+  long-8 : length (pairsOf flags words) ≡ 8
+  long-8 = pairs-length flags words (a ∙ sym b) ∙ a
+
+  pub pairs-begin : Copied (pairsOf flags words) (replicate 8 unprovisioned) (replicate 8 unprovisioned) 0
+  pairs-begin = copied-none (pairsOf flags words) (replicate 8 unprovisioned) (sym long-8)
+
+  module _ {d l : List Grants} {i : ℕ} (v : Copied (pairsOf flags words) d l i) where
+    pub pairs-on : i < 8 → Copied (pairsOf flags words) d (set l i (record { provisioned = eqb (getD flags i 0) 1; word = getD words i 0 })) (i + 1)
+    pairs-on h =
+        let e : getD (pairsOf flags words) i unprovisioned ≡ record { provisioned = eqb (getD flags i 0) 1; word = getD words i 0 } = pairs-at flags words i (a ∙ sym b) (rw a h) in
+        rw e at (copied-more v unprovisioned (rw long-8 h))
+
+    pub pairs-all : 8 ≤ i → l ≡ pairsOf flags words
+    pairs-all h = copied-all v (rw long-8 h)
+
+module _ (before flags words : List ℕ) where
+  fresh-kept : canFresh before flags words ≡ false → FreshEntry before flags words 1 before
+  unfolding _unless_
+  fresh-kept z = record { number-is = rw z; bytes-are = rw z }
+
+  pub fresh-long : (length before ≡ 681 → ⊥) → FreshEntry before flags words 1 before
+  unfolding canFresh
+  fresh-long h = fresh-kept (rw (ne-eqb (length before) 681 h))
+
+  module _ (k : length before ≡ 681) {h : Bool} (e : h ≡ arePairs flags words) where
+    pub fresh-refused : not h ≡ true → FreshEntry before flags words 1 before
+    unfolding canFresh
+    fresh-refused n = fresh-kept (rw (eq-eqb (length before) 681 k, ← e, not-true h n))
+
+    pub fresh-made : {pairs : List Grants} {st : State} {after : List ℕ} → not h ≡ false → pairs ≡ pairsOf flags words → st ≡ fresh pairs → after ≡ stateWritten before st → FreshEntry before flags words 0 after
+    unfolding canFresh _unless_
+    fresh-made n p q w =
+        let z : arePairs flags words ≡ true = sym e ∙ not-false h n in
+        record {
+          number-is = rw (eq-eqb (length before) 681 k, z);
+          bytes-are = w ∙ rw (state-written before _ k, q, p, eq-eqb (length before) 681 k, z);
+        }
+
+module _ (flags words : List ℕ) {h : Bool} (e : h ≡ arePairs flags words) (n : not h ≡ false) where
+  pub eight-flags : length flags ≡ 8
+  eight-flags = flags-long flags words (sym e ∙ not-false h n)
+
+  pub eight-words : length words ≡ 8
+  eight-words = words-long flags words (sym e ∙ not-false h n)
+
+-- ---- calls with equal arguments
+module _ {s t : Session} (e : s ≡ t) where
+  pub same-open : Open s ≡ Open t
+  same-open = rw e
+
+  pub same-close : Close s ≡ Close t
+  same-close = rw e
+
+  pub same-select : {b d : ℕ} → b ≡ d → Select s b ≡ Select t d
+  same-select f = rw (e, f)
+
+  pub same-drop : Drop s ≡ Drop t
+  same-drop = rw e
+
+  module _ {a b : Credential} (f : a ≡ b) {read other : NameRead} (g : read ≡ other) where
+    pub same-start : Start s a (read .name) ≡ Start t b (other .name)
+    same-start = rw (e, f, g)
+
+    pub same-continue : Continue s a (read .name) ≡ Continue t b (other .name)
+    same-continue = rw (e, f, g)
+
+    pub same-elevate : (verdict : Bool) → Elevate s a (read .name) verdict ≡ Elevate t b (other .name) verdict
+    same-elevate verdict = rw (e, f, g)
+
+  pub same-end : {u v : UserClaim} → u ≡ v → (keep : Bool) → End s u keep ≡ End t v keep
+  same-end f keep = rw (e, f)
+
+  module _ {a b : Claim} (f : a ≡ b) where
+    pub same-record : {c d : Class} → c ≡ d → Record s a c ≡ Record t b d
+    same-record g = rw (e, f, g)
+
+    pub same-kill : {read other : NameRead} → read ≡ other → Kill s a (read .name) ≡ Kill t b (other .name)
+    same-kill g = rw (e, f, g)
+
+    pub same-set-word : {c d : Credential} → c ≡ d → (word : ℕ) → SetWord s a c word ≡ SetWord t b d word
+    same-set-word g word = rw (e, f, g)
+
+-- ---- what the arguments were tested for
+pub fine-fits : {read other : NameRead} → read ≡ other → read .fits ≡ other .fits
+fine-fits e = rw e
+
+pub fine-both : {x a b c d : Bool} → x ≡ a && b → a ≡ c → b ≡ d → x ≡ c && d
+fine-both e f g = e ∙ rw (f, g)
+
+pub ruleset rules = (needs, byte-in, byte-out, session-is, class-is, credential-in, credential-out, wanted-every, wanted-only, flag-is, user-claim-is, claim-elevated, claim-user, claimed-elevated, claimed-user, claimed-none, both-true, both-false, stored-done, stored-refused, entry-refused, entry-called, same-open, same-close, same-select, same-drop, same-start, same-continue, same-elevate, same-end, same-record, same-kill, same-set-word, fine-fits, fine-both, list-refused, list-called, given-refused, given-done, request-number, request-credential, count-number, count-count, row-refused, row-nowhere, row-done, flags-begin, flags-on, flags-fail, flags-all, pairs-flags, pairs-words, pairs-are, pairs-begin, pairs-on, pairs-all, eight-flags, eight-words, fresh-long, fresh-refused, fresh-made)

@@ -1,0 +1,15 @@
+use Rattle.host.proofs.Rules.{rules}
+use Rattle.host.proofs.byte_of.Statement.{statement}
+use Rattle.host.proofs.byte_of.Tie as tie
+
+cast-result : tie.Need-cast-result
+cast-result c = search rules
+
+returns : tie.Need-returns
+returns c = search rules
+
+returns-2 : tie.Need-returns-2
+returns-2 c = search rules
+
+pub byte-of-spec : {M : Type 1} → statement M
+byte-of-spec = tie.close (tie.spec cast-result returns returns-2)

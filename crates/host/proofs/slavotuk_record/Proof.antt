@@ -1,0 +1,60 @@
+use Rattle.host.proofs.Rules.{rules}
+use Rattle.host.proofs.slavotuk_record.Statement.{statement}
+use Rattle.host.proofs.slavotuk_record.Tie as tie
+
+is-claimed-requires : tie.Need-is-claimed-requires
+is-claimed-requires c κs = search rules
+
+is-ready-requires : tie.Need-is-ready-requires
+is-ready-requires c κs = search rules
+
+cast-result : tie.Need-cast-result
+cast-result c = search rules
+
+same-length : tie.Need-same-length
+same-length c = search rules
+
+returns : tie.Need-returns
+returns c = search rules
+
+read-requires : tie.Need-read-requires
+read-requires c κs = search rules
+
+session-of-requires : tie.Need-session-of-requires
+session-of-requires c κs = search rules
+
+claim-of-requires : tie.Need-claim-of-requires
+claim-of-requires c κs = search rules
+
+class-of-requires : tie.Need-class-of-requires
+class-of-requires c κs = search rules
+
+record-requires : tie.Need-record-requires
+record-requires c κs = search rules
+
+stored-requires : tie.Need-stored-requires
+stored-requires c κs = search rules
+
+same-length-2 : tie.Need-same-length-2
+same-length-2 c = search rules
+
+returns-2 : tie.Need-returns-2
+returns-2 c = search rules
+
+pub slavotuk-record-spec : {M : Type 1} → statement M
+slavotuk-record-spec =
+    tie.close
+    (tie.spec
+    is-claimed-requires
+    is-ready-requires
+    cast-result
+    same-length
+    returns
+    read-requires
+    session-of-requires
+    claim-of-requires
+    class-of-requires
+    record-requires
+    stored-requires
+    same-length-2
+    returns-2)

@@ -1,0 +1,4 @@
+pub mod Entry
+pub mod Fresh
+pub mod Messages
+pub mod Stored

@@ -1,0 +1,52 @@
+-- The listing's entry, and those that read and write its messages.
+use Prim.Native.Nat.{ℕ}
+use mathlib.Core.Path.{_≡_}
+use mathlib.Core.Bool.{Bool, cond}
+use mathlib.Core.List.{List, _++_}
+use lib.Dec.{eqb}
+use lib.ListN.{length, drop}
+use Rattle.names.specs.Names.{typeNumber}
+use Rattle.names.specs.declared.Session.{Session}
+use Rattle.claims.specs.Numbers as No
+use Rattle.claims.specs.Numbers.{_unless_, _▸_}
+use Rattle.claims.specs.declared.Claim.{Claim}
+use Rattle.calls.specs.Calls.{List′}
+use Rattle.calls.specs.Listing.{rowsOf, messageLength, listing}
+use Rattle.calls.specs.declared.Wanted.{Wanted}
+use Rattle.layout.specs.Layout.{stateOf}
+use Rattle.wire.specs.Wire.{readRowAt}
+use Rattle.host.specs.Entry.{entryNumber, Entry}
+
+-- a value handed out through a parameter: where the number is another than 0, the parameter stays as it was
+pub record Given (number value before answer after : ℕ) : Type 0 where
+  pub number-is : answer ≡ number
+  pub value-is : after ≡ cond (eqb number No.done) value before
+
+-- the list call. "A refusal leaves state and buffer as they were."
+unfoldable pub entryResponse : Bool → List ℕ → Session → Claim → Wanted → List ℕ → List ℕ
+entryResponse fine before s claim wanted old =
+    cond (eqb (entryNumber fine before (List′ s claim wanted (length old))) No.done)
+    (listing (rowsOf (stateOf before) wanted) ++ drop (messageLength (length (rowsOf (stateOf before) wanted))) old)
+    old
+
+-- "Returns the message's length; 0 on a refusal."
+unfoldable pub entryLength : Bool → List ℕ → Session → Claim → Wanted → ℕ → ℕ
+entryLength fine before s claim wanted room =
+    cond (eqb (entryNumber fine before (List′ s claim wanted room)) No.done) (messageLength (length (rowsOf (stateOf before) wanted))) 0
+
+pub record ListEntry (fine : Bool) (before : List ℕ) (s : Session) (claim : Claim) (wanted : Wanted) (old : List ℕ) (answer : ℕ) (after new : List ℕ) (long : ℕ) : Type 0 where
+  pub entry : Entry fine before (List′ s claim wanted (length old)) answer after
+  pub response-is : new ≡ entryResponse fine before s claim wanted old
+  pub length-is : long ≡ entryLength fine before s claim wanted (length old)
+
+-- the row at a place. "for the row, 14 comes before 1"; a name's slice of another length than 48 is 1
+unfoldable pub rowEntryNumber : List ℕ → ℕ → List ℕ → ℕ
+rowEntryNumber message at name =
+    readRowAt message at .number
+    ▸ No.argument unless eqb (length name) 48
+
+pub record RowEntry (message : List ℕ) (at credential kind : ℕ) (name : List ℕ) (answer credential₁ kind₁ : ℕ) (name₁ : List ℕ) : Type 0 where
+  pub number-is : answer ≡ rowEntryNumber message at name
+  pub credential-is : credential₁ ≡ cond (eqb (rowEntryNumber message at name) No.done) (readRowAt message at .row .credential .0) credential
+  pub kind-is : kind₁ ≡ cond (eqb (rowEntryNumber message at name) No.done) (typeNumber (readRowAt message at .row .kind)) kind
+  pub name-is : name₁ ≡ cond (eqb (rowEntryNumber message at name) No.done) (readRowAt message at .row .name .bytes) name

@@ -1,0 +1,521 @@
+// The module as programs in C and Rust call it: numbers and byte slices, the state in a slice that they lend.
+ghost use mathlib.Core.Path.{_≡_};
+ghost use mathlib.Core.Bool.{true, _&&_};
+ghost use lib.ListN.{length};
+ghost use Rattle.codec.specs.Codec.{every};
+ghost use Rattle.names.specs.Names.{readName, typeNumber};
+ghost use Rattle.calls.specs.Calls.{Open, Close, Select, Start, Continue, Elevate, Drop, End, Record, Kill, SetWord};
+ghost use Rattle.layout.specs.Layout.{byteOf, holdsState};
+ghost use Rattle.wire.specs.Bytes.{over};
+ghost use Rattle.wire.specs.Wire.{request, readRequest, requestRoom, readCount};
+ghost use Rattle.host.specs.Entry.{sessionOf, classOf, credentialOf, wantedOf, isFlag, flagOf, userClaimOf, claimOf, isClaimed, Entry};
+ghost use Rattle.host.specs.Fresh.{pairsOf, arePairs, FreshEntry};
+ghost use Rattle.host.specs.Messages.{Given, ListEntry, RowEntry};
+ghost use Rattle.host.specs.Stored.{Stored};
+use calls::Outcome;
+use calls::Wanted;
+use claims::ARGUMENT;
+use claims::Claim;
+use claims::Class;
+use claims::DONE;
+use claims::Grants;
+use claims::UserClaim;
+use names::Credential;
+use names::Session;
+
+// ---- arguments
+
+fn byte_of(n: u32) -> u8
+    ensures { λ r. ⌜ r ≡ byteOf n ⌝ }
+{
+    if n < 256 { n as u8 } else { 255 }
+}
+
+fn session_of(n: u32) -> Session
+    ensures { λ r. ⌜ r ≡ sessionOf n ⌝ }
+{
+    Session(byte_of(n))
+}
+
+fn class_of(n: u32) -> Class
+    ensures { λ r. ⌜ r ≡ classOf n ⌝ }
+{
+    Class(byte_of(n))
+}
+
+fn credential_of(n: u32) -> Credential
+    ensures { λ r. ⌜ r ≡ credentialOf n ⌝ }
+{
+    if n < 65536 {
+        Credential(n as u16)
+    } else {
+        Credential(65535)
+    }
+}
+
+fn wanted_of(n: u32) -> Wanted
+    ensures { λ r. ⌜ r ≡ wantedOf n ⌝ }
+{
+    if n == 65535 {
+        return Wanted::Every;
+    }
+    Wanted::Only(credential_of(n))
+}
+
+fn is_flag(n: u32) -> bool
+    ensures { λ r. ⌜ r ≡ isFlag n ⌝ }
+{
+    n <= 1
+}
+
+fn are_flags(m: u32, n: u32) -> bool
+    ensures { λ r. ⌜ r ≡ isFlag m && isFlag n ⌝ }
+{
+    both(is_flag(m), is_flag(n))
+}
+
+fn user_claim_of(credential: u32, number: u16, verdict: u32) -> UserClaim
+    ensures { λ r. ⌜ r ≡ userClaimOf credential number verdict ⌝ }
+{
+    let c = credential_of(credential);
+    UserClaim {
+        credential: c,
+        number: number,
+        verdict: verdict == 1,
+    }
+}
+
+fn claim_of(kind: u32, credential: u32, number: u16, verdict: u32) -> Claim
+    ensures { λ r. ⌜ r ≡ claimOf kind credential number verdict ⌝ }
+{
+    if kind == 1 {
+        return Claim::Elevated;
+    }
+    Claim::ByUser(user_claim_of(credential, number, verdict))
+}
+
+fn is_claimed(kind: u32, verdict: u32) -> bool
+    ensures { λ r. ⌜ r ≡ isClaimed kind verdict ⌝ }
+{
+    if kind == 1 {
+        return true;
+    }
+    kind == 0 && is_flag(verdict)
+}
+
+// Whether the arguments are in order, and the slice holds a state.
+fn is_ready(fine: bool, state: &[u8]) -> bool
+    ensures { λ r. ⌜ r ≡ fine && holdsState (now (state .entry)) ⌝ }
+{
+    fine && state_test::holds(state)
+}
+
+fn both(a: bool, b: bool) -> bool
+    ensures { λ r. ⌜ r ≡ a && b ⌝ }
+{
+    a && b
+}
+
+// The number of an outcome; where that is 0, its state is written.
+fn stored(state: &mut [u8], outcome: Outcome) -> u32
+    ensures { λ r. ⌜ Stored (now (state .entry)) outcome r (now (state .exit)) ⌝ }
+{
+    let answer = outcome.answer;
+    let n = calls::answer_number(answer);
+    if n != DONE {
+        return n as u32;
+    }
+    let next = outcome.state;
+    state_write::write(state, next);
+    DONE as u32
+}
+
+// ---- the calls
+
+#[no_mangle]
+pub extern "C" fn slavotuk_open(state: &mut [u8], session: u32) -> u32
+    ensures { λ r. ⌜ Entry true (now (state .entry)) (Open (sessionOf session)) r (now (state .exit)) ⌝ }
+{
+    if !is_ready(true, state) {
+        return ARGUMENT as u32;
+    }
+    let st = state_read::read(state);
+    stored(state, calls::open_session(st, session_of(session)))
+}
+
+#[no_mangle]
+pub extern "C" fn slavotuk_close(state: &mut [u8], session: u32) -> u32
+    ensures { λ r. ⌜ Entry true (now (state .entry)) (Close (sessionOf session)) r (now (state .exit)) ⌝ }
+{
+    if !is_ready(true, state) {
+        return ARGUMENT as u32;
+    }
+    let st = state_read::read(state);
+    stored(state, calls::close_session(st, session_of(session)))
+}
+
+#[no_mangle]
+pub extern "C" fn slavotuk_select(state: &mut [u8], session: u32, version: u32) -> u32
+    ensures { λ r. ⌜ Entry true (now (state .entry)) (Select (sessionOf session) (byteOf version)) r (now (state .exit)) ⌝ }
+{
+    if !is_ready(true, state) {
+        return ARGUMENT as u32;
+    }
+    let st = state_read::read(state);
+    stored(
+        state,
+        calls::select_version(st, session_of(session), byte_of(version)),
+    )
+}
+
+#[no_mangle]
+pub extern "C" fn slavotuk_start(
+    state: &mut [u8],
+    session: u32,
+    credential: u32,
+    name: &[u8],
+) -> u32
+    ensures { λ r. ⌜ Entry (readName (now (name .entry)) .fits) (now (state .entry)) (Start (sessionOf session) (credentialOf credential) (readName (now (name .entry)) .name)) r (now (state .exit)) ⌝ }
+{
+    let read = names::read_name(name);
+    if !is_ready(read.fits, state) {
+        return ARGUMENT as u32;
+    }
+    let st = state_read::read(state);
+    stored(
+        state,
+        calls::start(
+            st,
+            session_of(session),
+            credential_of(credential),
+            read.name,
+        ),
+    )
+}
+
+#[no_mangle]
+pub extern "C" fn slavotuk_continue(
+    state: &mut [u8],
+    session: u32,
+    credential: u32,
+    name: &[u8],
+) -> u32
+    ensures { λ r. ⌜ Entry (readName (now (name .entry)) .fits) (now (state .entry)) (Continue (sessionOf session) (credentialOf credential) (readName (now (name .entry)) .name)) r (now (state .exit)) ⌝ }
+{
+    let read = names::read_name(name);
+    if !is_ready(read.fits, state) {
+        return ARGUMENT as u32;
+    }
+    let st = state_read::read(state);
+    stored(
+        state,
+        calls::continue_saved(
+            st,
+            session_of(session),
+            credential_of(credential),
+            read.name,
+        ),
+    )
+}
+
+#[no_mangle]
+pub extern "C" fn slavotuk_elevate(
+    state: &mut [u8],
+    session: u32,
+    credential: u32,
+    name: &[u8],
+    verdict: u32,
+) -> u32
+    ensures { λ r. ⌜ Entry (readName (now (name .entry)) .fits && isFlag verdict) (now (state .entry)) (Elevate (sessionOf session) (credentialOf credential) (readName (now (name .entry)) .name) (flagOf verdict)) r (now (state .exit)) ⌝ }
+{
+    let read = names::read_name(name);
+    if !is_ready(both(read.fits, is_flag(verdict)), state) {
+        return ARGUMENT as u32;
+    }
+    let st = state_read::read(state);
+    stored(
+        state,
+        calls::elevate(
+            st,
+            session_of(session),
+            credential_of(credential),
+            read.name,
+            verdict == 1,
+        ),
+    )
+}
+
+#[no_mangle]
+pub extern "C" fn slavotuk_drop(state: &mut [u8], session: u32) -> u32
+    ensures { λ r. ⌜ Entry true (now (state .entry)) (Drop (sessionOf session)) r (now (state .exit)) ⌝ }
+{
+    if !is_ready(true, state) {
+        return ARGUMENT as u32;
+    }
+    let st = state_read::read(state);
+    stored(state, calls::drop_elevation(st, session_of(session)))
+}
+
+#[no_mangle]
+pub extern "C" fn slavotuk_end(
+    state: &mut [u8],
+    session: u32,
+    credential: u32,
+    number: u16,
+    verdict: u32,
+    keep: u32,
+) -> u32
+    ensures { λ r. ⌜ Entry (isFlag verdict && isFlag keep) (now (state .entry)) (End (sessionOf session) (userClaimOf credential number verdict) (flagOf keep)) r (now (state .exit)) ⌝ }
+{
+    if !is_ready(are_flags(verdict, keep), state) {
+        return ARGUMENT as u32;
+    }
+    let st = state_read::read(state);
+    stored(
+        state,
+        calls::end(
+            st,
+            session_of(session),
+            user_claim_of(credential, number, verdict),
+            keep == 1,
+        ),
+    )
+}
+
+#[no_mangle]
+pub extern "C" fn slavotuk_record(
+    state: &mut [u8],
+    session: u32,
+    kind: u32,
+    credential: u32,
+    number: u16,
+    verdict: u32,
+    class: u32,
+) -> u32
+    ensures { λ r. ⌜ Entry (isClaimed kind verdict) (now (state .entry)) (Record (sessionOf session) (claimOf kind credential number verdict) (classOf class)) r (now (state .exit)) ⌝ }
+{
+    if !is_ready(is_claimed(kind, verdict), state) {
+        return ARGUMENT as u32;
+    }
+    let st = state_read::read(state);
+    stored(
+        state,
+        calls::record(
+            st,
+            session_of(session),
+            claim_of(kind, credential, number, verdict),
+            class_of(class),
+        ),
+    )
+}
+
+#[no_mangle]
+pub extern "C" fn slavotuk_kill(
+    state: &mut [u8],
+    session: u32,
+    kind: u32,
+    credential: u32,
+    number: u16,
+    verdict: u32,
+    name: &[u8],
+) -> u32
+    ensures { λ r. ⌜ Entry (readName (now (name .entry)) .fits && isClaimed kind verdict) (now (state .entry)) (Kill (sessionOf session) (claimOf kind credential number verdict) (readName (now (name .entry)) .name)) r (now (state .exit)) ⌝ }
+{
+    let read = names::read_name(name);
+    if !is_ready(both(read.fits, is_claimed(kind, verdict)), state) {
+        return ARGUMENT as u32;
+    }
+    let st = state_read::read(state);
+    stored(
+        state,
+        calls::kill(
+            st,
+            session_of(session),
+            claim_of(kind, credential, number, verdict),
+            read.name,
+        ),
+    )
+}
+
+#[no_mangle]
+pub extern "C" fn slavotuk_set_word(
+    state: &mut [u8],
+    session: u32,
+    kind: u32,
+    credential: u32,
+    number: u16,
+    verdict: u32,
+    target: u32,
+    word: u32,
+) -> u32
+    ensures { λ r. ⌜ Entry (isClaimed kind verdict) (now (state .entry)) (SetWord (sessionOf session) (claimOf kind credential number verdict) (credentialOf target) word) r (now (state .exit)) ⌝ }
+{
+    if !is_ready(is_claimed(kind, verdict), state) {
+        return ARGUMENT as u32;
+    }
+    let st = state_read::read(state);
+    stored(
+        state,
+        calls::set_word(
+            st,
+            session_of(session),
+            claim_of(kind, credential, number, verdict),
+            credential_of(target),
+            word,
+        ),
+    )
+}
+
+// ---- the listing, and its messages
+
+#[no_mangle]
+pub extern "C" fn slavotuk_list(
+    state: &mut [u8],
+    session: u32,
+    kind: u32,
+    credential: u32,
+    number: u16,
+    verdict: u32,
+    wanted: u32,
+    response: &mut [u8],
+    long: &mut usize,
+) -> u32
+    ensures { λ r. ⌜ ListEntry (isClaimed kind verdict) (now (state .entry)) (sessionOf session) (claimOf kind credential number verdict) (wantedOf wanted) (now (response .entry)) r (now (state .exit)) (now (response .exit)) (now (long .exit)) ⌝ }
+{
+    if !is_ready(is_claimed(kind, verdict), state) {
+        *long = 0;
+        return ARGUMENT as u32;
+    }
+    let st = state_read::read(state);
+    let listed = wire::list(
+        st,
+        session_of(session),
+        claim_of(kind, credential, number, verdict),
+        wanted_of(wanted),
+        response,
+    );
+    let outcome = listed.outcome;
+    *long = listed.length;
+    stored(state, outcome)
+}
+
+#[no_mangle]
+pub extern "C" fn slavotuk_read_request(message: &[u8], credential: &mut u16) -> u32
+    ensures { λ r. ⌜ Given (readRequest (now (message .entry)) .number) (readRequest (now (message .entry)) .credential) (now (credential .entry)) r (now (credential .exit)) ⌝ }
+{
+    let read = wire::read_request(message);
+    if read.number != DONE {
+        return read.number as u32;
+    }
+    *credential = read.credential;
+    DONE as u32
+}
+
+#[no_mangle]
+pub extern "C" fn slavotuk_write_request(buffer: &mut [u8], credential: u16) -> u32
+    ensures { λ r. ⌜ (r ≡ requestRoom (now (buffer .entry))) × (now (buffer .exit) ≡ over 0 4 (request credential) (now (buffer .entry))) ⌝ }
+{
+    wire::put_request(buffer, credential) as u32
+}
+
+#[no_mangle]
+pub extern "C" fn slavotuk_read_count(message: &[u8], count: &mut u16) -> u32
+    ensures { λ r. ⌜ Given (readCount (now (message .entry)) .number) (readCount (now (message .entry)) .count) (now (count .entry)) r (now (count .exit)) ⌝ }
+{
+    let read = wire::read_count(message);
+    if read.number != DONE {
+        return read.number as u32;
+    }
+    *count = read.count;
+    DONE as u32
+}
+
+#[no_mangle]
+pub extern "C" fn slavotuk_read_row(
+    message: &[u8],
+    at: usize,
+    credential: &mut u16,
+    kind: &mut u8,
+    name: &mut [u8],
+) -> u32
+    ensures { λ r. ⌜ RowEntry (now (message .entry)) at (now (credential .entry)) (now (kind .entry)) (now (name .entry)) r (now (credential .exit)) (now (kind .exit)) (now (name .exit)) ⌝ }
+{
+    let found = wire::read_row_at(message, at);
+    if found.number != DONE {
+        return found.number as u32;
+    }
+    if name.len() != 48 {
+        return ARGUMENT as u32;
+    }
+    let row = found.row;
+    let c = row.credential;
+    let k = row.kind;
+    let t = row.name;
+    *credential = c.0;
+    *kind = names::type_number(k);
+    names::put_name(name, t);
+    DONE as u32
+}
+
+// ---- a fresh module
+
+fn are_all_flags(l: &[u8]) -> bool
+    ensures { λ r. ⌜ r ≡ every isFlag (now (l .entry)) ⌝ }
+{
+    let mut i: usize = 0;
+    while i < l.len() {
+        let one = l[i];
+        if one > 1 {
+            return false;
+        }
+        i += 1;
+    }
+    true
+}
+
+fn are_pairs(provisioned: &[u8], words: &[u32]) -> bool
+    ensures { λ r. ⌜ r ≡ arePairs (now (provisioned .entry)) (now (words .entry)) ⌝ }
+{
+    if provisioned.len() != 8 {
+        return false;
+    }
+    if words.len() != 8 {
+        return false;
+    }
+    are_all_flags(provisioned)
+}
+
+fn pairs_of(provisioned: &[u8], words: &[u32]) -> [Grants; 8]
+    requires { ⌜ (length (now provisioned) ≡ 8) × (length (now words) ≡ 8) ⌝ }
+    ensures { λ r. ⌜ r ≡ pairsOf (now (provisioned .entry)) (now (words .entry)) ⌝ }
+{
+    let none = Grants {
+        provisioned: false,
+        word: 0,
+    };
+    let mut pairs = [none; 8];
+    let mut i: usize = 0;
+    while i < 8 {
+        pairs[i] = Grants {
+            provisioned: provisioned[i] == 1,
+            word: words[i],
+        };
+        i += 1;
+    }
+    pairs
+}
+
+#[no_mangle]
+pub extern "C" fn slavotuk_fresh(state: &mut [u8], provisioned: &[u8], words: &[u32]) -> u32
+    ensures { λ r. ⌜ FreshEntry (now (state .entry)) (now (provisioned .entry)) (now (words .entry)) r (now (state .exit)) ⌝ }
+{
+    if state.len() != 681 {
+        return ARGUMENT as u32;
+    }
+    if !are_pairs(provisioned, words) {
+        return ARGUMENT as u32;
+    }
+    let next = calls::fresh(pairs_of(provisioned, words));
+    state_write::write(state, next);
+    DONE as u32
+}
