@@ -3,7 +3,7 @@ ghost use mathlib.Core.Path.{_≡_};
 ghost use mathlib.Core.Bool.{true, _&&_};
 ghost use lib.ListN.{length};
 ghost use Rattle.codec.specs.Codec.{every};
-ghost use Rattle.names.specs.Names.{readName, typeNumber};
+ghost use Rattle.names.specs.Names.{readName};
 ghost use Rattle.calls.specs.Calls.{Open, Close, Select, Start, Continue, Elevate, Drop, End, Record, Kill, SetWord};
 ghost use Rattle.layout.specs.Layout.{byteOf, holdsState};
 ghost use Rattle.wire.specs.Bytes.{over};
