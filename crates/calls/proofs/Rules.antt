@@ -215,17 +215,17 @@ module _ (st : State) (c : Credential) {b : Bool} (e : b ≡ granted st c killOt
 -- ---- the claim counted
 module _ (st : State) (s : Session) where
   module _ (u : UserClaim) (z : admitted st s (ByUser u) ≡ 0) where
-    unspent : isSpent (activeProcess st (UserOf s (u .credential))) ≡ false
+    unspent : isSpent (activeProcess st (UserOf s (u .credential)) .next) ≡ false
     unfolding admitted claimNumber userNumber turnNumber
     unspent =
         let p : Process = activeProcess st (UserOf s (u .credential)) in
-        clear-when 13 tt (isSpent p) (clear-first _ _ (clear-rest _ _ (clear-rest _ _ (clear-rest _ _ (clear-rest _ _ z)))))
+        clear-when 13 tt (isSpent (p .next)) (clear-first _ _ (clear-rest _ _ (clear-rest _ _ (clear-rest _ _ (clear-rest _ _ z)))))
 
     pub next-fits : {k : ℕ} {p : Process} → k ≡ activePlace st (UserOf s (u .credential)) → p ≡ processAt (st .table) k → p .next < 65536 → Fits w16 (p .next + 1)
     unfolding isSpent activeProcess
     next-fits {k} {p} a e f =
         let q : p ≡ activeProcess st (UserOf s (u .credential)) = e ∙ ap (processAt (st .table)) a in
-        let g : p .next ≡ 65535 → ⊥ = eqb-false (p .next) 65535 (ap isSpent q ∙ unspent) in
+        let g : p .next ≡ 65535 → ⊥ = eqb-false (p .next) 65535 (ap (λ (x : Process). isSpent (x .next)) q ∙ unspent) in
         omega (arith, g)
 
     pub counted-is : {k : ℕ} {p : Process} {t : Table} {r : State}

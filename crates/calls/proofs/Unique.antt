@@ -4,6 +4,8 @@ use mathlib.Core.Path.{sym, _∙_}
 use Rattle.lists.proofs.Once.{OneAnswer}
 use Rattle.calls.proofs.answer_number.Kinds as answer-number-kinds
 use Rattle.calls.proofs.answer_number.Reads as answer-number
+use Rattle.calls.proofs.is_device.Kinds as is-device-kinds
+use Rattle.calls.proofs.is_device.Reads as is-device
 use Rattle.calls.proofs.open_session.Kinds as open-session-kinds
 use Rattle.calls.proofs.open_session.Reads as open-session
 use Rattle.calls.proofs.close_session.Kinds as close-session-kinds
@@ -35,6 +37,9 @@ use Rattle.calls.proofs.among_of.Reads as among-of
 
 pub answer-number-once : OneAnswer 0 answer-number-kinds.ps answer-number-kinds.r answer-number.Post
 answer-number-once κs a x y s t p q = p ∙ sym q
+
+pub is-device-once : OneAnswer 0 is-device-kinds.ps is-device-kinds.r is-device.Post
+is-device-once κs a x y s t p q = p ∙ sym q
 
 pub open-session-once : OneAnswer 0 open-session-kinds.ps open-session-kinds.r open-session.Post
 open-session-once κs a x y s t p q = p ∙ sym q

@@ -13,8 +13,8 @@ use Rattle.names.specs.declared.Name.{Name}
 use Rattle.names.specs.declared.Session.{Session}
 use Rattle.table.specs.Table.{standing, size, tableOf, processAt, isActive, isActiveIn, isAmong, isNamed, appended, replaced, removed, withoutSession}
 use Rattle.claims.specs.Numbers.{_when_, _unless_, _▸_}
-use Rattle.claims.specs.Module.{isHandle, phaseOf, isClosed, isChosen, isCredential, provisioned, wordOf, granted, hasActive, activePlace, activeProcess}
-use Rattle.claims.specs.Claim.{entered, isClaim, elevatedNumber, isSpent, isNext, turnNumber, userNumber, claimNumber, admitted, elevatedCredential, claimant}
+use Rattle.claims.specs.Module.{isHandle, phaseOf, isClosed, isChosen, isCredential, provisioned, wordOf, wordGrants, granted, hasActive, activePlace, activeProcess}
+use Rattle.claims.specs.Claim.{phaseNumber, entered, isClaim, elevatedNumber, isSpent, turnNumber, userNumber, claimNumber, admitted, elevatedCredential, claimant}
 use Rattle.claims.specs.declared.Claim.{Claim}
 use Rattle.claims.specs.declared.Claim.the-variants.{ByUser}
 use Rattle.claims.specs.declared.Class.{Class}
@@ -123,5 +123,5 @@ pub record Worked : Type 0 where
   pub next-is : map (λ p. p .next) (standing (run (fresh pairs) (calls (listed ++ continued)) .table)) ≡ 3 ∷ []
 
 pub worked : Worked
-unfolding any firstIndex reject select join removeAt padded bytesOf sameBytes sameName standing size tableOf processAt isActive isActiveIn isAmong isNamed appended replaced removed withoutSession _when_ _unless_ _▸_ isHandle phaseOf isClosed isChosen isCredential provisioned wordOf granted hasActive activePlace activeProcess entered isClaim elevatedNumber isSpent isNext turnNumber userNumber claimNumber admitted elevatedCredential claimant rowsOf messageLength listing isDevice isVersion isWanted isFull hasNamed namedPlace lacksSaving isOwn mayList isShort reach number counted ended effect refusal outcome taken fresh step run numbers
+unfolding any firstIndex reject select join removeAt padded bytesOf sameBytes sameName standing size tableOf processAt isActive isActiveIn isAmong isNamed appended replaced removed withoutSession _when_ _unless_ _▸_ isHandle phaseOf isClosed isChosen isCredential provisioned wordOf wordGrants granted hasActive activePlace activeProcess phaseNumber entered isClaim elevatedNumber isSpent turnNumber userNumber claimNumber admitted elevatedCredential claimant rowsOf messageLength listing isDevice isVersion isWanted isFull hasNamed namedPlace lacksSaving isOwn mayList isShort reach number counted ended effect refusal outcome taken fresh step run numbers
 worked = record { numbers-are = refl; listing-is = refl; next-is = refl }

@@ -550,7 +550,7 @@ pub fn end(st: State, s: Session, u: UserClaim, keep: bool) -> Outcome
 
 // ---- record
 
-fn is_device(class: Class) -> bool
+pub fn is_device(class: Class) -> bool
     ensures { λ r. ⌜ r ≡ isDevice class ⌝ }
 {
     4 <= class.0 && class.0 <= 31

@@ -29,8 +29,8 @@ use Rattle.table.specs.declared.Found.the-variants.{At, Nothing}
 use Rattle.table.specs.declared.Process.{Process}
 use Rattle.table.proofs.Searched.{FoundAt, found-at, found-none}
 use Rattle.claims.specs.Numbers.{_when_, _unless_, _▸_}
-use Rattle.claims.specs.Module.{isHandle, closedSession, phaseOf, isClosed, isChosen, isCredential, unprovisioned, provisioned, wordOf, granted, hasActive, activePlace, activeProcess}
-use Rattle.claims.specs.Claim.{isClaim, isSpent, isNext, turnNumber, elevatedNumber, userNumber, claimNumber, elevatedCredential, claimant}
+use Rattle.claims.specs.Module.{isHandle, closedSession, phaseOf, isClosed, isChosen, isCredential, unprovisioned, provisioned, wordOf, wordGrants, granted, hasActive, activePlace, activeProcess}
+use Rattle.claims.specs.Claim.{phaseNumber, entered, isClaim, isSpent, turnNumber, elevatedNumber, userNumber, claimNumber, elevatedCredential, claimant}
 use Rattle.claims.proofs.Laws.{stop, pass, when-true, when-false, unless-true, unless-false}
 
 nonzero : {n : ℕ} → T (ltb 0 n) → n ≡ 0 → ⊥
@@ -103,18 +103,6 @@ module _ {a b : Phase} (e : a ≡ b) where
   unfolding isClosed
   closed-chosen q = rw (← e, q)
 
-  pub chosen-closed : a ≡ Closed → false ≡ isChosen b
-  unfolding isChosen
-  chosen-closed q = rw (← e, q)
-
-  pub chosen-opened : a ≡ Opened → false ≡ isChosen b
-  unfolding isChosen
-  chosen-opened q = rw (← e, q)
-
-  pub chosen-chosen : a ≡ Chosen → true ≡ isChosen b
-  unfolding isChosen
-  chosen-chosen q = rw (← e, q)
-
 module _ (st : State) (c : Credential) where
   pub provisioned-in : getD (st .credentials) (c .0) unprovisioned .provisioned ≡ provisioned st c
   unfolding provisioned
@@ -136,13 +124,41 @@ module _ (st : State) (c : Credential) where
     unfolding wordOf
     word-out = ap (λ (g : Grants). g .word) (sym out)
 
-pub granted-not : (st : State) (c : Credential) (class : Class) → 31 < class .0 → false ≡ granted st c class
-unfolding granted
-granted-not st c class h = rw (lt-leb (class .0) 31 h)
+module _ (word : ℕ) (class : Class) where
+  pub grants-not : 31 < class .0 → false ≡ wordGrants word class
+  unfolding wordGrants
+  grants-not h = rw (lt-leb (class .0) 31 h)
 
-pub granted-is : (st : State) (c : Credential) (class : Class) {w : ℕ} → class .0 ≤ 31 → w ≡ wordOf st c → eqb (w / 2 ^ (class .0) % 2) 1 ≡ granted st c class
+  pub grants-is : class .0 ≤ 31 → eqb (word / 2 ^ (class .0) % 2) 1 ≡ wordGrants word class
+  unfolding wordGrants
+  grants-is h = rw (le-leb (class .0) 31 h)
+
+pub granted-is : (st : State) (c : Credential) (class : Class) {w : ℕ} {b : Bool} → w ≡ wordOf st c → b ≡ wordGrants w class → b ≡ granted st c class
 unfolding granted
-granted-is st c class h e = rw (e, le-leb (class .0) 31 h)
+granted-is st c class e q = q ∙ rw e
+
+-- ---- a session, by its phase
+module _ (s : Session) (phase : Phase) {b : Bool} (e : b ≡ isHandle s) where
+  pub phase-argument : not b ≡ true → 1 ≡ phaseNumber s phase
+  unfolding phaseNumber
+  phase-argument h = unless-stop 1 e _ tt h
+
+  module _ (h : not b ≡ false) where
+    pub phase-closed : phase ≡ Closed → 2 ≡ phaseNumber s phase
+    unfolding phaseNumber isClosed
+    phase-closed q = unless-pass 1 e _ h (rw q (when-stop 2 {b = true} refl _ tt refl))
+
+    pub phase-opened : phase ≡ Opened → 3 ≡ phaseNumber s phase
+    unfolding phaseNumber isClosed isChosen
+    phase-opened q = unless-pass 1 e _ h (rw q (when-pass 2 {b = false} refl _ refl (unless-hit 3 {b = false} refl refl)))
+
+    pub phase-chosen : phase ≡ Chosen → 0 ≡ phaseNumber s phase
+    unfolding phaseNumber isClosed isChosen
+    phase-chosen q = unless-pass 1 e _ h (rw q (when-pass 2 {b = false} refl _ refl (unless-miss 3 {b = true} refl refl)))
+
+pub entered-is : (st : State) (s : Session) {phase : Phase} {n : ℕ} → phase ≡ phaseOf st s → n ≡ phaseNumber s phase → n ≡ entered st s
+unfolding entered
+entered-is st s e q = q ∙ rw e
 
 -- ---- the active process, by the search's answer
 module _ (st : State) (which : Active) {f : Found} (e : f ≡ firstPlace (isActive which) (standing (st .table))) where
@@ -154,13 +170,17 @@ module _ (st : State) (which : Active) {f : Found} (e : f ≡ firstPlace (isActi
     here : FoundAt (isActive which) (standing (st .table)) k
     here = found-at (isActive which) (standing (st .table)) (sym e ∙ q)
 
+    pub place-is : k ≡ activePlace st which
+    unfolding activePlace
+    place-is = here .is
+
     pub one-active : hasActive st which ≡ true
     unfolding hasActive
     one-active = here .some
 
     pub process-is : {p : Process} → p ≡ processAt (st .table) k → p ≡ activeProcess st which
-    unfolding activePlace activeProcess
-    process-is r = r ∙ ap (processAt (st .table)) (here .is)
+    unfolding activeProcess
+    process-is r = r ∙ ap (processAt (st .table)) place-is
 
   pub missing-stop : (n m : ℕ) → T (ltb 0 n) → f ≡ Nothing → n ≡ n unless hasActive st which ▸ m
   missing-stop n m some q = rw (unless-false n (none-active q)) (sym (stop m (nonzero some)))
@@ -175,16 +195,12 @@ module _ (st : State) (which : Active) {f : Found} (e : f ≡ firstPlace (isActi
   found-last n q = sym (unless-true n (one-active q))
 
 -- ---- the claim, by its case
-pub spent-is : (p : Process) → eqb (p .next) 65535 ≡ isSpent p
+pub spent-is : (next : ℕ) → eqb next 65535 ≡ isSpent next
 unfolding isSpent
-spent-is p = refl
+spent-is next = refl
 
-pub next-is : (number : ℕ) (p : Process) → eqb number (p .next) ≡ isNext number p
-unfolding isNext
-next-is number p = refl
-
-pub turn-same : {p q : Process} {n : ℕ} (u : UserClaim) → n ≡ turnNumber p u → p ≡ q → n ≡ turnNumber q u
-turn-same u h e = h ∙ ap (λ (x : Process). turnNumber x u) e
+pub turn-same : {p q : Process} {n : ℕ} (u : UserClaim) → n ≡ turnNumber (p .next) u → p ≡ q → n ≡ turnNumber (q .next) u
+turn-same u h e = h ∙ ap (λ (x : Process). turnNumber (x .next) u) e
 
 pub elevated-fine : {claim : Claim} → claim ≡ Elevated → true ≡ isClaim claim
 unfolding isClaim
@@ -224,4 +240,4 @@ module _ (st : State) (s : Session) {claim : Claim} where
     unfolding claimant
     user-claimant = rw e
 
-pub ruleset rules = (needs, length-mapped, when-hit, when-miss, unless-hit, unless-miss, when-stop, when-pass, unless-stop, unless-pass, part-stop, part-pass, handle-is, credential-is, phase-in, phase-out, closed-closed, closed-opened, closed-chosen, chosen-closed, chosen-opened, chosen-chosen, spent-is, next-is, turn-same, elevated-fine, elevated-number, elevated-claimant, user-fine, user-number, user-claimant, provisioned-in, word-in, provisioned-out, word-out, process-is, missing-stop, found-pass, missing-last, found-last, none-elevated, one-elevated, granted-not, granted-is)
+pub ruleset rules = (needs, length-mapped, when-hit, when-miss, unless-hit, unless-miss, when-stop, when-pass, unless-stop, unless-pass, part-stop, part-pass, handle-is, credential-is, phase-in, phase-out, closed-closed, closed-opened, closed-chosen, phase-argument, phase-closed, phase-opened, phase-chosen, entered-is, spent-is, turn-same, elevated-fine, elevated-number, elevated-claimant, user-fine, user-number, user-claimant, provisioned-in, word-in, provisioned-out, word-out, process-is, missing-stop, found-pass, missing-last, found-last, none-elevated, one-elevated, grants-not, grants-is, granted-is)

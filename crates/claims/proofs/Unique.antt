@@ -20,6 +20,14 @@ use Rattle.claims.proofs.admitted.Kinds as admitted-kinds
 use Rattle.claims.proofs.admitted.Reads as admitted
 use Rattle.claims.proofs.claimant.Kinds as claimant-kinds
 use Rattle.claims.proofs.claimant.Reads as claimant
+use Rattle.claims.proofs.word_grants.Kinds as word-grants-kinds
+use Rattle.claims.proofs.word_grants.Reads as word-grants
+use Rattle.claims.proofs.phase_number.Kinds as phase-number-kinds
+use Rattle.claims.proofs.phase_number.Reads as phase-number
+use Rattle.claims.proofs.is_claim.Kinds as is-claim-kinds
+use Rattle.claims.proofs.is_claim.Reads as is-claim
+use Rattle.claims.proofs.turn_number.Kinds as turn-number-kinds
+use Rattle.claims.proofs.turn_number.Reads as turn-number
 
 pub is-handle-once : OneAnswer 0 is-handle-kinds.ps is-handle-kinds.r is-handle.Post
 is-handle-once κs a x y s t p q = p ∙ sym q
@@ -47,3 +55,15 @@ admitted-once κs a x y s t p q = p ∙ sym q
 
 pub claimant-once : OneAnswer 0 claimant-kinds.ps claimant-kinds.r claimant.Post
 claimant-once κs a x y s t p q = p ∙ sym q
+
+pub word-grants-once : OneAnswer 0 word-grants-kinds.ps word-grants-kinds.r word-grants.Post
+word-grants-once κs a x y s t p q = p ∙ sym q
+
+pub phase-number-once : OneAnswer 0 phase-number-kinds.ps phase-number-kinds.r phase-number.Post
+phase-number-once κs a x y s t p q = p ∙ sym q
+
+pub is-claim-once : OneAnswer 0 is-claim-kinds.ps is-claim-kinds.r is-claim.Post
+is-claim-once κs a x y s t p q = p ∙ sym q
+
+pub turn-number-once : OneAnswer 0 turn-number-kinds.ps turn-number-kinds.r turn-number.Post
+turn-number-once κs a x y s t p q = p ∙ sym q

@@ -51,8 +51,11 @@ provisioned st c = getD (st .credentials) (c .0) unprovisioned .provisioned
 unfoldable pub wordOf : State → Credential → ℕ
 wordOf st c = getD (st .credentials) (c .0) unprovisioned .word
 
+unfoldable pub wordGrants : ℕ → Class → Bool
+wordGrants word class = leb (class .0) 31 && eqb (word / 2 ^ (class .0) % 2) 1
+
 unfoldable pub granted : State → Credential → Class → Bool
-granted st c class = leb (class .0) 31 && eqb (wordOf st c / 2 ^ (class .0) % 2) 1
+granted st c class = wordGrants (wordOf st c) class
 
 -- ---- the table's active processes: whether there is one; its place, and itself
 unfoldable pub hasActive : State → Active → Bool

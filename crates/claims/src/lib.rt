@@ -1,12 +1,11 @@
 // What the module holds, whom it grants what, and the check of a claim.
 ghost use mathlib.Core.Path.{_≡_};
-ghost use Rattle.claims.specs.Module.{isHandle, isCredential, phaseOf, isClosed, isChosen, provisioned, wordOf, granted};
-ghost use Rattle.claims.specs.Claim.{entered, isClaim, isSpent, isNext, turnNumber, userNumber, elevatedNumber, claimNumber, admitted, elevatedCredential, claimant};
+ghost use Rattle.claims.specs.Module.{isHandle, isCredential, phaseOf, isClosed, isChosen, provisioned, wordOf, wordGrants, granted};
+ghost use Rattle.claims.specs.Claim.{phaseNumber, entered, isClaim, isSpent, turnNumber, userNumber, elevatedNumber, claimNumber, admitted, elevatedCredential, claimant};
 use names::Credential;
 use names::Session;
 use table::Active;
 use table::Found;
-use table::Process;
 use table::Table;
 
 // The numbers that a call can answer.
@@ -122,16 +121,6 @@ pub fn is_closed(st: State, s: Session) -> bool
     }
 }
 
-fn is_chosen(st: State, s: Session) -> bool
-    ensures { λ r. ⌜ r ≡ isChosen (phaseOf st s) ⌝ }
-{
-    match phase_of(st, s) {
-        Phase::Closed => false,
-        Phase::Opened => false,
-        Phase::Chosen => true,
-    }
-}
-
 pub fn provisioned(st: State, c: Credential) -> bool
     ensures { λ r. ⌜ r ≡ provisioned st c ⌝ }
 {
@@ -158,35 +147,46 @@ fn word_of(st: State, c: Credential) -> u32
     }
 }
 
-// Whether a credential's word grants a class.
-pub fn granted(st: State, c: Credential, class: Class) -> bool
-    ensures { λ r. ⌜ r ≡ granted st c class ⌝ }
+// Whether a grant word grants a class.
+pub fn word_grants(word: u32, class: Class) -> bool
+    ensures { λ r. ⌜ r ≡ wordGrants word class ⌝ }
 {
     if 31 < class.0 {
         return false;
     }
-    let word = word_of(st, c);
     let bit = class.0 as u32;
     (word >> bit) % 2 == 1
 }
 
-// The tests that all calls but open, close and select begin with.
-pub fn entered(st: State, s: Session) -> u8
-    ensures { λ r. ⌜ r ≡ entered st s ⌝ }
+// Whether a credential's word grants a class.
+pub fn granted(st: State, c: Credential, class: Class) -> bool
+    ensures { λ r. ⌜ r ≡ granted st c class ⌝ }
+{
+    word_grants(word_of(st, c), class)
+}
+
+// The tests that all calls but open, close and select begin with, of a session in a phase.
+pub fn phase_number(s: Session, phase: Phase) -> u8
+    ensures { λ r. ⌜ r ≡ phaseNumber s phase ⌝ }
 {
     if !is_handle(s) {
         return ARGUMENT;
     }
-    if is_closed(st, s) {
-        return SESSION;
+    match phase {
+        Phase::Closed => SESSION,
+        Phase::Opened => NO_VERSION,
+        Phase::Chosen => DONE,
     }
-    if !is_chosen(st, s) {
-        return NO_VERSION;
-    }
-    DONE
 }
 
-fn is_claim(claim: Claim) -> bool
+pub fn entered(st: State, s: Session) -> u8
+    ensures { λ r. ⌜ r ≡ entered st s ⌝ }
+{
+    phase_number(s, phase_of(st, s))
+}
+
+// Whether a claim's credential, where it has one, is in its range.
+pub fn is_claim(claim: Claim) -> bool
     ensures { λ r. ⌜ r ≡ isClaim claim ⌝ }
 {
     match claim {
@@ -206,25 +206,21 @@ fn elevated_number(st: State, s: Session) -> u8
     DONE
 }
 
-fn is_spent(p: Process) -> bool
-    ensures { λ r. ⌜ r ≡ isSpent p ⌝ }
+fn is_spent(next: u16) -> bool
+    ensures { λ r. ⌜ r ≡ isSpent next ⌝ }
 {
-    p.next == 65535
+    next == 65535
 }
 
-fn is_next(number: u16, p: Process) -> bool
-    ensures { λ r. ⌜ r ≡ isNext number p ⌝ }
+// The tests that ask for the turn, of a process with that next number.
+pub fn turn_number(next: u16, u: UserClaim) -> u8
+    ensures { λ r. ⌜ r ≡ turnNumber next u ⌝ }
 {
-    number == p.next
-}
-
-fn turn_number(p: Process, u: UserClaim) -> u8
-    ensures { λ r. ⌜ r ≡ turnNumber p u ⌝ }
-{
-    if is_spent(p) {
+    if is_spent(next) {
         return SPENT;
     }
-    if !is_next(u.number, p) {
+    let in_turn = u.number == next;
+    if !in_turn {
         return OUT_OF_TURN;
     }
     if !u.verdict {
@@ -246,7 +242,7 @@ fn user_number(st: State, s: Session, u: UserClaim) -> u8
         return NO_PROCESS;
     };
     let p = table::process_at(t, at);
-    turn_number(p, u)
+    turn_number(p.next, u)
 }
 
 fn claim_number(st: State, s: Session, claim: Claim) -> u8

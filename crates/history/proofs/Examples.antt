@@ -12,8 +12,8 @@ use Rattle.names.specs.declared.Name.{Name}
 use Rattle.names.specs.declared.Session.{Session}
 use Rattle.table.specs.Table.{standing, size, tableOf, processAt, isActive, isActiveIn, isAmong, isNamed, appended, replaced, removed, withoutSession}
 use Rattle.claims.specs.Numbers.{_when_, _unless_, _▸_}
-use Rattle.claims.specs.Module.{isHandle, phaseOf, isClosed, isChosen, isCredential, provisioned, wordOf, granted, hasActive, activePlace, activeProcess}
-use Rattle.claims.specs.Claim.{entered, isClaim, elevatedNumber, isSpent, isNext, turnNumber, userNumber, claimNumber, admitted, elevatedCredential, claimant}
+use Rattle.claims.specs.Module.{isHandle, phaseOf, isClosed, isChosen, isCredential, provisioned, wordOf, wordGrants, granted, hasActive, activePlace, activeProcess}
+use Rattle.claims.specs.Claim.{phaseNumber, entered, isClaim, elevatedNumber, isSpent, turnNumber, userNumber, claimNumber, admitted, elevatedCredential, claimant}
 use Rattle.claims.specs.declared.Claim.the-variants.{Elevated, ByUser}
 use Rattle.claims.specs.declared.Grants.{Grants}
 use Rattle.claims.specs.declared.UserClaim.{UserClaim}
@@ -102,7 +102,7 @@ pub record Examples : Type 0 where
   pub next-is : map (λ p. p .next) (standing (run (fresh grants) continued .table)) ≡ 4 ∷ []
 
 pub examples : Examples
-unfolding any firstIndex reject select removeAt padded sameBytes sameName standing size tableOf processAt isActive isActiveIn isAmong isNamed appended replaced removed withoutSession _when_ _unless_ _▸_ isHandle phaseOf isClosed isChosen isCredential provisioned wordOf granted hasActive activePlace activeProcess entered isClaim elevatedNumber isSpent isNext turnNumber userNumber claimNumber admitted elevatedCredential claimant rowsOf messageLength isDevice isVersion isFull hasNamed namedPlace lacksSaving mayList reach number counted ended effect refusal outcome taken fresh step run history counts ends shuts drops resumes after onward follow
+unfolding any firstIndex reject select removeAt padded sameBytes sameName standing size tableOf processAt isActive isActiveIn isAmong isNamed appended replaced removed withoutSession _when_ _unless_ _▸_ isHandle phaseOf isClosed isChosen isCredential provisioned wordOf wordGrants granted hasActive activePlace activeProcess phaseNumber entered isClaim elevatedNumber isSpent turnNumber userNumber claimNumber admitted elevatedCredential claimant rowsOf messageLength isDevice isVersion isFull hasNamed namedPlace lacksSaving mayList reach number counted ended effect refusal outcome taken fresh step run history counts ends shuts drops resumes after onward follow
 examples =
     record {
       numbers-are = refl;

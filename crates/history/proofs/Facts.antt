@@ -15,7 +15,7 @@ use Rattle.table.specs.declared.Among.the-variants.{All, SavedOf}
 use Rattle.claims.specs.Numbers as No
 use Rattle.claims.specs.Numbers.{_when_, _▸_}
 use Rattle.claims.specs.Module.{phaseOf, isClosed, isChosen, provisioned, hasActive, activePlace, activeProcess}
-use Rattle.claims.specs.Claim.{entered, isSpent, isNext, turnNumber, userNumber, claimNumber, admitted, claimant}
+use Rattle.claims.specs.Claim.{phaseNumber, entered, isSpent, turnNumber, userNumber, claimNumber, admitted, claimant}
 use Rattle.claims.specs.declared.Claim.{Claim}
 use Rattle.claims.specs.declared.Claim.the-variants.{Elevated, ByUser}
 use Rattle.claims.specs.declared.Phase.{Phase}
@@ -37,7 +37,7 @@ closed-not Chosen e = sym e
 module _ (st : State) where
   -- ---- the session of every call but open, close and select
   seat : (s : Session) → entered st s ≡ 0 → isChosen (phaseOf st s) ≡ true
-  unfolding entered
+  unfolding phaseNumber entered
   seat s e = clear-unless No.noVersion tt _ (clear-rest _ _ (clear-rest _ _ e))
 
   -- ---- a new process: its session, its owner, no other that is active as it is to be, its name, and room
@@ -85,7 +85,7 @@ module _ (st : State) where
   Admitted s (ByUser u) = Claimed s u
 
   passed : (s : Session) (claim : Claim) → admitted st s claim ≡ 0 → Admitted s claim
-  unfolding admitted claimNumber userNumber turnNumber isSpent isNext
+  unfolding admitted claimNumber userNumber turnNumber isSpent
   passed s Elevated e = tt
   passed s (ByUser u) e =
       let user = clear-rest _ _ (clear-rest _ _ e) in

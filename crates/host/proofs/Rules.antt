@@ -22,7 +22,7 @@ use Rattle.claims.specs.declared.Class.{Class}
 use Rattle.claims.specs.declared.State.{State}
 use Rattle.claims.specs.declared.UserClaim.{UserClaim}
 use Rattle.claims.proofs.Laws.{stop, pass, unless-true, unless-false}
-use Rattle.calls.specs.Calls.{Call, Open, Close, Select, Start, Continue, Elevate, Drop, End, Record, Kill, SetWord, number, outcome, answerNumber, List′, listed, fresh}
+use Rattle.calls.specs.Calls.{Call, Open, Close, Select, Start, Continue, Elevate, Drop, End, Record, Kill, SetWord, number, effect, outcome, answerNumber, List′, listed, fresh}
 use Rattle.calls.specs.declared.Answer.{Answer}
 use Rattle.calls.specs.declared.Listed.{Listed}
 use Rattle.calls.specs.declared.Outcome.{Outcome}
@@ -31,6 +31,11 @@ use Rattle.calls.specs.declared.Wanted.the-variants.{Every, Only}
 use Rattle.calls.proofs.Laws.{outcome-done, answer-number}
 use Rattle.layout.specs.Layout.{stateOf, stateWritten, holdsState, byteOf}
 use Rattle.layout.proofs.Laws.{holds-shape, state-written}
+use Rattle.lists.specs.Bytes.{Bytes}
+use Rattle.claims.specs.Claim.{admitted}
+use Rattle.claims.proofs.Laws.{clear-first, clear-rest}
+use Rattle.state_record.specs.Recorded.{Recorded}
+use Rattle.state_record.proofs.Laws.{counted-held}
 use Rattle.wire.specs.Wire.{listedBytes, readRowAt}
 use Rattle.wire.specs.declared.CountRead.{CountRead}
 use Rattle.wire.specs.declared.RequestRead.{RequestRead}
@@ -170,6 +175,27 @@ module _ {tested : Bool} (fine : Bool) (f : tested ≡ fine) (before : List ℕ)
               (λ z. rw (z, state-written before (o .state) long, a, outcome-done (stateOf before) call (eqb-true (number (stateOf before) call) 0 z)))
               (λ z. rw z));
         }
+
+-- ---- a record, which is counted where the state lies
+record-admitted : (st : State) (s : Session) (claim : Claim) (class : Class) → number st (Record s claim class) ≡ 0 → admitted st s claim ≡ 0
+unfolding number
+record-admitted st s claim class z = clear-first _ _ (clear-rest _ _ z)
+
+module _ {tested : Bool} (fine : Bool) (f : tested ≡ fine) (before : List ℕ) (s : Session) (claim : Claim) (class : Class) {h : Bool} (e : h ≡ tested && holdsState before) where
+  pub entry-recorded : not h ≡ false → Bytes before → {s₁ : Session} {claim₁ : Claim} {class₁ : Class} {r : ℕ} {after : List ℕ}
+      → s₁ ≡ s → claim₁ ≡ claim → class₁ ≡ class → Recorded before s₁ claim₁ class₁ r after → Entry fine before (Record s claim class) r after
+  unfolding entryBytes effect
+  entry-recorded n g a b c v =
+      let call : Call = Record s claim class in
+      let m : entryNumber fine before call ≡ number (stateOf before) call = number-of fine f before call e n in
+      let held : holdsState before ≡ true = and-right fine (holdsState before) (ready fine f before call e n) in
+      record {
+        number-is = v .number-is ∙ rw (m, a, b, c);
+        bytes-are = v .bytes-are ∙ rw (m, a, b, c)
+            (split (eqb (number (stateOf before) call) 0)
+            (λ z. rw z (counted-held before g held s claim (record-admitted (stateOf before) s claim class (eqb-true (number (stateOf before) call) 0 z))))
+            (λ z. rw z));
+      }
 
 -- ---- the listing
 module _ {tested : Bool} (fine : Bool) (f : tested ≡ fine) (before : List ℕ) (s : Session) (claim : Claim) (wanted : Wanted) (old : List ℕ) {h : Bool} (e : h ≡ tested && holdsState before) where
@@ -399,4 +425,4 @@ fine-fits e = rw e
 pub fine-both : {x a b c d : Bool} → x ≡ a && b → a ≡ c → b ≡ d → x ≡ c && d
 fine-both e f g = e ∙ rw (f, g)
 
-pub ruleset rules = (needs, byte-in, byte-out, session-is, class-is, credential-in, credential-out, wanted-every, wanted-only, flag-is, user-claim-is, claim-elevated, claim-user, claimed-elevated, claimed-user, claimed-none, both-true, both-false, stored-done, stored-refused, entry-refused, entry-called, same-open, same-close, same-select, same-drop, same-start, same-continue, same-elevate, same-end, same-record, same-kill, same-set-word, fine-fits, fine-both, list-refused, list-called, given-refused, given-done, request-number, request-credential, count-number, count-count, row-refused, row-nowhere, row-done, flags-begin, flags-on, flags-fail, flags-all, pairs-flags, pairs-words, pairs-are, pairs-begin, pairs-on, pairs-all, eight-flags, eight-words, fresh-long, fresh-refused, fresh-made)
+pub ruleset rules = (needs, byte-in, byte-out, session-is, class-is, credential-in, credential-out, wanted-every, wanted-only, flag-is, user-claim-is, claim-elevated, claim-user, claimed-elevated, claimed-user, claimed-none, both-true, both-false, stored-done, stored-refused, entry-refused, entry-called, entry-recorded, same-open, same-close, same-select, same-drop, same-start, same-continue, same-elevate, same-end, same-record, same-kill, same-set-word, fine-fits, fine-both, list-refused, list-called, given-refused, given-done, request-number, request-credential, count-number, count-count, row-refused, row-nowhere, row-done, flags-begin, flags-on, flags-fail, flags-all, pairs-flags, pairs-words, pairs-are, pairs-begin, pairs-on, pairs-all, eight-flags, eight-words, fresh-long, fresh-refused, fresh-made)

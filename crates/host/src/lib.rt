@@ -297,16 +297,12 @@ pub extern "C" fn slavotuk_record(
     if !is_ready(is_claimed(kind, verdict), state) {
         return ARGUMENT as u32;
     }
-    let st = state_read::read(state);
-    stored(
+    state_record::record(
         state,
-        calls::record(
-            st,
-            session_of(session),
-            claim_of(kind, credential, number, verdict),
-            class_of(class),
-        ),
-    )
+        session_of(session),
+        claim_of(kind, credential, number, verdict),
+        class_of(class),
+    ) as u32
 }
 
 #[no_mangle]

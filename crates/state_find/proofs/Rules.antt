@@ -20,21 +20,21 @@ use Rattle.codec.proofs.Loops.{map-part}
 use Rattle.names.specs.Names.{kindOf}
 use Rattle.names.specs.declared.Credential.{Credential}
 use Rattle.names.specs.declared.Session.{Session}
-use Rattle.table.specs.Table.{standing, size, isUser, isElevation, isActive, firstPlace, processAt}
+use Rattle.table.specs.Table.{standing, freePlace, size, isUser, isElevation, isActive, firstPlace, processAt}
 use Rattle.table.specs.declared.Active.{Active}
 use Rattle.table.specs.declared.Active.the-variants.{UserOf, ElevationIn}
 use Rattle.table.specs.declared.Found.the-variants.{At, Nothing}
 use Rattle.table.specs.declared.Process.{Process}
 use Rattle.table.proofs.Laws.{standing-of, size-few}
 use Rattle.table.proofs.Rules.{noProcess, size-part, size-all, Searching, begin, on, hit, none, process-got, process-none}
-use Rattle.claims.specs.Module.{closedSession, phaseOf, unprovisioned, provisioned}
+use Rattle.claims.specs.Module.{closedSession, phaseOf, unprovisioned, provisioned, wordOf}
 use Rattle.claims.specs.declared.Grants.{Grants}
 use Rattle.claims.specs.declared.Phase.{Phase}
 use Rattle.claims.specs.declared.Phase.the-variants.{Closed}
 use Rattle.claims.specs.declared.SessionState.{SessionState}
 use Rattle.layout.specs.Layout.{phaseNumbered, sessionOf, grantsOf, processOf, countIn, placesIn, stateOf}
 use Rattle.layout.proofs.Laws.{state-in, state-not-in}
-use Rattle.layout.proofs.Parts.{place-part, next-in}
+use Rattle.layout.proofs.Parts.{grants-part, place-part, word-in, next-in}
 
 -- ---- sessions and credentials
 -- the same everywhere, and past the end
@@ -71,30 +71,65 @@ module _ (s : List ℕ) (session : Session) where
         e ∙ sym (rw (state-in s h) r)
 
 module _ (s : List ℕ) (c : Credential) where
+  grants-short : (length s ≡ 681 → ⊥) → getD (stateOf s .credentials) (c .0) unprovisioned ≡ unprovisioned
+  grants-short n = rw (state-not-in s n) (same-everywhere 8 (c .0) unprovisioned)
+
   pub provisioned-short : (length s ≡ 681 → ⊥) → false ≡ provisioned (stateOf s) c
   unfolding provisioned
-  provisioned-short n = sym (rw (state-not-in s n) (ap (λ (g : Grants). g .provisioned) (same-everywhere 8 (c .0) unprovisioned)))
+  provisioned-short n = ap (λ (g : Grants). g .provisioned) (sym (grants-short n))
+
+  pub word-short : (length s ≡ 681 → ⊥) → 0 ≡ wordOf (stateOf s) c
+  unfolding wordOf
+  word-short n = ap (λ (g : Grants). g .word) (sym (grants-short n))
 
   module _ (h : length s ≡ 681) where
-    pub provisioned-past : 8 ≤ c .0 → false ≡ provisioned (stateOf s) c
-    unfolding provisioned
-    provisioned-past k =
+    grants-past : 8 ≤ c .0 → getD (stateOf s .credentials) (c .0) unprovisioned ≡ unprovisioned
+    grants-past k =
         let l : length (map grantsOf (rows 8 5 (drop 4 s))) ≡ 8 = length-map (rows 8 5 (drop 4 s)) grantsOf ∙ rows-length 8 5 (drop 4 s) in
         let past : length (map grantsOf (rows 8 5 (drop 4 s))) ≤ c .0 = omega (arith, l) in
-        let e : getD (map grantsOf (rows 8 5 (drop 4 s))) (c .0) unprovisioned ≡ unprovisioned =
-        List·getD-eq-default (map grantsOf (rows 8 5 (drop 4 s))) unprovisioned past
-        in
-        sym (rw (state-in s h) (ap (λ (g : Grants). g .provisioned) e))
+        rw (state-in s h) (List·getD-eq-default (map grantsOf (rows 8 5 (drop 4 s))) unprovisioned past)
 
-    pub provisioned-read : c .0 < 8 → eqb (getD s (4 + c .0 * 5) 0) 1 ≡ provisioned (stateOf s) c
-    unfolding provisioned grantsOf
-    provisioned-read k =
-        let t : ℕ = c .0 in
-        let z : 0 < 4 + t * 5 + 5 - (4 + t * 5) = omega arith in
-        let r : getD (map grantsOf (rows 8 5 (drop 4 s))) t unprovisioned .provisioned ≡ eqb (getD s (4 + t * 5) 0) 1 =
-        rw (map-part grantsOf 8 5 4 s t unprovisioned k, getD-take (4 + t * 5 + 5 - (4 + t * 5)) (drop (4 + t * 5) s) 0 0 z, getD-drop (4 + t * 5) s 0 0, add-zero)
-        in
-        sym (rw (state-in s h) r)
+    pub provisioned-past : 8 ≤ c .0 → false ≡ provisioned (stateOf s) c
+    unfolding provisioned
+    provisioned-past k = ap (λ (g : Grants). g .provisioned) (sym (grants-past k))
+
+    pub word-past : 8 ≤ c .0 → 0 ≡ wordOf (stateOf s) c
+    unfolding wordOf
+    word-past k = ap (λ (g : Grants). g .word) (sym (grants-past k))
+
+    module _ (k : c .0 < 8) where
+      abbrev grants-row : List ℕ
+      grants-row = take (4 + c .0 * 5 + 5 - (4 + c .0 * 5)) (drop (4 + c .0 * 5) s)
+
+      grants-at : getD (stateOf s .credentials) (c .0) unprovisioned ≡ grantsOf grants-row
+      grants-at = rw (state-in s h) (map-part grantsOf 8 5 4 s (c .0) unprovisioned k)
+
+      grants-byte : (j : ℕ) → j < 5 → getD grants-row j 0 ≡ getD s (4 + c .0 * 5 + j) 0
+      grants-byte j l =
+          let u : j < 4 + c .0 * 5 + 5 - (4 + c .0 * 5) = omega arith in
+          getD-take (4 + c .0 * 5 + 5 - (4 + c .0 * 5)) (drop (4 + c .0 * 5) s) j 0 u ∙ getD-drop (4 + c .0 * 5) s j 0
+
+      pub provisioned-read : eqb (getD s (4 + c .0 * 5) 0) 1 ≡ provisioned (stateOf s) c
+      unfolding provisioned grantsOf
+      provisioned-read =
+          let first : getD grants-row 0 0 ≡ getD s (4 + c .0 * 5) 0 = rw add-zero at (grants-byte 0 (omega arith)) in
+          rw (← first) (ap (λ (g : Grants). g .provisioned) (sym grants-at))
+
+      pub word-read : {r : ℕ}
+          → r ≡ number (getD s (5 + c .0 * 5) 0 ∷ getD s (5 + c .0 * 5 + 1) 0 ∷ getD s (5 + c .0 * 5 + 2) 0 ∷ getD s (5 + c .0 * 5 + 3) 0 ∷ [])
+          → r ≡ wordOf (stateOf s) c
+      unfolding wordOf grantsOf
+      word-read q =
+          let t : ℕ = c .0 in
+          let one : 4 + t * 5 + 1 ≡ 5 + t * 5 = omega arith in
+          let two : 4 + t * 5 + 2 ≡ 5 + t * 5 + 1 = omega arith in
+          let three : 4 + t * 5 + 3 ≡ 5 + t * 5 + 2 = omega arith in
+          let four : 4 + t * 5 + 4 ≡ 5 + t * 5 + 3 = omega arith in
+          let word : number (take 4 (drop 1 grants-row)) ≡ number (getD s (5 + t * 5) 0 ∷ getD s (5 + t * 5 + 1) 0 ∷ getD s (5 + t * 5 + 2) 0 ∷ getD s (5 + t * 5 + 3) 0 ∷ []) =
+          word-in grants-row (grants-part s t h k)
+          ∙ rw (grants-byte 1 (omega arith), grants-byte 2 (omega arith), grants-byte 3 (omega arith), grants-byte 4 (omega arith), one, two, three, four)
+          in
+          q ∙ sym word ∙ ap (λ (g : Grants). g .word) (sym grants-at)
 
 -- ---- a place
 not-user : (k : ℕ) → (k ≡ 0 → ⊥) → isUser (kindOf k) ≡ false
@@ -132,6 +167,9 @@ module _ (x : List ℕ) {which : Active} where
     active-elevation k = rw (w, k)
 
 -- ---- the places
+abbrev noOwner : Credential
+noOwner = record { 0 = 0 }
+
 module _ (s : List ℕ) where
   nothing-stands : (length s ≡ 681 → ⊥) → standing (stateOf s .table) ≡ []
   nothing-stands n = rw (state-not-in s n) (standing-of [])
@@ -140,9 +178,15 @@ module _ (s : List ℕ) where
   unfolding firstPlace firstIndex
   find-short f n = rw (nothing-stands n)
 
-  pub next-short : (at : ℕ) → (length s ≡ 681 → ⊥) → 0 ≡ processAt (stateOf s .table) at .next
+  process-short : (at : ℕ) → (length s ≡ 681 → ⊥) → processAt (stateOf s .table) at ≡ freePlace
   unfolding processAt
-  next-short at n = rw (nothing-stands n)
+  process-short at n = rw (nothing-stands n)
+
+  pub next-short : (at : ℕ) → (length s ≡ 681 → ⊥) → 0 ≡ processAt (stateOf s .table) at .next
+  next-short at n = ap (λ (p : Process). p .next) (sym (process-short at n))
+
+  pub owner-short : (at : ℕ) → (length s ≡ 681 → ⊥) → noOwner ≡ processAt (stateOf s .table) at .credential
+  owner-short at n = ap (λ (p : Process). p .credential) (sym (process-short at n))
 
   module _ (h : length s ≡ 681) where
     places-12 : length (stateOf s .table .places) ≡ 12
@@ -158,6 +202,14 @@ module _ (s : List ℕ) where
 
     pub size-every : {c : ℕ} → Widened (getD s 44 0) c → 12 ≤ c → 12 ≡ size (stateOf s .table)
     size-every w k = size-all (stateOf s .table) places-12 (rw (count-read w) k)
+
+    abbrev place : ℕ → List ℕ
+    place i = take (45 + i * 53 + 53 - (45 + i * 53)) (drop (45 + i * 53) s)
+
+    place-byte : (i j : ℕ) → j < 53 → getD (place i) j 0 ≡ getD s (45 + i * 53 + j) 0
+    place-byte i j t =
+        let u : j < 45 + i * 53 + 53 - (45 + i * 53) = omega arith in
+        getD-take (45 + i * 53 + 53 - (45 + i * 53)) (drop (45 + i * 53) s) j 0 u ∙ getD-drop (45 + i * 53) s j 0
 
     place-at : (i : ℕ) → i < 12 → getD (stateOf s .table .places) i noProcess ≡ processOf (take (45 + i * 53 + 53 - (45 + i * 53)) (drop (45 + i * 53) s))
     unfolding placesIn
@@ -179,25 +231,39 @@ module _ (s : List ℕ) where
     pub find-none : {f : Process → Bool} {n i : ℕ} → n ≡ size (stateOf s .table) → Searching f (stateOf s .table .places) n i → n ≤ i → Nothing ≡ firstPlace f (standing (stateOf s .table))
     find-none q v k = none (stateOf s .table) q v k
 
+    process-past : {at : ℕ} → 12 ≤ at → freePlace ≡ processAt (stateOf s .table) at
+    process-past {at} k = process-none (stateOf s .table) {n = size (stateOf s .table)} refl (omega (arith, size-few (stateOf s .table) places-12)) refl
+
     pub next-past : {at : ℕ} → 12 ≤ at → 0 ≡ processAt (stateOf s .table) at .next
-    next-past {at} k = ap (λ (p : Process). p .next) (process-none (stateOf s .table) {n = size (stateOf s .table)} refl (omega (arith, size-few (stateOf s .table) places-12)) refl)
+    next-past k = ap (λ (p : Process). p .next) (process-past k)
+
+    pub owner-past : {at : ℕ} → 12 ≤ at → noOwner ≡ processAt (stateOf s .table) at .credential
+    owner-past k = ap (λ (p : Process). p .credential) (process-past k)
 
     module _ {n at : ℕ} (e : n ≡ size (stateOf s .table)) where
       pub next-none : n ≤ at → 0 ≡ processAt (stateOf s .table) at .next
       next-none k = ap (λ (p : Process). p .next) (process-none (stateOf s .table) e k refl)
 
+      pub owner-none : n ≤ at → noOwner ≡ processAt (stateOf s .table) at .credential
+      owner-none k = ap (λ (p : Process). p .credential) (process-none (stateOf s .table) e k refl)
+
+      process-read : at < 12 → at < n → processOf (place at) ≡ processAt (stateOf s .table) at
+      process-read low k = sym (place-at at low) ∙ process-got (stateOf s .table) e k places-12
+
+      pub owner-read : {r : ℕ} → at < 12 → at < n → Widened (getD s (45 + at * 53) 0) r → _≡_ {A = Credential} (record { 0 = r }) (processAt (stateOf s .table) at .credential)
+      unfolding processOf
+      owner-read low k w =
+          let first : getD (place at) 0 0 ≡ getD s (45 + at * 53) 0 = rw add-zero at (place-byte at 0 (omega arith)) in
+          rw (w .is, ← first) (ap (λ (p : Process). p .credential) (process-read low k))
+
       pub next-read : {r : ℕ} → at < 12 → at < n → r ≡ number (getD s (48 + at * 53) 0 ∷ getD s (48 + at * 53 + 1) 0 ∷ []) → r ≡ processAt (stateOf s .table) at .next
       unfolding processOf
       next-read low k q =
-          let row : List ℕ = take (45 + at * 53 + 53 - (45 + at * 53)) (drop (45 + at * 53) s) in
-          let byte : (j : ℕ) → j < 53 → getD row j 0 ≡ getD s (45 + at * 53 + j) 0 =
-          λ j t. (let u : j < 45 + at * 53 + 53 - (45 + at * 53) = omega arith in getD-take (45 + at * 53 + 53 - (45 + at * 53)) (drop (45 + at * 53) s) j 0 u ∙ getD-drop (45 + at * 53) s j 0)
-          in
           let three : 45 + at * 53 + 3 ≡ 48 + at * 53 = omega arith in
           let four : 45 + at * 53 + 4 ≡ 48 + at * 53 + 1 = omega arith in
-          let next : number (take 2 (drop 3 row)) ≡ number (getD s (48 + at * 53) 0 ∷ getD s (48 + at * 53 + 1) 0 ∷ []) =
-          next-in row (place-part s at h low) ∙ rw (byte 3 (omega arith), byte 4 (omega arith), three, four)
+          let next : number (take 2 (drop 3 (place at))) ≡ number (getD s (48 + at * 53) 0 ∷ getD s (48 + at * 53 + 1) 0 ∷ []) =
+          next-in (place at) (place-part s at h low) ∙ rw (place-byte at 3 (omega arith), place-byte at 4 (omega arith), three, four)
           in
-          q ∙ sym next ∙ ap (λ (p : Process). p .next) (sym (place-at at low) ∙ process-got (stateOf s .table) e k places-12)
+          q ∙ sym next ∙ ap (λ (p : Process). p .next) (process-read low k)
 
-pub ruleset rules = (needs, length-mapped, phase-short, phase-past, phase-read, provisioned-short, provisioned-past, provisioned-read, active-no-user, active-elsewhere, active-user, active-no-elevation, active-elevation, find-short, next-short, size-some, size-every, find-begin, find-on, find-hit, find-none, next-past, next-none, next-read, place-part)
+pub ruleset rules = (needs, length-mapped, phase-short, phase-past, phase-read, provisioned-short, provisioned-past, provisioned-read, word-short, word-past, word-read, active-no-user, active-elsewhere, active-user, active-no-elevation, active-elevation, find-short, next-short, size-some, size-every, find-begin, find-on, find-hit, find-none, next-past, next-none, next-read, owner-short, owner-past, owner-none, owner-read, place-part)

@@ -2,7 +2,7 @@
 ghost use mathlib.Core.Path.{_≡_};
 ghost use lib.ListN.{length};
 ghost use Rattle.table.specs.Table.{size, isActive, findActive, processAt};
-ghost use Rattle.claims.specs.Module.{phaseOf, provisioned};
+ghost use Rattle.claims.specs.Module.{phaseOf, provisioned, wordOf};
 ghost use Rattle.layout.specs.Layout.{processOf, stateOf};
 use claims::Phase;
 use names::Credential;
@@ -38,6 +38,21 @@ pub fn provisioned(s: &[u8], c: Credential) -> bool
         return false;
     }
     s[4 + at * 5] == 1
+}
+
+// The grant word of a credential; 0, where there is no such credential.
+pub fn word_of(s: &[u8], c: Credential) -> u32
+    ensures { λ r. ⌜ r ≡ wordOf (stateOf (now (s .entry))) c ⌝ }
+{
+    let at = c.0 as usize;
+    if s.len() != 681 {
+        return 0;
+    }
+    if 8 <= at {
+        return 0;
+    }
+    let a = 5 + at * 5;
+    state_read::number32(s[a], s[a + 1], s[a + 2], s[a + 3])
 }
 
 // ---- processes
@@ -118,4 +133,21 @@ pub fn next_number(s: &[u8], at: usize) -> u16
     }
     let a = 48 + at * 53;
     names::number16(s[a], s[a + 1])
+}
+
+// The credential of the process at a place; 0 where none stands there.
+pub fn credential_at(s: &[u8], at: usize) -> Credential
+    ensures { λ r. ⌜ r ≡ processAt (stateOf (now (s .entry)) .table) at .credential ⌝ }
+{
+    if s.len() != 681 {
+        return Credential(0);
+    }
+    if 12 <= at {
+        return Credential(0);
+    }
+    if size_in(s) <= at {
+        return Credential(0);
+    }
+    let a = 45 + at * 53;
+    Credential(state_read::wide16(s[a]))
 }

@@ -6,6 +6,8 @@ use Rattle.state_read.proofs.wide16.Kinds as wide16-kinds
 use Rattle.state_read.proofs.wide16.Reads as wide16
 use Rattle.state_read.proofs.wide.Kinds as wide-kinds
 use Rattle.state_read.proofs.wide.Reads as wide
+use Rattle.state_read.proofs.number32.Kinds as number32-kinds
+use Rattle.state_read.proofs.number32.Reads as number32
 use Rattle.state_read.proofs.phase_numbered.Kinds as phase-numbered-kinds
 use Rattle.state_read.proofs.phase_numbered.Reads as phase-numbered
 use Rattle.state_read.proofs.read.Kinds as read-kinds
@@ -16,6 +18,9 @@ wide16-once κs a x y s t p q = p .is ∙ sym (q .is)
 
 pub wide-once : OneAnswer 0 wide-kinds.ps wide-kinds.r wide.Post
 wide-once κs a x y s t p q = p .is ∙ sym (q .is)
+
+pub number32-once : OneAnswer 0 number32-kinds.ps number32-kinds.r number32.Post
+number32-once κs a x y s t p q = p ∙ sym q
 
 pub phase-numbered-once : OneAnswer 0 phase-numbered-kinds.ps phase-numbered-kinds.r phase-numbered.Post
 phase-numbered-once κs a x y s t p q = p ∙ sym q

@@ -30,7 +30,7 @@ pub fn wide(x: u8) -> usize
 }
 
 // The number that four bytes say.
-fn number32(a: u8, b: u8, c: u8, d: u8) -> u32
+pub fn number32(a: u8, b: u8, c: u8, d: u8) -> u32
     ensures { λ r. ⌜ r ≡ number (a ∷ b ∷ c ∷ d ∷ []) ⌝ }
 {
     (((d as u32) * 256 + (c as u32)) * 256 + (b as u32)) * 256 + (a as u32)

@@ -2,6 +2,9 @@ use Rattle.claims.specs.Claim.{turnNumber}
 use Rattle.claims.proofs.Rules.{rules}
 use Rattle.claims.proofs.turn_number.Statement.{statement}
 use Rattle.claims.proofs.turn_number.Tie as tie
+use Rattle.claims.proofs.turn_number.Reads as reads
+use Rattle.claims.proofs.turn_number.Lts as lts
+use Rattle.claims.proofs.is_spent.Reads as is-spent-reads
 
 is-spent-requires : tie.Need-is-spent-requires
 is-spent-requires c κs = search rules
@@ -9,9 +12,6 @@ is-spent-requires c κs = search rules
 returns : tie.Need-returns
 unfolding turnNumber
 returns c = search rules
-
-is-next-requires : tie.Need-is-next-requires
-is-next-requires c κs = search rules
 
 returns-2 : tie.Need-returns-2
 unfolding turnNumber
@@ -26,5 +26,4 @@ unfolding turnNumber
 returns-4 c = search rules
 
 pub turn-number-spec : {M : Type 1} → statement M
-turn-number-spec =
-    tie.close (tie.spec is-spent-requires returns is-next-requires returns-2 returns-3 returns-4)
+turn-number-spec = tie.close (tie.spec is-spent-requires returns returns-2 returns-3 returns-4)

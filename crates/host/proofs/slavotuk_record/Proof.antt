@@ -1,6 +1,15 @@
-use Rattle.host.proofs.Rules.{rules}
+use native.Mathlib.Omega.{arith}
+use Rattle.host.proofs.Rules.{rules, entry-recorded}
 use Rattle.host.proofs.slavotuk_record.Statement.{statement}
 use Rattle.host.proofs.slavotuk_record.Tie as tie
+use Rattle.host.proofs.slavotuk_record.Reads as reads
+use Rattle.host.proofs.slavotuk_record.Lts as lts
+use Rattle.host.proofs.claim_of.Reads as claim-of-reads
+use Rattle.host.proofs.class_of.Reads as class-of-reads
+use Rattle.host.proofs.is_claimed.Reads as is-claimed-reads
+use Rattle.host.proofs.is_ready.Reads as is-ready-reads
+use Rattle.host.proofs.session_of.Reads as session-of-reads
+use Rattle.state_record.proofs.record.Reads as record-reads
 
 is-claimed-requires : tie.Need-is-claimed-requires
 is-claimed-requires c κs = search rules
@@ -17,9 +26,6 @@ same-length c = search rules
 returns : tie.Need-returns
 returns c = search rules
 
-read-requires : tie.Need-read-requires
-read-requires c κs = search rules
-
 session-of-requires : tie.Need-session-of-requires
 session-of-requires c κs = search rules
 
@@ -32,14 +38,16 @@ class-of-requires c κs = search rules
 record-requires : tie.Need-record-requires
 record-requires c κs = search rules
 
-stored-requires : tie.Need-stored-requires
-stored-requires c κs = search rules
+cast-result-2 : tie.Need-cast-result-2
+cast-result-2 c = search rules
 
 same-length-2 : tie.Need-same-length-2
 same-length-2 c = search rules
 
 returns-2 : tie.Need-returns-2
-returns-2 c = search rules
+returns-2 c =
+    entry-recorded _ (c .before .before .before .before .before .before .before .before .before .before .is-claimed .ensures) _ _ _ _ (c .before .before .before .before .before .before .before .before .is-ready .ensures) (c .before .before .before .before .before .before .before .if1 .left) (λ i. omega (arith, c .before .before .before .before .before .before .before .before .before .before .before .slice-known .given i))
+    (c .before .before .before .before .before .session-of .ensures) (c .before .before .before .before .claim-of .ensures) (c .before .before .before .class-of .ensures) (c .before .before .«record» .ensures)
 
 pub slavotuk-record-spec : {M : Type 1} → statement M
 slavotuk-record-spec =
@@ -50,11 +58,10 @@ slavotuk-record-spec =
     cast-result
     same-length
     returns
-    read-requires
     session-of-requires
     claim-of-requires
     class-of-requires
     record-requires
-    stored-requires
+    cast-result-2
     same-length-2
     returns-2)

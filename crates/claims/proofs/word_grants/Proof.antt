@@ -1,0 +1,24 @@
+use Prim.Native.Nat.{ℕ, _+_, _-_, _*_, _≤_, _<_}
+use mathlib.Core.Path.{_≡_, refl, sym, ap, _∙_}
+use mathlib.Core.Logic.{⊎-elim}
+use native.Mathlib.Omega.{arith}
+use Rattle.claims.proofs.Rules.{rules}
+use Rattle.claims.proofs.word_grants.Statement.{statement}
+use Rattle.claims.proofs.word_grants.Tie as tie
+use Rattle.claims.proofs.word_grants.Reads as reads
+use Rattle.claims.proofs.word_grants.Lts as lts
+
+returns : tie.Need-returns
+returns c = search rules
+
+cast-bit : tie.Need-cast-bit
+cast-bit c = search rules
+
+shr-result : tie.Need-shr-result
+shr-result c = search rules
+
+returns-2 : tie.Need-returns-2
+returns-2 c = search rules
+
+pub word-grants-spec : {M : Type 1} → statement M
+word-grants-spec = tie.close (tie.spec returns cast-bit shr-result returns-2)

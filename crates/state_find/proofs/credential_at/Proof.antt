@@ -1,0 +1,52 @@
+use Prim.Native.Nat.{ℕ, _+_, _-_, _*_, _≤_, _<_}
+use mathlib.Core.Path.{_≡_, refl, sym, ap, _∙_}
+use mathlib.Core.Logic.{⊎-elim}
+use native.Mathlib.Omega.{arith}
+use Rattle.state_find.proofs.Rules.{rules}
+use Rattle.state_find.proofs.credential_at.Statement.{statement}
+use Rattle.state_find.proofs.credential_at.Tie as tie
+use Rattle.state_find.proofs.credential_at.Reads as reads
+use Rattle.state_find.proofs.credential_at.Lts as lts
+use Rattle.state_find.proofs.size_in.Reads as size-in-reads
+use Rattle.state_read.proofs.wide16.Reads as wide16-reads
+
+returns : tie.Need-returns
+returns c = search rules
+
+returns-2 : tie.Need-returns-2
+returns-2 c = search rules
+
+size-in-requires : tie.Need-size-in-requires
+size-in-requires c κs = search rules
+
+returns-3 : tie.Need-returns-3
+returns-3 c = search rules
+
+mul-a : tie.Need-mul-a
+mul-a c = search rules
+
+add-a : tie.Need-add-a
+add-a c = search rules
+
+shared-slice-read-wide16 : tie.Need-shared-slice-read-wide16
+shared-slice-read-wide16 c = search rules
+
+wide16-requires : tie.Need-wide16-requires
+wide16-requires c κs = search rules
+
+returns-4 : tie.Need-returns-4
+returns-4 c = search rules
+
+pub credential-at-spec : {M : Type 1} → statement M
+credential-at-spec =
+    tie.close
+    (tie.spec
+    returns
+    returns-2
+    size-in-requires
+    returns-3
+    mul-a
+    add-a
+    shared-slice-read-wide16
+    wide16-requires
+    returns-4)

@@ -1,0 +1,71 @@
+use Prim.Native.Nat.{ℕ, _+_, _-_, _*_, _≤_, _<_}
+use mathlib.Core.Path.{_≡_, refl, sym, ap, _∙_}
+use mathlib.Core.Logic.{⊎-elim}
+use native.Mathlib.Omega.{arith}
+use Rattle.state_find.proofs.Rules.{rules}
+use Rattle.state_find.proofs.word_of.Statement.{statement}
+use Rattle.state_find.proofs.word_of.Tie as tie
+use Rattle.state_find.proofs.word_of.Reads as reads
+use Rattle.state_find.proofs.word_of.Lts as lts
+use Rattle.state_read.proofs.number32.Reads as number32-reads
+
+cast-at : tie.Need-cast-at
+cast-at c = search rules
+
+returns : tie.Need-returns
+returns c = search rules
+
+returns-2 : tie.Need-returns-2
+returns-2 c = search rules
+
+mul-a : tie.Need-mul-a
+mul-a c = search rules
+
+add-a : tie.Need-add-a
+add-a c = search rules
+
+shared-slice-read-number32 : tie.Need-shared-slice-read-number32
+shared-slice-read-number32 c = search rules
+
+add-number32 : tie.Need-add-number32
+add-number32 c = search rules
+
+shared-slice-read-number32-2 : tie.Need-shared-slice-read-number32-2
+shared-slice-read-number32-2 c = search rules
+
+add-number32-2 : tie.Need-add-number32-2
+add-number32-2 c = search rules
+
+shared-slice-read-number32-3 : tie.Need-shared-slice-read-number32-3
+shared-slice-read-number32-3 c = search rules
+
+add-number32-3 : tie.Need-add-number32-3
+add-number32-3 c = search rules
+
+shared-slice-read-number32-4 : tie.Need-shared-slice-read-number32-4
+shared-slice-read-number32-4 c = search rules
+
+number32-requires : tie.Need-number32-requires
+number32-requires c κs = search rules
+
+returns-3 : tie.Need-returns-3
+returns-3 c = search rules
+
+pub word-of-spec : {M : Type 1} → statement M
+word-of-spec =
+    tie.close
+    (tie.spec
+    cast-at
+    returns
+    returns-2
+    mul-a
+    add-a
+    shared-slice-read-number32
+    add-number32
+    shared-slice-read-number32-2
+    add-number32-2
+    shared-slice-read-number32-3
+    add-number32-3
+    shared-slice-read-number32-4
+    number32-requires
+    returns-3)

@@ -1,0 +1,40 @@
+use Prim.Native.Nat.{ℕ, _+_, _-_, _*_, _≤_, _<_}
+use mathlib.Core.Path.{_≡_, refl, sym, ap, _∙_}
+use mathlib.Core.Logic.{⊎-elim}
+use native.Mathlib.Omega.{arith}
+use Rattle.state_record.proofs.Rules.{rules}
+use Rattle.state_record.proofs.claim_number.Statement.{statement}
+use Rattle.state_record.proofs.claim_number.Tie as tie
+use Rattle.state_record.proofs.claim_number.Reads as reads
+use Rattle.state_record.proofs.claim_number.Lts as lts
+use Rattle.state_record.proofs.elevated_number.Reads as elevated-number-reads
+use Rattle.state_record.proofs.user_number.Reads as user-number-reads
+
+enum-told : tie.Need-enum-told
+enum-told c = search rules
+
+elevated-number-requires : tie.Need-elevated-number-requires
+elevated-number-requires c κs = search rules
+
+enum-known-claim : tie.Need-enum-known-claim
+enum-known-claim c = search rules
+
+user-number-requires : tie.Need-user-number-requires
+user-number-requires c κs = search rules
+
+returns : tie.Need-returns
+returns c = search rules
+
+returns-2 : tie.Need-returns-2
+returns-2 c = search rules
+
+pub claim-number-spec : {M : Type 1} → statement M
+claim-number-spec =
+    tie.close
+    (tie.spec
+    enum-told
+    elevated-number-requires
+    enum-known-claim
+    user-number-requires
+    returns
+    returns-2)

@@ -1,0 +1,33 @@
+use Prim.Native.Nat.{ℕ, _+_, _-_, _*_, _≤_, _<_}
+use mathlib.Core.Path.{_≡_, refl, sym, ap, _∙_}
+use mathlib.Core.Logic.{⊎-elim}
+use native.Mathlib.Omega.{arith}
+use Rattle.state_record.proofs.Rules.{rules}
+use Rattle.state_record.proofs.count.Statement.{statement}
+use Rattle.state_record.proofs.count.Tie as tie
+use Rattle.state_record.proofs.count.Reads as reads
+use Rattle.state_record.proofs.count.Lts as lts
+use Rattle.state_record.proofs.count_user.Reads as count-user-reads
+
+enum-told : tie.Need-enum-told
+enum-told c = search rules
+
+enum-known-claim : tie.Need-enum-known-claim
+enum-known-claim c = search rules
+
+count-user-requires : tie.Need-count-user-requires
+count-user-requires c κs = search rules
+
+returns : tie.Need-returns
+returns c = search rules
+
+same-length : tie.Need-same-length
+same-length c = search rules
+
+returns-2 : tie.Need-returns-2
+returns-2 c = search rules
+
+pub count-spec : {M : Type 1} → statement M
+count-spec =
+    tie.close
+    (tie.spec enum-told enum-known-claim count-user-requires returns same-length returns-2)

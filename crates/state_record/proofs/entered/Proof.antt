@@ -1,0 +1,23 @@
+use Prim.Native.Nat.{ℕ, _+_, _-_, _*_, _≤_, _<_}
+use mathlib.Core.Path.{_≡_, refl, sym, ap, _∙_}
+use mathlib.Core.Logic.{⊎-elim}
+use native.Mathlib.Omega.{arith}
+use Rattle.state_record.proofs.Rules.{rules}
+use Rattle.state_record.proofs.entered.Statement.{statement}
+use Rattle.state_record.proofs.entered.Tie as tie
+use Rattle.state_record.proofs.entered.Reads as reads
+use Rattle.state_record.proofs.entered.Lts as lts
+use Rattle.claims.proofs.phase_number.Reads as phase-number-reads
+use Rattle.state_find.proofs.phase_of.Reads as phase-of-reads
+
+phase-of-requires : tie.Need-phase-of-requires
+phase-of-requires c κs = search rules
+
+phase-number-requires : tie.Need-phase-number-requires
+phase-number-requires c κs = search rules
+
+returns : tie.Need-returns
+returns c = search rules
+
+pub entered-spec : {M : Type 1} → statement M
+entered-spec = tie.close (tie.spec phase-of-requires phase-number-requires returns)

@@ -1,0 +1,23 @@
+use Prim.Native.Nat.{ℕ, _+_, _-_, _*_, _≤_, _<_}
+use mathlib.Core.Path.{_≡_, refl, sym, ap, _∙_}
+use mathlib.Core.Logic.{⊎-elim}
+use native.Mathlib.Omega.{arith}
+use Rattle.state_record.proofs.Rules.{rules}
+use Rattle.state_record.proofs.granted.Statement.{statement}
+use Rattle.state_record.proofs.granted.Tie as tie
+use Rattle.state_record.proofs.granted.Reads as reads
+use Rattle.state_record.proofs.granted.Lts as lts
+use Rattle.claims.proofs.word_grants.Reads as word-grants-reads
+use Rattle.state_find.proofs.word_of.Reads as word-of-reads
+
+word-of-requires : tie.Need-word-of-requires
+word-of-requires c κs = search rules
+
+word-grants-requires : tie.Need-word-grants-requires
+word-grants-requires c κs = search rules
+
+returns : tie.Need-returns
+returns c = search rules
+
+pub granted-spec : {M : Type 1} → statement M
+granted-spec = tie.close (tie.spec word-of-requires word-grants-requires returns)

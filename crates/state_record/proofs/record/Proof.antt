@@ -1,0 +1,36 @@
+use Rattle.calls.specs.Calls.{number}
+use Prim.Native.Nat.{ℕ, _+_, _-_, _*_, _≤_, _<_}
+use mathlib.Core.Path.{_≡_, refl, sym, ap, _∙_}
+use mathlib.Core.Logic.{⊎-elim}
+use native.Mathlib.Omega.{arith}
+use Rattle.state_record.proofs.Rules.{rules}
+use Rattle.state_record.proofs.record.Statement.{statement}
+use Rattle.state_record.proofs.record.Tie as tie
+use Rattle.state_record.proofs.record.Reads as reads
+use Rattle.state_record.proofs.record.Lts as lts
+use Rattle.state_record.proofs.count.Reads as count-reads
+use Rattle.state_record.proofs.record_number.Reads as record-number-reads
+
+record-number-requires : tie.Need-record-number-requires
+record-number-requires c κs = search rules
+
+same-length : tie.Need-same-length
+same-length c = search rules
+
+returns : tie.Need-returns
+returns c = search rules
+
+count-requires : tie.Need-count-requires
+unfolding number
+count-requires c κs = search rules
+
+same-length-2 : tie.Need-same-length-2
+same-length-2 c = search rules
+
+returns-2 : tie.Need-returns-2
+returns-2 c = search rules
+
+pub record-spec : {M : Type 1} → statement M
+record-spec =
+    tie.close
+    (tie.spec record-number-requires same-length returns count-requires same-length-2 returns-2)
