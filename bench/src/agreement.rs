@@ -1,0 +1,89 @@
+//! That all three programs do the same, before anything is timed.
+
+use crate::input::{Call, Input};
+use crate::numbers::DONE;
+use crate::ordinary;
+use crate::structured::Module;
+use slavotuk::entries;
+
+/// Runs the whole input, and calls on slices that hold no state; the first difference is told.
+pub fn check(input: &Input) -> Result<(), String> {
+    check_calls(input)?;
+    check_changed_bytes(input)?;
+    check_lengths(input)
+}
+
+fn check_calls(input: &Input) -> Result<(), String> {
+    let mut by_entry = input.state.clone();
+    let mut by_ordinary = input.state.clone();
+    let mut module = Module::from_bytes(&input.state);
+    for (at, call) in input.calls.iter().enumerate() {
+        let numbers = [
+            entries::record(&mut by_entry, call.session, call.claim, call.class),
+            ordinary::record(&mut by_ordinary, call.session, call.claim, call.class),
+            module.record(call.session, call.claim, call.class),
+        ];
+        if numbers != [call.number; 3] {
+            let [entry, ordinary, structured] = numbers;
+            return Err(format!(
+                "call {at}: entry {entry}, ordinary {ordinary}, structured {structured}, planned {}: {call:?}",
+                call.number
+            ));
+        }
+        if by_entry != by_ordinary {
+            return Err(format!(
+                "call {at}: entry and ordinary left different bytes: {call:?}"
+            ));
+        }
+    }
+    if module.to_bytes() != by_entry {
+        return Err("entry and structured ended in different states".to_string());
+    }
+    Ok(())
+}
+
+/// The first accepted call on every slice that differs from the starting state in one byte: most hold no state.
+fn check_changed_bytes(input: &Input) -> Result<(), String> {
+    let call = accepted_call(input)?;
+    for at in 0..input.state.len() {
+        for byte in 0..=255 {
+            let mut changed = input.state.clone();
+            changed[at] = byte;
+            check_slice(&changed, call)
+                .map_err(|difference| format!("byte {at} changed to {byte}: {difference}"))?;
+        }
+    }
+    Ok(())
+}
+
+fn check_lengths(input: &Input) -> Result<(), String> {
+    let call = accepted_call(input)?;
+    for length in [0, 1, 44, 45, 680, 682, 734] {
+        let mut changed = input.state.clone();
+        changed.resize(length, 0);
+        check_slice(&changed, call)
+            .map_err(|difference| format!("a slice of {length} bytes: {difference}"))?;
+    }
+    Ok(())
+}
+
+fn accepted_call(input: &Input) -> Result<Call, String> {
+    let accepted = input.calls.iter().find(|call| call.number == DONE);
+    accepted
+        .copied()
+        .ok_or_else(|| "the input has no accepted call".to_string())
+}
+
+fn check_slice(slice: &[u8], call: Call) -> Result<(), String> {
+    let mut by_entry = slice.to_vec();
+    let mut by_ordinary = slice.to_vec();
+    let entry = entries::record(&mut by_entry, call.session, call.claim, call.class);
+    let ordinary = ordinary::record(&mut by_ordinary, call.session, call.claim, call.class);
+    if entry != ordinary {
+        return Err(format!("entry {entry}, ordinary {ordinary}: {call:?}"));
+    }
+    if by_entry != by_ordinary {
+        return Err(format!("entry and ordinary left different bytes: {call:?}"));
+    }
+    Ok(())
+}

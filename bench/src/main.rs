@@ -1,0 +1,148 @@
+//! Times the record entry beside ordinary Rust with the same answers on the same slice.
+
+mod agreement;
+mod input;
+mod numbers;
+mod ordinary;
+mod structured;
+mod timing;
+
+use input::{Input, Setting, SETTINGS};
+use std::process::ExitCode;
+use timing::Measured;
+
+const HELP: &str = "\
+slavotuk-bench: times the record entry beside ordinary Rust with the same answers
+
+usage: slavotuk-bench [--rounds N] [--calls N]
+
+  --rounds N   rounds that are timed, after a warm-up (21)
+  --calls N    record calls in a round, 16 to 131068 (100000)
+  --help       this text
+
+Exit code: 0 where all answers agree, whatever the times are; 1 where they differ; 2 for bad usage.";
+
+struct Options {
+    rounds: usize,
+    calls: usize,
+}
+
+fn main() -> ExitCode {
+    let arguments: Vec<String> = std::env::args().skip(1).collect();
+    if arguments.iter().any(|argument| argument == "--help") {
+        println!("{HELP}");
+        return ExitCode::SUCCESS;
+    }
+    let options = match parse(&arguments) {
+        Ok(options) => options,
+        Err(fault) => {
+            eprintln!("slavotuk-bench: {fault}\n\n{HELP}");
+            return ExitCode::from(2);
+        }
+    };
+    match run(&options) {
+        Ok(()) => ExitCode::SUCCESS,
+        Err(difference) => {
+            eprintln!("slavotuk-bench: {difference}");
+            ExitCode::FAILURE
+        }
+    }
+}
+
+fn parse(arguments: &[String]) -> Result<Options, String> {
+    let mut options = Options {
+        rounds: 21,
+        calls: 100_000,
+    };
+    let mut rest = arguments.iter();
+    while let Some(option) = rest.next() {
+        match option.as_str() {
+            "--rounds" => options.rounds = number_in(option, rest.next(), 1, 10_000)?,
+            "--calls" => {
+                options.calls =
+                    number_in(option, rest.next(), input::FEWEST_CALLS, input::MOST_CALLS)?
+            }
+            _ => return Err(format!("unknown argument '{option}'")),
+        }
+    }
+    Ok(options)
+}
+
+fn number_in(
+    option: &str,
+    value: Option<&String>,
+    least: usize,
+    most: usize,
+) -> Result<usize, String> {
+    value
+        .and_then(|text| text.parse().ok())
+        .filter(|number| (least..=most).contains(number))
+        .ok_or_else(|| format!("{option} takes a number from {least} to {most}"))
+}
+
+fn run(options: &Options) -> Result<(), String> {
+    describe_input(options);
+    let inputs = SETTINGS.map(|setting| (setting, Input::new(setting, options.calls)));
+    for (setting, input) in &inputs {
+        agreement::check(input).map_err(|difference| {
+            format!(
+                "{} standing, names differ in the {}: {difference}",
+                setting.standing.name(),
+                setting.differ.name()
+            )
+        })?;
+    }
+    println!("The three agree on every call of every setting; entry and ordinary leave the same bytes, and agree on every slice one byte away.");
+    println!();
+    println!("Medians of {} alternating rounds:", options.rounds);
+    println!();
+    println!("| standing | names differ in | entry, ns a call | ordinary, ns | structured, ns | entry/ordinary | entry/structured |");
+    println!("|---|---|---|---|---|---|---|");
+    let mut slower = 0;
+    for (setting, input) in &inputs {
+        let measured = timing::measure(input, options.rounds);
+        print_row(setting, &measured);
+        slower += usize::from(measured.entry_to_ordinary > 1.0);
+    }
+    println!();
+    match slower {
+        0 => println!("Every ratio entry/ordinary is at most 1.0."),
+        _ => println!("The ratio entry/ordinary is over 1.0 in {slower} of 4 settings."),
+    }
+    Ok(())
+}
+
+fn describe_input(options: &Options) {
+    println!(
+        "Input: {} record calls, drawn and shuffled by SplitMix64 from seed {}; half are accepted.",
+        options.calls,
+        input::SEED
+    );
+    println!();
+    println!("| number | name | calls |");
+    println!("|---|---|---|");
+    for (number, count) in input::mix(options.calls) {
+        println!("| {number} | {} | {count} |", numbers::name_of(number));
+    }
+    println!();
+    println!("Sessions 0 and 1 are open with version 1.0, session 2 without one, session 3 is closed. Credentials 0 to 6 are provisioned with classes 2, 4, 6 .. 30.");
+    println!("Twelve standing: user processes of credentials 0 to 5 in session 0 and of 0 to 3 in session 1, an elevation of 6 in session 0, a saved process of 6.");
+    println!("One standing: the user process of credential 0 in session 0. Two names differ in one byte, the first or the last.");
+    println!("Accepted: user claims in turn. Number 1: a session of 4, a kind of 2, a credential of 8, a verdict of 2, a class of 3 or of 32.");
+    println!("Number 6: half elevated claims in session 1, half user claims without a process. Number 9: one too high or one too low.");
+    println!();
+    println!("entry: slavotuk_record. ordinary: plain Rust on the same slice, which it tests on each call. structured: plain Rust that keeps a struct and tests no slice.");
+}
+
+fn print_row(setting: &Setting, measured: &Measured) {
+    println!(
+        "| {} | {} | {:.1} | {:.1} | {:.1} | {:.2} | {:.1} |",
+        setting.standing.name(),
+        setting.differ.name(),
+        measured.entry,
+        measured.ordinary,
+        measured.structured,
+        measured.entry_to_ordinary,
+        measured.entry_to_structured
+    );
+}

@@ -1,0 +1,199 @@
+//! The record call as an ordinary program: the slice is tested on each call, then read and written where it lies. Written from document 01 and
+//! docs/STATE.md, in plain Rust.
+
+use crate::numbers::*;
+use slavotuk::entries::RawClaim;
+
+const STATE_LENGTH: usize = 681;
+const COUNT_AT: usize = 44;
+const PLACES_AT: usize = 45;
+const MOST_PROCESSES: usize = 12;
+
+const CREDENTIAL_LENGTH: usize = 5;
+
+const PLACE_LENGTH: usize = 53;
+const CREDENTIAL_AT: usize = 0;
+const TYPE_AT: usize = 1;
+const SESSION_AT: usize = 2;
+const NEXT_AT: usize = 3;
+const NAME_AT: usize = 5;
+
+const USER: u8 = 0;
+const ELEVATION: u8 = 1;
+const SAVED: u8 = 2;
+
+/// The record call on a lent state.
+#[inline(never)]
+pub fn record(state: &mut [u8], session: u32, claim: RawClaim, class: u32) -> u32 {
+    if !holds_state(state) {
+        return ARGUMENT;
+    }
+    match accepting_place(state, session, claim, class) {
+        Err(number) => number,
+        Ok(place) => {
+            let process = &mut state[PLACES_AT + place * PLACE_LENGTH..][..PLACE_LENGTH];
+            if process[TYPE_AT] == USER {
+                let next = next_number(process) + 1;
+                process[NEXT_AT..NAME_AT].copy_from_slice(&next.to_le_bytes());
+            }
+            DONE
+        }
+    }
+}
+
+// ---- whether a slice holds a state
+
+fn holds_state(state: &[u8]) -> bool {
+    if state.len() != STATE_LENGTH {
+        return false;
+    }
+    let count = usize::from(state[COUNT_AT]);
+    if count > MOST_PROCESSES {
+        return false;
+    }
+    let (sessions, credentials) = state[..COUNT_AT].split_at(4);
+    let (standing, free) = state[PLACES_AT..].split_at(count * PLACE_LENGTH);
+    sessions.iter().all(|&phase| phase <= 2)
+        && credentials
+            .chunks_exact(CREDENTIAL_LENGTH)
+            .all(is_credential)
+        && standing
+            .chunks_exact(PLACE_LENGTH)
+            .all(|process| is_process(process) && is_owned(process, sessions, credentials))
+        && free.iter().all(|&byte| byte == 0)
+        && all_apart(standing)
+}
+
+fn is_credential(credential: &[u8]) -> bool {
+    match credential[0] {
+        0 => credential[1..] == [0; 4],
+        1 => true,
+        _ => false,
+    }
+}
+
+fn is_process(process: &[u8]) -> bool {
+    process[CREDENTIAL_AT] <= 7
+        && process[SESSION_AT] <= 3
+        && match process[TYPE_AT] {
+            USER => true,
+            ELEVATION => next_number(process) == 0,
+            SAVED => process[SESSION_AT] == 0,
+            _ => false,
+        }
+}
+
+fn is_owned(process: &[u8], sessions: &[u8], credentials: &[u8]) -> bool {
+    let credential = usize::from(process[CREDENTIAL_AT]);
+    let session = usize::from(process[SESSION_AT]);
+    credentials[credential * CREDENTIAL_LENGTH] == 1
+        && (process[TYPE_AT] == SAVED || sessions[session] == 2)
+}
+
+fn all_apart(standing: &[u8]) -> bool {
+    let mut processes = standing.chunks_exact(PLACE_LENGTH);
+    while let Some(one) = processes.next() {
+        if processes.clone().any(|other| !are_apart(one, other)) {
+            return false;
+        }
+    }
+    true
+}
+
+fn are_apart(one: &[u8], other: &[u8]) -> bool {
+    !are_rivals(one, other) && one[NAME_AT..] != other[NAME_AT..]
+}
+
+fn are_rivals(one: &[u8], other: &[u8]) -> bool {
+    one[TYPE_AT] == other[TYPE_AT]
+        && one[SESSION_AT] == other[SESSION_AT]
+        && match one[TYPE_AT] {
+            USER => one[CREDENTIAL_AT] == other[CREDENTIAL_AT],
+            ELEVATION => true,
+            _ => false,
+        }
+}
+
+// ---- the checks of a record, on a slice that holds a state
+
+/// The place of the process under which a record is accepted, or the number of its refusal.
+fn accepting_place(state: &[u8], session: u32, claim: RawClaim, class: u32) -> Result<usize, u32> {
+    if !are_arguments(session, claim, class) {
+        return Err(ARGUMENT);
+    }
+    match state[session as usize] {
+        0 => return Err(SESSION),
+        1 => return Err(NO_VERSION),
+        _ => {}
+    }
+    let place = if claim.kind == 1 {
+        find(state, |process| {
+            process[TYPE_AT] == ELEVATION && u32::from(process[SESSION_AT]) == session
+        })
+        .ok_or(NO_PROCESS)?
+    } else {
+        claimed_place(state, session, claim)?
+    };
+    let credential = process_at(state, place)[CREDENTIAL_AT];
+    if !is_granted(state, credential, class) {
+        return Err(NOT_GRANTED);
+    }
+    Ok(place)
+}
+
+fn are_arguments(session: u32, claim: RawClaim, class: u32) -> bool {
+    let is_claim = match claim.kind {
+        0 => claim.credential <= 7 && claim.verdict <= 1,
+        1 => true,
+        _ => false,
+    };
+    session <= 3 && is_claim && (4..=31).contains(&class)
+}
+
+fn claimed_place(state: &[u8], session: u32, claim: RawClaim) -> Result<usize, u32> {
+    if credential_at(state, claim.credential as usize)[0] == 0 {
+        return Err(CREDENTIAL);
+    }
+    let place = find(state, |process| {
+        process[TYPE_AT] == USER
+            && u32::from(process[SESSION_AT]) == session
+            && u32::from(process[CREDENTIAL_AT]) == claim.credential
+    })
+    .ok_or(NO_PROCESS)?;
+    let next = next_number(process_at(state, place));
+    if next == u16::MAX {
+        return Err(SPENT);
+    }
+    if claim.number != next {
+        return Err(OUT_OF_TURN);
+    }
+    if claim.verdict == 0 {
+        return Err(VERDICT);
+    }
+    Ok(place)
+}
+
+fn is_granted(state: &[u8], credential: u8, class: u32) -> bool {
+    let word = &credential_at(state, usize::from(credential))[1..];
+    u32::from_le_bytes([word[0], word[1], word[2], word[3]]) >> class & 1 == 1
+}
+
+fn find(state: &[u8], is_wanted: impl Fn(&[u8]) -> bool) -> Option<usize> {
+    let count = usize::from(state[COUNT_AT]);
+    state[PLACES_AT..]
+        .chunks_exact(PLACE_LENGTH)
+        .take(count)
+        .position(is_wanted)
+}
+
+fn credential_at(state: &[u8], credential: usize) -> &[u8] {
+    &state[4 + credential * CREDENTIAL_LENGTH..][..CREDENTIAL_LENGTH]
+}
+
+fn process_at(state: &[u8], place: usize) -> &[u8] {
+    &state[PLACES_AT + place * PLACE_LENGTH..][..PLACE_LENGTH]
+}
+
+fn next_number(process: &[u8]) -> u16 {
+    u16::from_le_bytes([process[NEXT_AT], process[NEXT_AT + 1]])
+}

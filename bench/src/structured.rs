@@ -1,0 +1,184 @@
+//! The record call as a program that keeps its state in a struct between calls and tests no slice. It does less than the entry: nobody else can have
+//! written to its state. Written from document 01 and docs/STATE.md, in plain Rust.
+
+use crate::numbers::*;
+use slavotuk::entries::RawClaim;
+
+#[derive(Clone, Copy, PartialEq, Eq)]
+enum Phase {
+    Closed,
+    WithoutVersion,
+    WithVersion,
+}
+
+#[derive(Clone, Copy)]
+struct Credential {
+    provisioned: bool,
+    word: u32,
+}
+
+#[derive(Clone, Copy, PartialEq, Eq)]
+enum Type {
+    User,
+    Elevation,
+    Saved,
+}
+
+#[derive(Clone)]
+struct Process {
+    credential: u8,
+    kind: Type,
+    session: u8,
+    next: u16,
+    name: [u8; 48],
+}
+
+/// What document 01's module holds.
+#[derive(Clone)]
+pub struct Module {
+    sessions: [Phase; 4],
+    credentials: [Credential; 8],
+    processes: Vec<Process>,
+}
+
+impl Module {
+    /// The module of 681 bytes that hold a state.
+    pub fn from_bytes(bytes: &[u8]) -> Module {
+        let count = usize::from(bytes[44]);
+        Module {
+            sessions: std::array::from_fn(|session| phase_of(bytes[session])),
+            credentials: std::array::from_fn(|credential| {
+                credential_of(&bytes[4 + 5 * credential..][..5])
+            }),
+            processes: bytes[45..]
+                .chunks_exact(53)
+                .take(count)
+                .map(process_of)
+                .collect(),
+        }
+    }
+
+    /// The 681 bytes that hold this module's state.
+    pub fn to_bytes(&self) -> Vec<u8> {
+        let mut bytes = Vec::with_capacity(681);
+        bytes.extend(self.sessions.map(|phase| phase as u8));
+        for credential in &self.credentials {
+            bytes.push(u8::from(credential.provisioned));
+            bytes.extend(credential.word.to_le_bytes());
+        }
+        bytes.push(self.processes.len() as u8);
+        for process in &self.processes {
+            bytes.extend([process.credential, process.kind as u8, process.session]);
+            bytes.extend(process.next.to_le_bytes());
+            bytes.extend(process.name);
+        }
+        bytes.resize(681, 0);
+        bytes
+    }
+
+    /// The record call.
+    #[inline(never)]
+    pub fn record(&mut self, session: u32, claim: RawClaim, class: u32) -> u32 {
+        match self.accept(session, claim, class) {
+            Ok(()) => DONE,
+            Err(number) => number,
+        }
+    }
+
+    fn accept(&mut self, session: u32, claim: RawClaim, class: u32) -> Result<(), u32> {
+        let is_claim = match claim.kind {
+            0 => claim.credential <= 7 && claim.verdict <= 1,
+            1 => true,
+            _ => false,
+        };
+        if session > 3 || !is_claim || !(4..=31).contains(&class) {
+            return Err(ARGUMENT);
+        }
+        match self.sessions[session as usize] {
+            Phase::Closed => return Err(SESSION),
+            Phase::WithoutVersion => return Err(NO_VERSION),
+            Phase::WithVersion => {}
+        }
+        if claim.kind == 1 {
+            self.accept_elevated(session as u8, class)
+        } else {
+            self.accept_user(session as u8, claim, class)
+        }
+    }
+
+    fn accept_elevated(&self, session: u8, class: u32) -> Result<(), u32> {
+        let elevation = self
+            .processes
+            .iter()
+            .find(|process| process.kind == Type::Elevation && process.session == session)
+            .ok_or(NO_PROCESS)?;
+        self.credentials[usize::from(elevation.credential)].check_class(class)
+    }
+
+    fn accept_user(&mut self, session: u8, claim: RawClaim, class: u32) -> Result<(), u32> {
+        let credential = self.credentials[claim.credential as usize];
+        if !credential.provisioned {
+            return Err(CREDENTIAL);
+        }
+        let process = self
+            .processes
+            .iter_mut()
+            .find(|process| {
+                process.kind == Type::User
+                    && process.session == session
+                    && u32::from(process.credential) == claim.credential
+            })
+            .ok_or(NO_PROCESS)?;
+        if process.next == u16::MAX {
+            return Err(SPENT);
+        }
+        if claim.number != process.next {
+            return Err(OUT_OF_TURN);
+        }
+        if claim.verdict == 0 {
+            return Err(VERDICT);
+        }
+        credential.check_class(class)?;
+        process.next += 1;
+        Ok(())
+    }
+}
+
+impl Credential {
+    fn check_class(self, class: u32) -> Result<(), u32> {
+        if self.word >> class & 1 == 1 {
+            Ok(())
+        } else {
+            Err(NOT_GRANTED)
+        }
+    }
+}
+
+fn phase_of(byte: u8) -> Phase {
+    match byte {
+        0 => Phase::Closed,
+        1 => Phase::WithoutVersion,
+        _ => Phase::WithVersion,
+    }
+}
+
+fn credential_of(bytes: &[u8]) -> Credential {
+    Credential {
+        provisioned: bytes[0] == 1,
+        word: u32::from_le_bytes([bytes[1], bytes[2], bytes[3], bytes[4]]),
+    }
+}
+
+fn process_of(bytes: &[u8]) -> Process {
+    Process {
+        credential: bytes[0],
+        kind: match bytes[1] {
+            0 => Type::User,
+            1 => Type::Elevation,
+            _ => Type::Saved,
+        },
+        session: bytes[2],
+        next: u16::from_le_bytes([bytes[3], bytes[4]]),
+        name: std::array::from_fn(|at| bytes[5 + at]),
+    }
+}
