@@ -4,11 +4,12 @@ use crate::input::{Call, Input};
 use crate::numbers::DONE;
 use crate::ordinary;
 use crate::structured::Module;
-use slavotuk::entries;
+use slavotuk::entries::{self, RawClaim};
 
-/// Runs the whole input, and calls on slices that hold no state; the first difference is told.
+/// Runs the whole input, calls with more than one fault, and calls on slices that hold no state; the first difference is told.
 pub fn check(input: &Input) -> Result<(), String> {
     check_calls(input)?;
+    check_many_faults(input)?;
     check_changed_bytes(input)?;
     check_lengths(input)
 }
@@ -40,6 +41,57 @@ fn check_calls(input: &Input) -> Result<(), String> {
         return Err("entry and structured ended in different states".to_string());
     }
     Ok(())
+}
+
+/// Calls with every choice of faults, on the starting state and on the same with its first process spent: so the order of the checks is compared too.
+fn check_many_faults(input: &Input) -> Result<(), String> {
+    let mut spent = input.state.clone();
+    spent[48..50].fill(0xff);
+    for state in [&input.state, &spent] {
+        for (session, claim, class) in many_calls() {
+            let mut by_entry = state.clone();
+            let mut by_ordinary = state.clone();
+            let mut module = Module::from_bytes(state);
+            let entry = entries::record(&mut by_entry, session, claim, class);
+            let ordinary = ordinary::record(&mut by_ordinary, session, claim, class);
+            let structured = module.record(session, claim, class);
+            if [ordinary, structured] != [entry; 2] {
+                return Err(format!(
+                    "entry {entry}, ordinary {ordinary}, structured {structured}: session {session}, {claim:?}, class {class}"
+                ));
+            }
+            if by_ordinary != by_entry || module.to_bytes() != by_entry {
+                return Err(format!(
+                    "different bytes after session {session}, {claim:?}, class {class}"
+                ));
+            }
+        }
+    }
+    Ok(())
+}
+
+fn many_calls() -> Vec<(u32, RawClaim, u32)> {
+    let mut calls = Vec::new();
+    for session in 0..=4 {
+        for kind in 0..=2 {
+            for credential in 0..=8 {
+                for number in [0, 1, u16::MAX] {
+                    for verdict in 0..=2 {
+                        for class in [3, 4, 5, 30, 31, 32] {
+                            let claim = RawClaim {
+                                kind,
+                                credential,
+                                number,
+                                verdict,
+                            };
+                            calls.push((session, claim, class));
+                        }
+                    }
+                }
+            }
+        }
+    }
+    calls
 }
 
 /// The first accepted call on every slice that differs from the starting state in one byte: most hold no state.

@@ -92,7 +92,7 @@ fn run(options: &Options) -> Result<(), String> {
             )
         })?;
     }
-    println!("The three agree on every call of every setting; entry and ordinary leave the same bytes, and agree on every slice one byte away.");
+    println!("The three agree on every call of every setting and on calls with several faults. Entry and ordinary leave the same bytes, and agree on every slice that is one byte away.");
     println!();
     println!("Medians of {} alternating rounds:", options.rounds);
     println!();
@@ -128,8 +128,8 @@ fn describe_input(options: &Options) {
     println!("Sessions 0 and 1 are open with version 1.0, session 2 without one, session 3 is closed. Credentials 0 to 6 are provisioned with classes 2, 4, 6 .. 30.");
     println!("Twelve standing: user processes of credentials 0 to 5 in session 0 and of 0 to 3 in session 1, an elevation of 6 in session 0, a saved process of 6.");
     println!("One standing: the user process of credential 0 in session 0. Two names differ in one byte, the first or the last.");
-    println!("Accepted: user claims in turn. Number 1: a session of 4, a kind of 2, a credential of 8, a verdict of 2, a class of 3 or of 32.");
-    println!("Number 6: half elevated claims in session 1, half user claims without a process. Number 9: one too high or one too low.");
+    println!("Accepted: user claims in turn. Number 1: one of a session of 4, a kind of 2, a credential of 8, a verdict of 2, a class of 3, a class of 32, drawn evenly.");
+    println!("Number 6: an elevated claim in session 1 or a user claim without a process, drawn evenly. Number 9: one too high or one too low, drawn evenly.");
     println!();
     println!("entry: slavotuk_record. ordinary: plain Rust on the same slice, which it tests on each call. structured: plain Rust that keeps a struct and tests no slice.");
 }
