@@ -1,0 +1,162 @@
+/*
+ * A small host of the module: it makes a fresh one, starts two processes, sends a record and its replay, and prints the
+ * list of processes as a console would get it. Every answer is printed as its number and name.
+ */
+#include <stdint.h>
+#include <stdio.h>
+#include <stdlib.h>
+#include <string.h>
+
+#include "slavotuk.h"
+
+enum { EXIT_USAGE = 2 };
+
+enum { SESSION = 0, VERDICT_YES = 1 };
+
+static const char *name_of_number(uint32_t number)
+{
+    static const char *const names[] = {
+        "done",       "argument",       "session", "no version",  "version",     "credential",
+        "no process", "already active", "verdict", "out of turn", "not granted", "full",
+        "name taken", "spent",          "message", "room",
+    };
+    return number <= SLAVOTUK_ROOM ? names[number] : "unknown";
+}
+
+static const char *name_of_type(uint8_t type)
+{
+    static const char *const names[] = {"active user", "active elevation", "saved user"};
+    return type <= SLAVOTUK_TYPE_SAVED_USER ? names[type] : "unknown";
+}
+
+/* Prints an answer, and ends the program where it is not the expected one. */
+static void expect(const char *step, uint32_t answer, uint32_t expected)
+{
+    printf("%-36s %2u %s\n", step, (unsigned)answer, name_of_number(answer));
+    if (answer != expected) {
+        fprintf(stderr, "host: %s: expected %u %s, the answer is %u %s\n", step, (unsigned)expected,
+                name_of_number(expected), (unsigned)answer, name_of_number(answer));
+        exit(EXIT_FAILURE);
+    }
+}
+
+/* A name is worked out by the hash unit. This stands in for it: the two names differ in their last byte alone. */
+static void make_name(uint8_t name[SLAVOTUK_NAME_SIZE], uint8_t last)
+{
+    memset(name, 0x00, 16);
+    memset(name + 16, 0x11, SLAVOTUK_NAME_SIZE - 16);
+    name[SLAVOTUK_NAME_SIZE - 1] = last;
+}
+
+/* Credential 0 has the module's own four classes (word 15), credential 1 the first device operation (word 16). */
+static void make_module(uint8_t state[SLAVOTUK_STATE_SIZE])
+{
+    const uint8_t provisioned[SLAVOTUK_CREDENTIALS] = {1, 1};
+    const uint32_t words[SLAVOTUK_CREDENTIALS] = {15, 16};
+    expect("fresh module",
+           slavotuk_fresh(state, SLAVOTUK_STATE_SIZE, provisioned, SLAVOTUK_CREDENTIALS, words, SLAVOTUK_CREDENTIALS),
+           SLAVOTUK_DONE);
+}
+
+static void open_session(uint8_t state[SLAVOTUK_STATE_SIZE])
+{
+    expect("open session 0", slavotuk_open(state, SLAVOTUK_STATE_SIZE, SESSION), SLAVOTUK_DONE);
+    expect("select version 1.0", slavotuk_select(state, SLAVOTUK_STATE_SIZE, SESSION, SLAVOTUK_VERSION_1_0),
+           SLAVOTUK_DONE);
+}
+
+static void start_processes(uint8_t state[SLAVOTUK_STATE_SIZE])
+{
+    uint8_t name[SLAVOTUK_NAME_SIZE];
+    make_name(name, 0x11);
+    expect("start, credential 0", slavotuk_start(state, SLAVOTUK_STATE_SIZE, SESSION, 0, name, sizeof name),
+           SLAVOTUK_DONE);
+    make_name(name, 0x12);
+    expect("start, credential 1", slavotuk_start(state, SLAVOTUK_STATE_SIZE, SESSION, 1, name, sizeof name),
+           SLAVOTUK_DONE);
+}
+
+/* Credential 1 sends a record with its number 0. Whoever sends the same bytes again is refused. */
+static void send_records(uint8_t state[SLAVOTUK_STATE_SIZE])
+{
+    expect("record, credential 1, number 0",
+           slavotuk_record(state, SLAVOTUK_STATE_SIZE, SESSION, SLAVOTUK_CLAIM_USER, 1, 0, VERDICT_YES,
+                           SLAVOTUK_CLASS_DEVICE_FIRST),
+           SLAVOTUK_DONE);
+    expect("the same record again",
+           slavotuk_record(state, SLAVOTUK_STATE_SIZE, SESSION, SLAVOTUK_CLAIM_USER, 1, 0, VERDICT_YES,
+                           SLAVOTUK_CLASS_DEVICE_FIRST),
+           SLAVOTUK_OUT_OF_TURN);
+}
+
+/* The console's request, as it goes over the wire and arrives: the wanted credential. */
+static uint16_t pass_request(void)
+{
+    uint8_t request[SLAVOTUK_REQUEST_SIZE];
+    uint16_t wanted = 0;
+    expect("write GET_AUTH_PROCESSES, all", slavotuk_write_request(request, sizeof request, SLAVOTUK_WANTED_ALL),
+           SLAVOTUK_DONE);
+    expect("read GET_AUTH_PROCESSES", slavotuk_read_request(request, sizeof request, &wanted), SLAVOTUK_DONE);
+    return wanted;
+}
+
+static void print_row(const uint8_t *listing, size_t length, size_t at)
+{
+    uint16_t credential = 0;
+    uint8_t type = 0;
+    uint8_t name[SLAVOTUK_NAME_SIZE];
+    expect("read a row", slavotuk_read_row(listing, length, at, &credential, &type, name, sizeof name), SLAVOTUK_DONE);
+    printf("    row %u: credential %u, %s, name %02x%02x..%02x%02x\n", (unsigned)at, (unsigned)credential,
+           name_of_type(type), (unsigned)name[0], (unsigned)name[1], (unsigned)name[SLAVOTUK_NAME_SIZE - 2],
+           (unsigned)name[SLAVOTUK_NAME_SIZE - 1]);
+}
+
+/* Credential 0 asks, under its number 0; it has class 0 and so may list the others' processes. */
+static void print_list(uint8_t state[SLAVOTUK_STATE_SIZE])
+{
+    uint8_t listing[SLAVOTUK_LISTING_SIZE];
+    size_t length = 0;
+    uint16_t count = 0;
+    uint16_t wanted = pass_request();
+    expect("list, credential 0, number 0",
+           slavotuk_list(state, SLAVOTUK_STATE_SIZE, SESSION, SLAVOTUK_CLAIM_USER, 0, 0, VERDICT_YES, wanted, listing,
+                         sizeof listing, &length),
+           SLAVOTUK_DONE);
+    expect("read the count", slavotuk_read_count(listing, length, &count), SLAVOTUK_DONE);
+    printf("    %u bytes, %u rows\n", (unsigned)length, (unsigned)count);
+    for (size_t at = 0; at < count; at++) {
+        print_row(listing, length, at);
+    }
+}
+
+static void run(void)
+{
+    uint8_t state[SLAVOTUK_STATE_SIZE];
+    make_module(state);
+    open_session(state);
+    start_processes(state);
+    send_records(state);
+    print_list(state);
+}
+
+int main(int argc, char **argv)
+{
+    static const char usage[] = "usage: host [--help]\n"
+                                "Runs the module through a short session and prints every answer.\n"
+                                "Exit code: 0 all as expected, 1 another answer, 2 bad usage.\n";
+    int wants_help = argc == 2 && strcmp(argv[1], "--help") == 0;
+    if (argc > 1 && !wants_help) {
+        fputs(usage, stderr);
+        return EXIT_USAGE;
+    }
+    if (wants_help) {
+        fputs(usage, stdout);
+    } else {
+        run();
+    }
+    if (fflush(stdout) != 0) {
+        perror("host: standard output");
+        return EXIT_FAILURE;
+    }
+    return EXIT_SUCCESS;
+}
