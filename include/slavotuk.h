@@ -11,7 +11,8 @@
  *   through a pointer is written where the answer is SLAVOTUK_DONE, and stays as it was otherwise. The one exception is the
  *   length of slavotuk_list, which a refusal sets to 0.
  * - state is a slice of SLAVOTUK_STATE_SIZE bytes that slavotuk_fresh has filled and that only these functions write;
- *   docs/STATE.md draws it. Nothing is kept between calls but what stands there.
+ *   docs/STATE.md draws it. Nothing is kept between calls but what stands there, so threads with states of their own may
+ *   call at the same time.
  * - SLAVOTUK_ARGUMENT, wherever a comment lists it, is the answer to a session over 3, a credential over 7, a flag (kind,
  *   verdict, keep, provisioned) other than 0 or 1, a name not of SLAVOTUK_NAME_SIZE bytes, and a slice that holds no state.
  *   A comment adds what else gets it there.
