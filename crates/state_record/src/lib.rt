@@ -145,9 +145,9 @@ fn count(state: &mut [u8], s: Session, claim: Claim)
 pub fn record(state: &mut [u8], s: Session, claim: Claim, class: Class) -> u8
     ensures { λ r. ⌜ Recorded (now (state .entry)) s claim class r (now (state .exit)) ⌝ }
 {
-    let n = record_number(state, s, claim, class);
-    if n != DONE {
-        return n;
+    let answer = record_number(state, s, claim, class);
+    if answer != DONE {
+        return answer;
     }
     count(state, s, claim);
     DONE

@@ -5,10 +5,6 @@ use native.Mathlib.Omega.{arith}
 use Rattle.claims.proofs.Rules.{rules}
 use Rattle.claims.proofs.granted.Statement.{statement}
 use Rattle.claims.proofs.granted.Tie as tie
-use Rattle.claims.proofs.granted.Reads as reads
-use Rattle.claims.proofs.granted.Lts as lts
-use Rattle.claims.proofs.word_grants.Reads as word-grants-reads
-use Rattle.claims.proofs.word_of.Reads as word-of-reads
 
 word-of-requires : tie.Need-word-of-requires
 word-of-requires c κs = search rules

@@ -5,9 +5,6 @@ use native.Mathlib.Omega.{arith}
 use Rattle.claims.proofs.Rules.{rules}
 use Rattle.claims.proofs.phase_number.Statement.{statement}
 use Rattle.claims.proofs.phase_number.Tie as tie
-use Rattle.claims.proofs.phase_number.Reads as reads
-use Rattle.claims.proofs.phase_number.Lts as lts
-use Rattle.claims.proofs.is_handle.Reads as is-handle-reads
 
 is-handle-requires : tie.Need-is-handle-requires
 is-handle-requires c κs = search rules

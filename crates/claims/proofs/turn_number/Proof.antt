@@ -2,9 +2,6 @@ use Rattle.claims.specs.Claim.{turnNumber}
 use Rattle.claims.proofs.Rules.{rules}
 use Rattle.claims.proofs.turn_number.Statement.{statement}
 use Rattle.claims.proofs.turn_number.Tie as tie
-use Rattle.claims.proofs.turn_number.Reads as reads
-use Rattle.claims.proofs.turn_number.Lts as lts
-use Rattle.claims.proofs.is_spent.Reads as is-spent-reads
 
 is-spent-requires : tie.Need-is-spent-requires
 is-spent-requires c κs = search rules

@@ -2,12 +2,6 @@ use Rattle.claims.specs.Claim.{userNumber}
 use Rattle.claims.proofs.Rules.{rules}
 use Rattle.claims.proofs.user_number.Statement.{statement}
 use Rattle.claims.proofs.user_number.Tie as tie
-use Rattle.claims.proofs.user_number.Reads as reads
-use Rattle.claims.proofs.user_number.Lts as lts
-use Rattle.claims.proofs.provisioned.Reads as provisioned-reads
-use Rattle.claims.proofs.turn_number.Reads as turn-number-reads
-use Rattle.table.proofs.find_active.Reads as find-active-reads
-use Rattle.table.proofs.process_at.Reads as process-at-reads
 
 provisioned-requires : tie.Need-provisioned-requires
 provisioned-requires c κs = search rules

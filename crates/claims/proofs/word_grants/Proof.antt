@@ -5,8 +5,6 @@ use native.Mathlib.Omega.{arith}
 use Rattle.claims.proofs.Rules.{rules}
 use Rattle.claims.proofs.word_grants.Statement.{statement}
 use Rattle.claims.proofs.word_grants.Tie as tie
-use Rattle.claims.proofs.word_grants.Reads as reads
-use Rattle.claims.proofs.word_grants.Lts as lts
 
 returns : tie.Need-returns
 returns c = search rules

@@ -2,14 +2,6 @@ use native.Mathlib.Omega.{arith}
 use Rattle.host.proofs.Rules.{rules, entry-recorded}
 use Rattle.host.proofs.slavotuk_record.Statement.{statement}
 use Rattle.host.proofs.slavotuk_record.Tie as tie
-use Rattle.host.proofs.slavotuk_record.Reads as reads
-use Rattle.host.proofs.slavotuk_record.Lts as lts
-use Rattle.host.proofs.claim_of.Reads as claim-of-reads
-use Rattle.host.proofs.class_of.Reads as class-of-reads
-use Rattle.host.proofs.is_claimed.Reads as is-claimed-reads
-use Rattle.host.proofs.is_ready.Reads as is-ready-reads
-use Rattle.host.proofs.session_of.Reads as session-of-reads
-use Rattle.state_record.proofs.record.Reads as record-reads
 
 is-claimed-requires : tie.Need-is-claimed-requires
 is-claimed-requires c κs = search rules

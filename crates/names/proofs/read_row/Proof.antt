@@ -5,13 +5,6 @@ use native.Mathlib.Omega.{arith}
 use Rattle.names.proofs.Rules.{rules}
 use Rattle.names.proofs.read_row.Statement.{statement}
 use Rattle.names.proofs.read_row.Tie as tie
-use Rattle.names.proofs.read_row.Reads as reads
-use Rattle.names.proofs.read_row.Lts as lts
-use Rattle.names.proofs.is_row.Reads as is-row-reads
-use Rattle.names.proofs.kind_of.Reads as kind-of-reads
-use Rattle.names.proofs.no_row.Reads as no-row-reads
-use Rattle.names.proofs.number16.Reads as number16-reads
-use Rattle.names.proofs.read_name.Reads as read-name-reads
 
 is-row-requires : tie.Need-is-row-requires
 is-row-requires c κs = search rules

@@ -5,10 +5,6 @@ use native.Mathlib.Omega.{arith}
 use Rattle.state_find.proofs.Rules.{rules}
 use Rattle.state_find.proofs.credential_at.Statement.{statement}
 use Rattle.state_find.proofs.credential_at.Tie as tie
-use Rattle.state_find.proofs.credential_at.Reads as reads
-use Rattle.state_find.proofs.credential_at.Lts as lts
-use Rattle.state_find.proofs.size_in.Reads as size-in-reads
-use Rattle.state_read.proofs.wide16.Reads as wide16-reads
 
 returns : tie.Need-returns
 returns c = search rules

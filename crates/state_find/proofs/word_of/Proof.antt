@@ -5,9 +5,6 @@ use native.Mathlib.Omega.{arith}
 use Rattle.state_find.proofs.Rules.{rules}
 use Rattle.state_find.proofs.word_of.Statement.{statement}
 use Rattle.state_find.proofs.word_of.Tie as tie
-use Rattle.state_find.proofs.word_of.Reads as reads
-use Rattle.state_find.proofs.word_of.Lts as lts
-use Rattle.state_read.proofs.number32.Reads as number32-reads
 
 cast-at : tie.Need-cast-at
 cast-at c = search rules

@@ -6,11 +6,6 @@ use native.Mathlib.Omega.{arith}
 use Rattle.state_record.proofs.Rules.{rules}
 use Rattle.state_record.proofs.admitted.Statement.{statement}
 use Rattle.state_record.proofs.admitted.Tie as tie
-use Rattle.state_record.proofs.admitted.Reads as reads
-use Rattle.state_record.proofs.admitted.Lts as lts
-use Rattle.claims.proofs.is_claim.Reads as is-claim-reads
-use Rattle.state_record.proofs.claim_number.Reads as claim-number-reads
-use Rattle.state_record.proofs.entered.Reads as entered-reads
 
 is-claim-requires : tie.Need-is-claim-requires
 is-claim-requires c κs = search rules

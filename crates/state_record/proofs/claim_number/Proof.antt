@@ -5,10 +5,6 @@ use native.Mathlib.Omega.{arith}
 use Rattle.state_record.proofs.Rules.{rules}
 use Rattle.state_record.proofs.claim_number.Statement.{statement}
 use Rattle.state_record.proofs.claim_number.Tie as tie
-use Rattle.state_record.proofs.claim_number.Reads as reads
-use Rattle.state_record.proofs.claim_number.Lts as lts
-use Rattle.state_record.proofs.elevated_number.Reads as elevated-number-reads
-use Rattle.state_record.proofs.user_number.Reads as user-number-reads
 
 enum-told : tie.Need-enum-told
 enum-told c = search rules

@@ -5,9 +5,6 @@ use native.Mathlib.Omega.{arith}
 use Rattle.state_record.proofs.Rules.{rules}
 use Rattle.state_record.proofs.claimant.Statement.{statement}
 use Rattle.state_record.proofs.claimant.Tie as tie
-use Rattle.state_record.proofs.claimant.Reads as reads
-use Rattle.state_record.proofs.claimant.Lts as lts
-use Rattle.state_record.proofs.elevated_credential.Reads as elevated-credential-reads
 
 enum-told : tie.Need-enum-told
 enum-told c = search rules

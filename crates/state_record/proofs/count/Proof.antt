@@ -5,9 +5,6 @@ use native.Mathlib.Omega.{arith}
 use Rattle.state_record.proofs.Rules.{rules}
 use Rattle.state_record.proofs.count.Statement.{statement}
 use Rattle.state_record.proofs.count.Tie as tie
-use Rattle.state_record.proofs.count.Reads as reads
-use Rattle.state_record.proofs.count.Lts as lts
-use Rattle.state_record.proofs.count_user.Reads as count-user-reads
 
 enum-told : tie.Need-enum-told
 enum-told c = search rules

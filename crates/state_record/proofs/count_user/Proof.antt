@@ -5,11 +5,6 @@ use native.Mathlib.Omega.{arith}
 use Rattle.state_record.proofs.Rules.{rules}
 use Rattle.state_record.proofs.count_user.Statement.{statement}
 use Rattle.state_record.proofs.count_user.Tie as tie
-use Rattle.state_record.proofs.count_user.Reads as reads
-use Rattle.state_record.proofs.count_user.Lts as lts
-use Rattle.state_find.proofs.find_active.Reads as find-active-reads
-use Rattle.state_find.proofs.next_number.Reads as next-number-reads
-use Rattle.state_write.proofs.write_next.Reads as write-next-reads
 
 find-active-requires : tie.Need-find-active-requires
 find-active-requires c κs = search rules

@@ -5,10 +5,6 @@ use native.Mathlib.Omega.{arith}
 use Rattle.state_record.proofs.Rules.{rules}
 use Rattle.state_record.proofs.elevated_credential.Statement.{statement}
 use Rattle.state_record.proofs.elevated_credential.Tie as tie
-use Rattle.state_record.proofs.elevated_credential.Reads as reads
-use Rattle.state_record.proofs.elevated_credential.Lts as lts
-use Rattle.state_find.proofs.credential_at.Reads as credential-at-reads
-use Rattle.state_find.proofs.find_active.Reads as find-active-reads
 
 find-active-requires : tie.Need-find-active-requires
 find-active-requires c κs = search rules

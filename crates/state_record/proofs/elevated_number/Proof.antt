@@ -6,9 +6,6 @@ use native.Mathlib.Omega.{arith}
 use Rattle.state_record.proofs.Rules.{rules}
 use Rattle.state_record.proofs.elevated_number.Statement.{statement}
 use Rattle.state_record.proofs.elevated_number.Tie as tie
-use Rattle.state_record.proofs.elevated_number.Reads as reads
-use Rattle.state_record.proofs.elevated_number.Lts as lts
-use Rattle.state_find.proofs.find_active.Reads as find-active-reads
 
 find-active-requires : tie.Need-find-active-requires
 find-active-requires c κs = search rules

@@ -5,10 +5,6 @@ use native.Mathlib.Omega.{arith}
 use Rattle.state_record.proofs.Rules.{rules}
 use Rattle.state_record.proofs.entered.Statement.{statement}
 use Rattle.state_record.proofs.entered.Tie as tie
-use Rattle.state_record.proofs.entered.Reads as reads
-use Rattle.state_record.proofs.entered.Lts as lts
-use Rattle.claims.proofs.phase_number.Reads as phase-number-reads
-use Rattle.state_find.proofs.phase_of.Reads as phase-of-reads
 
 phase-of-requires : tie.Need-phase-of-requires
 phase-of-requires c κs = search rules

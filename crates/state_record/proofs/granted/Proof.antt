@@ -5,10 +5,6 @@ use native.Mathlib.Omega.{arith}
 use Rattle.state_record.proofs.Rules.{rules}
 use Rattle.state_record.proofs.granted.Statement.{statement}
 use Rattle.state_record.proofs.granted.Tie as tie
-use Rattle.state_record.proofs.granted.Reads as reads
-use Rattle.state_record.proofs.granted.Lts as lts
-use Rattle.claims.proofs.word_grants.Reads as word-grants-reads
-use Rattle.state_find.proofs.word_of.Reads as word-of-reads
 
 word-of-requires : tie.Need-word-of-requires
 word-of-requires c κs = search rules

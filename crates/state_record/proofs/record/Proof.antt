@@ -6,10 +6,6 @@ use native.Mathlib.Omega.{arith}
 use Rattle.state_record.proofs.Rules.{rules}
 use Rattle.state_record.proofs.record.Statement.{statement}
 use Rattle.state_record.proofs.record.Tie as tie
-use Rattle.state_record.proofs.record.Reads as reads
-use Rattle.state_record.proofs.record.Lts as lts
-use Rattle.state_record.proofs.count.Reads as count-reads
-use Rattle.state_record.proofs.record_number.Reads as record-number-reads
 
 record-number-requires : tie.Need-record-number-requires
 record-number-requires c κs = search rules

@@ -6,12 +6,6 @@ use native.Mathlib.Omega.{arith}
 use Rattle.state_record.proofs.Rules.{rules}
 use Rattle.state_record.proofs.record_number.Statement.{statement}
 use Rattle.state_record.proofs.record_number.Tie as tie
-use Rattle.state_record.proofs.record_number.Reads as reads
-use Rattle.state_record.proofs.record_number.Lts as lts
-use Rattle.calls.proofs.is_device.Reads as is-device-reads
-use Rattle.state_record.proofs.admitted.Reads as admitted-reads
-use Rattle.state_record.proofs.claimant.Reads as claimant-reads
-use Rattle.state_record.proofs.granted.Reads as granted-reads
 
 is-device-requires : tie.Need-is-device-requires
 is-device-requires c κs = search rules

@@ -6,12 +6,6 @@ use native.Mathlib.Omega.{arith}
 use Rattle.state_record.proofs.Rules.{rules}
 use Rattle.state_record.proofs.user_number.Statement.{statement}
 use Rattle.state_record.proofs.user_number.Tie as tie
-use Rattle.state_record.proofs.user_number.Reads as reads
-use Rattle.state_record.proofs.user_number.Lts as lts
-use Rattle.claims.proofs.turn_number.Reads as turn-number-reads
-use Rattle.state_find.proofs.find_active.Reads as find-active-reads
-use Rattle.state_find.proofs.next_number.Reads as next-number-reads
-use Rattle.state_find.proofs.provisioned.Reads as provisioned-reads
 
 provisioned-requires : tie.Need-provisioned-requires
 provisioned-requires c κs = search rules
