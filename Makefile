@@ -1,13 +1,22 @@
-.PHONY: help lib test
+.PHONY: help run lib test soak bench tools clean
 
 LIB := build/lib
 SOURCES := crates.txt $(shell find crates -path '*/must-fail' -prune -o -type f -print)
+CARGO := cargo run --quiet --release --package
 
 help:
-	@echo "make lib     proves the module and puts the archives and slavotuk.h into $(LIB)"
-	@echo "make test    everything: the proofs, the wrong builds, the hosts; its last line is 'N passed, 0 failed'"
+	@echo "make run      proves and builds what the console needs, and starts it"
+	@echo "make lib      proves the module, and puts the archives and slavotuk.h into $(LIB)"
+	@echo "make test     the proofs, the wrong builds and the hosts' tests; its last line is 'N passed, 0 failed'"
+	@echo "make soak     the compiled module against the model, until it is stopped; make soak TIME=600 for so many seconds"
+	@echo "make bench    the record entry against ordinary Rust"
+	@echo "make clean    removes what these have built"
 
-lib: $(LIB)/libslavotuk.a $(LIB)/libslavotuk.so $(LIB)/slavotuk.h
+run: lib
+	@echo "building the console"
+	@$(CARGO) slavotuk-console
+
+lib: tools $(LIB)/libslavotuk.a $(LIB)/libslavotuk.so $(LIB)/slavotuk.h
 
 $(LIB)/libslavotuk.a: $(SOURCES)
 	@echo "proving the module and compiling it: some minutes where nothing is proved yet"
@@ -23,6 +32,18 @@ $(LIB)/slavotuk.h: include/slavotuk.h
 	@mkdir -p $(LIB)
 	cp $< $@
 
-# proves every crate from nothing, tries every must-fail edit, runs every program
-test:
+test: tools
 	@tests/gate
+
+soak: lib
+	@$(CARGO) slavotuk-compare -- soak $(if $(TIME),--seconds $(TIME),--forever)
+
+bench: lib
+	@$(CARGO) slavotuk-bench
+
+# what the hosts need beside the Rattle kit
+tools:
+	@tests/install
+
+clean:
+	rm -rf build target
