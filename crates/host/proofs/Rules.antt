@@ -322,7 +322,7 @@ module _ (flags words : List ℕ) where
     unfolding arePairs
     words-long = eqb-true (length words) 8 (and-left (eqb (length words) 8) _ (and-right (eqb (length flags) 8) _ e))
 
-pairs-length : (flags words : List ℕ) → length flags ≡ length words → length (pairsOf flags words) ≡ length flags
+pub pairs-length : (flags words : List ℕ) → length flags ≡ length words → length (pairsOf flags words) ≡ length flags
 unfolding pairsOf
 pairs-length [] words h = refl
 pairs-length (f ∷ flags) [] h = absurd (omega arith)

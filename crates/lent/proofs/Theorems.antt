@@ -1,28 +1,31 @@
 -- A slice that only the entries have written holds a state: the one that the calls give, and no entry answers otherwise than they do.
 -- Assumes nothing.
-use Prim.Native.Nat.{ℕ}
-use mathlib.Core.Path.{_≡_, refl, ap, subst, _∙_}
+use Prim.Native.Nat.{ℕ, suc}
+use mathlib.Core.Path.{_≡_, refl, sym, ap, subst, _∙_}
 use mathlib.Core.Bool.{Bool, true, false}
 use mathlib.Core.List.{List, [], _∷_}
 use lib.Dec.{eqb}
-use lib.ListN.{length}
+use lib.ListN.{length, getD}
 use borrow.Author.Tests.{eqb-true, eqb-false}
 use Rattle.lists.specs.Bytes.{Bytes}
-use Rattle.lists.proofs.Tests.{split}
+use Rattle.lists.proofs.Tests.{split, and-right}
 use Rattle.names.specs.Names.{readName}
 use Rattle.claims.specs.Numbers as No
 use Rattle.claims.specs.Numbers.{_unless_, _▸_}
 use Rattle.claims.specs.declared.Grants.{Grants}
 use Rattle.claims.specs.declared.State.{State}
+use Rattle.claims.proofs.Laws.{clear-unless}
 use Rattle.calls.specs.Calls.{Call, number, fresh}
 use Rattle.calls.specs.Run.{step, run, numbers}
 use Rattle.layout.specs.Layout.{stateBytes, stateOf, holdsState}
 use Rattle.layout.proofs.Laws.{state-back, holds-written, one-form}
 use Rattle.host.specs.Entry.{entryNumber, entryBytes}
-use Rattle.lists.specs.Each.{each-nil, each-cons}
+use Rattle.host.specs.Fresh.{pairsOf, arePairs, canFresh, FreshEntry}
+use Rattle.host.proofs.Rules.{pairs-length, flags-long, words-long}
+use Rattle.lists.specs.Each.{Each, each-nil, each-cons}
 use Rattle.history.proofs.Kept.{step-accepted, step-refused}
 use Rattle.history.proofs.Theorems.{demand3}
-use Rattle.lent.specs.Lent.{IsWhole, Fits, Eight, Made, AllFit, afterAll, answers, callsMade, answersOf, Follows, Lent, Chain, none, then, Ends}
+use Rattle.lent.specs.Lent.{IsWhole, IsWord, Fits, Eight, Made, AllFit, afterAll, answers, callsMade, answersOf, Follows, Lent, Chain, none, then, Ends}
 use Rattle.lent.proofs.Kept.{Kept, kept-step, kept-fresh, kept-held, formed, sound}
 
 -- ---- an entry that makes no call
@@ -139,3 +142,27 @@ lent-ends pairs e entries f k =
 pub name-whole : (part : List ℕ) → IsWhole (readName part .name)
 unfolding readName
 name-whole part = split (eqb (length part) 48) (λ e. rw e (eqb-true (length part) 48 e)) (λ e. rw e)
+
+pairs-can : (before flags words : List ℕ) → canFresh before flags words ≡ true → arePairs flags words ≡ true
+unfolding canFresh
+pairs-can before flags words e = and-right (eqb (length before) 681) (arePairs flags words) e
+
+-- ---- and the pairs of a fresh module are eight, each word being a number of 32 bits
+words-fit : (flags words : List ℕ) → ((i : ℕ) → IsWord (getD words i 0)) → Each (λ g. IsWord (g .word)) (pairsOf flags words)
+unfolding pairsOf
+words-fit [] words h = each-nil
+words-fit (flag ∷ flags) [] h = each-nil
+words-fit (flag ∷ flags) (word ∷ words) h = each-cons (h 0) (words-fit flags words (λ i. h (suc i)))
+
+pub pairs-eight : (flags words : List ℕ) → arePairs flags words ≡ true → ((i : ℕ) → IsWord (getD words i 0)) → Eight (pairsOf flags words)
+pairs-eight flags words e h =
+    let many : length flags ≡ 8 = flags-long flags words e in
+    record { many = pairs-length flags words (many ∙ sym (words-long flags words e)) ∙ many; words = words-fit flags words h }
+
+-- so of the contracts themselves, from the making of the module on
+pub lent-made : {before flags words made : List ℕ} → FreshEntry before flags words 0 made → ((i : ℕ) → IsWord (getD words i 0))
+    → (entries : List Made) → AllFit entries → {ns last : List ℕ} → Chain made entries ns last → Ends (pairsOf flags words) entries ns last
+lent-made {before} {flags} {words} v h entries f k =
+    let can : canFresh before flags words ≡ true = clear-unless 1 tt (canFresh before flags words) (sym (v .number-is)) in
+    let fine : arePairs flags words ≡ true = pairs-can before flags words can in
+    lent-ends (pairsOf flags words) (pairs-eight flags words fine h) entries f (rw (v .bytes-are, can) at k)
