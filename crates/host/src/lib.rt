@@ -418,11 +418,11 @@ pub extern "C" fn slavotuk_write_request(buffer: &mut [u8], credential: u16) -> 
 pub extern "C" fn slavotuk_read_count(message: &[u8], count: &mut u16) -> u32
     ensures { λ r. ⌜ Given (readCount (now (message .entry)) .number) (readCount (now (message .entry)) .count) (now (count .entry)) r (now (count .exit)) ⌝ }
 {
-    let read = wire::read_count(message);
-    if read.number != DONE {
-        return read.number as u32;
+    let counted = wire::read_count(message);
+    if counted.number != DONE {
+        return counted.number as u32;
     }
-    *count = read.count;
+    *count = counted.count;
     DONE as u32
 }
 
