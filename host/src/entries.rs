@@ -131,9 +131,13 @@ mod declared {
 /// A claim as numbers: the kind (0 a user's, 1 elevated) and what a user's claim carries. Of an elevated claim the last three are ignored.
 #[derive(Clone, Copy, Debug, PartialEq, Eq)]
 pub struct RawClaim {
+    /// 0 a user's, 1 elevated.
     pub kind: u32,
+    /// Whose record it is.
     pub credential: u32,
+    /// The record's number.
     pub number: u16,
+    /// The key unit's verdict: 0 no, 1 yes.
     pub verdict: u32,
 }
 

@@ -1,2 +1,79 @@
 //! The management login module of machines that banks rent, for programs in Rust.
+//!
+//! [`Module`] has document 01's calls with types: a session can't stand for a credential or a class, and a value out of its range can't be made. Every call
+//! returns a [`Refusal`] where it is refused, which leaves the state and the lent buffer as they were. Whoever has values that may be wrong turns them into
+//! typed ones (`Session::try_from(number)?` refuses as the module would), or hands them to [`entries`], where the module itself answers them with 1.
+//!
+//! # An example
+//!
+//! ```
+//! use slavotuk::{
+//!     Class, Credential, Grants, Kind, Module, Name, Refusal, Session, UserClaim, Wanted, FULL_LISTING_LENGTH, VERSION_1_0,
+//! };
+//!
+//! // credentials 0 and 1 are provisioned: 0 has the module's own classes, 1 has device class 4
+//! let mut grants = [Grants::UNPROVISIONED; 8];
+//! grants[0] = Grants::of_word(15);
+//! grants[1] = Grants::of_word(16);
+//! let mut module = Module::fresh(&grants);
+//!
+//! let session = Session::try_from(0)?;
+//! let (manager, operator) = (Credential::try_from(0)?, Credential::try_from(1)?);
+//! module.open(session)?;
+//! module.select(session, VERSION_1_0)?;
+//!
+//! // each starts a process; the hash unit gives the names
+//! module.start(session, manager, &Name([0x11; 48]))?;
+//! module.start(session, operator, &Name([0x22; 48]))?;
+//!
+//! // the operator's record 0 is accepted once: sent again, it is out of turn
+//! let claim = UserClaim { credential: operator, number: 0, verdict: true };
+//! let class = Class::try_from(4)?;
+//! module.record(session, claim, class)?;
+//! assert_eq!(module.record(session, claim, class), Err(Refusal::OutOfTurn));
+//!
+//! // the manager kills the operator's process, and lists what is left
+//! let claim = UserClaim { credential: manager, number: 0, verdict: true };
+//! module.kill(session, claim, &Name([0x22; 48]))?;
+//! let mut buffer = [0; FULL_LISTING_LENGTH];
+//! let listing = module.list(session, UserClaim { number: 1, ..claim }, Wanted::All, &mut buffer)?;
+//! let rows: Vec<_> = listing.rows().collect();
+//! assert_eq!(rows.len(), 1);
+//! assert_eq!((rows[0].kind, rows[0].name), (Kind::ActiveUser, Name([0x11; 48])));
+//!
+//! // two calls were accepted under that process
+//! assert_eq!(module.processes().next().unwrap().next_number(), Some(2));
+//! # Ok::<(), Refusal>(())
+//! ```
+//!
+//! # Where things are
+//!
+//! | Item | What it is |
+//! |---|---|
+//! | [`Module`] | the calls, and what the state holds: [`Phase`], [`Grants`], [`Process`] |
+//! | [`Session`], [`Credential`], [`Class`], [`Name`], [`Claim`], [`Wanted`] | what a call is handed |
+//! | [`Refusal`] | document 01's numbers 1 to 15 |
+//! | [`Listing`], [`read_request`], [`write_request`] | the listing messages, for consoles too |
+//! | [`entries`] | the archive's entries as they are, with numbers and byte slices |
+
+#![deny(missing_docs)]
+#![deny(unsafe_code)]
+
+#[allow(unsafe_code)]
 pub mod entries;
+mod listing;
+mod module;
+mod numbers;
+mod values;
+mod view;
+
+pub use listing::{
+    read_request, write_request, Listing, Row, Rows, WireCredential, FULL_LISTING_LENGTH,
+    REQUEST_LENGTH,
+};
+pub use module::{Module, STATE_LENGTH, VERSION_1_0};
+pub use numbers::{NoRefusal, Refusal};
+pub use values::{
+    Claim, Class, Credential, Grants, Kind, Name, Session, UserClaim, Wanted, NAME_LENGTH,
+};
+pub use view::{Phase, Process, Processes, Standing, PLACES};

@@ -1,0 +1,303 @@
+//! The module: its state and its calls.
+
+use crate::entries::{self, RawClaim};
+use crate::numbers::answered;
+use crate::{
+    Claim, Class, Credential, Grants, Listing, Name, Refusal, Session, UserClaim, Wanted,
+    WireCredential,
+};
+
+/// How many bytes a state has.
+pub const STATE_LENGTH: usize = 681;
+
+/// The version byte of version 1.0, the only one that can be selected.
+pub const VERSION_1_0: u8 = 0x10;
+
+/// The module, around the bytes of its state: its own, or lent ones.
+///
+/// It always holds a state: it is made fresh, or of bytes that were tested. Each call returns what document 01 says, and a refusal changes nothing.
+///
+/// ```
+/// use slavotuk::{Credential, Grants, Module, Name, Refusal, Session, VERSION_1_0};
+///
+/// let mut grants = [Grants::UNPROVISIONED; 8];
+/// grants[0] = Grants::of_word(15);
+/// let mut module = Module::fresh(&grants);
+///
+/// let session = Session::new(0).unwrap();
+/// let credential = Credential::new(0).unwrap();
+/// let name = Name([7; 48]);
+/// assert_eq!(module.start(session, credential, &name), Err(Refusal::Session));
+/// module.open(session)?;
+/// module.select(session, VERSION_1_0)?;
+/// module.start(session, credential, &name)?;
+/// # Ok::<(), Refusal>(())
+/// ```
+#[derive(Clone, Debug, PartialEq, Eq)]
+pub struct Module<S = [u8; STATE_LENGTH]> {
+    state: S,
+}
+
+impl Module {
+    /// A fresh module of eight credentials: every session closed, no process.
+    pub fn fresh(grants: &[Grants; Credential::COUNT]) -> Module {
+        let mut state = [0; STATE_LENGTH];
+        make_fresh(&mut state, grants).expect("the length is a state's and the flags are 0 or 1");
+        Module { state }
+    }
+
+    /// A module that owns these bytes; [`Refusal::Argument`] where they hold no state.
+    ///
+    /// ```
+    /// use slavotuk::{Grants, Module, Refusal};
+    ///
+    /// let module = Module::fresh(&[Grants::UNPROVISIONED; 8]);
+    /// let mut bytes = module.clone().into_bytes();
+    /// assert_eq!(Module::from_bytes(bytes), Ok(module));
+    /// bytes[680] = 1;
+    /// assert_eq!(Module::from_bytes(bytes), Err(Refusal::Argument));
+    /// ```
+    pub fn from_bytes(mut bytes: [u8; STATE_LENGTH]) -> Result<Module, Refusal> {
+        test_state(&mut bytes)?;
+        Ok(Module { state: bytes })
+    }
+
+    /// The bytes of its state.
+    pub fn into_bytes(self) -> [u8; STATE_LENGTH] {
+        self.state
+    }
+}
+
+impl<'a> Module<&'a mut [u8]> {
+    /// A module in a lent slice; [`Refusal::Argument`] where the slice holds no state, and it is left as it was.
+    ///
+    /// ```
+    /// use slavotuk::{Grants, Module, Refusal, Session};
+    ///
+    /// let mut flash = Module::fresh(&[Grants::UNPROVISIONED; 8]).into_bytes();
+    /// let mut module = Module::lent(&mut flash)?;
+    /// module.open(Session::new(3).unwrap())?;
+    /// assert_eq!(flash[3], 1);
+    ///
+    /// assert_eq!(Module::lent(&mut flash[..680]).unwrap_err(), Refusal::Argument);
+    /// # Ok::<(), Refusal>(())
+    /// ```
+    pub fn lent(state: &'a mut [u8]) -> Result<Self, Refusal> {
+        test_state(state)?;
+        Ok(Module { state })
+    }
+
+    /// Makes a fresh module in a lent slice, whatever it held; [`Refusal::Argument`] where its length is not a state's, and it is left as it was.
+    ///
+    /// ```
+    /// use slavotuk::{Grants, Module};
+    ///
+    /// let mut flash = [0xff; slavotuk::STATE_LENGTH];
+    /// let module = Module::fresh_in(&mut flash, &[Grants::UNPROVISIONED; 8])?;
+    /// assert_eq!(module.processes().len(), 0);
+    /// # Ok::<(), slavotuk::Refusal>(())
+    /// ```
+    pub fn fresh_in(
+        state: &'a mut [u8],
+        grants: &[Grants; Credential::COUNT],
+    ) -> Result<Self, Refusal> {
+        make_fresh(state, grants)?;
+        Ok(Module { state })
+    }
+}
+
+fn make_fresh(state: &mut [u8], grants: &[Grants; Credential::COUNT]) -> Result<(), Refusal> {
+    let provisioned = grants.map(|grant| grant.is_provisioned().into());
+    let words = grants.map(Grants::word);
+    answered(entries::fresh(state, &provisioned, &words))
+}
+
+/// Asks whether a slice holds a state. A select of version 0 is never accepted, so it changes nothing; it is refused for its argument exactly where the slice
+/// holds none, as session 0 is in its range.
+fn test_state(state: &mut [u8]) -> Result<(), Refusal> {
+    match answered(entries::select(state, 0, 0)) {
+        Err(Refusal::Argument) => Err(Refusal::Argument),
+        _ => Ok(()),
+    }
+}
+
+impl<S: AsRef<[u8]>> Module<S> {
+    /// The bytes of its state, as docs/STATE.md draws them.
+    pub fn bytes(&self) -> &[u8] {
+        self.state.as_ref()
+    }
+}
+
+impl<S: AsMut<[u8]>> Module<S> {
+    /// Opens a closed session, without a version. Refusals: session.
+    pub fn open(&mut self, session: Session) -> Result<(), Refusal> {
+        answered(entries::open(self.state.as_mut(), session.into()))
+    }
+
+    /// Closes a session: its active processes are removed, saved ones stay. Refusals: session.
+    pub fn close(&mut self, session: Session) -> Result<(), Refusal> {
+        answered(entries::close(self.state.as_mut(), session.into()))
+    }
+
+    /// Chooses an open session's version; choosing it again changes nothing. Refusals: session, version.
+    pub fn select(&mut self, session: Session, version: u8) -> Result<(), Refusal> {
+        let state = self.state.as_mut();
+        answered(entries::select(state, session.into(), version.into()))
+    }
+
+    /// Starts a user process with next number 0. Refusals: session, no version, credential, already active, name taken, full.
+    pub fn start(
+        &mut self,
+        session: Session,
+        credential: Credential,
+        name: &Name,
+    ) -> Result<(), Refusal> {
+        let state = self.state.as_mut();
+        answered(entries::start(
+            state,
+            session.into(),
+            credential.into(),
+            &name.0,
+        ))
+    }
+
+    /// Takes a saved process up again in this session, with its old next number. Refusals: session, no version, credential, no process, already active.
+    pub fn continue_saved(
+        &mut self,
+        session: Session,
+        credential: Credential,
+        name: &Name,
+    ) -> Result<(), Refusal> {
+        let state = self.state.as_mut();
+        answered(entries::continue_saved(
+            state,
+            session.into(),
+            credential.into(),
+            &name.0,
+        ))
+    }
+
+    /// Starts the session's elevation. Refusals: session, no version, credential, verdict, already active, name taken, full.
+    pub fn elevate(
+        &mut self,
+        session: Session,
+        credential: Credential,
+        name: &Name,
+        verdict: bool,
+    ) -> Result<(), Refusal> {
+        let state = self.state.as_mut();
+        answered(entries::elevate(
+            state,
+            session.into(),
+            credential.into(),
+            &name.0,
+            verdict.into(),
+        ))
+    }
+
+    /// Removes the session's elevation; the session stays open. Refusals: session, no version, no process.
+    pub fn drop_elevation(&mut self, session: Session) -> Result<(), Refusal> {
+        answered(entries::drop(self.state.as_mut(), session.into()))
+    }
+
+    /// Ends the claim's own process: it is saved where `keep` is set, else removed. Refusals: session, no version, the claim's, not granted.
+    pub fn end(&mut self, session: Session, claim: UserClaim, keep: bool) -> Result<(), Refusal> {
+        answered(entries::end(
+            self.state.as_mut(),
+            session.into(),
+            claim.credential.into(),
+            claim.number,
+            claim.verdict.into(),
+            keep.into(),
+        ))
+    }
+
+    /// One record of a device operation. Refusals: argument where the class is the module's own, session, no version, the claim's, not granted.
+    ///
+    /// The claim's refusals are, for an elevated claim, no process; for a user's: credential, no process, spent, out of turn, verdict.
+    pub fn record(
+        &mut self,
+        session: Session,
+        claim: impl Into<Claim>,
+        class: Class,
+    ) -> Result<(), Refusal> {
+        let state = self.state.as_mut();
+        answered(entries::record(
+            state,
+            session.into(),
+            raw(claim),
+            class.into(),
+        ))
+    }
+
+    /// Writes the listing of the wanted processes to the front of the buffer; later bytes stay as they were. Refusals: session, no version, the claim's,
+    /// not granted, room.
+    ///
+    /// A buffer of [`FULL_LISTING_LENGTH`](crate::FULL_LISTING_LENGTH) bytes is long enough for every listing.
+    pub fn list<'b>(
+        &mut self,
+        session: Session,
+        claim: impl Into<Claim>,
+        wanted: Wanted,
+        buffer: &'b mut [u8],
+    ) -> Result<Listing<'b>, Refusal> {
+        let mut length = 0;
+        answered(entries::list(
+            self.state.as_mut(),
+            session.into(),
+            raw(claim),
+            WireCredential::from(wanted).0.into(),
+            buffer,
+            &mut length,
+        ))?;
+        Listing::read(&buffer[..length])
+    }
+
+    /// Removes the process of that name. A process that the claim may not kill is answered as one that isn't there. Refusals: session, no version, the
+    /// claim's, no process.
+    pub fn kill(
+        &mut self,
+        session: Session,
+        claim: impl Into<Claim>,
+        name: &Name,
+    ) -> Result<(), Refusal> {
+        let state = self.state.as_mut();
+        answered(entries::kill(state, session.into(), raw(claim), &name.0))
+    }
+
+    /// Sets the grant word of a credential. Refusals: session, no version, the claim's, not granted, credential.
+    pub fn set_word(
+        &mut self,
+        session: Session,
+        claim: impl Into<Claim>,
+        target: Credential,
+        word: u32,
+    ) -> Result<(), Refusal> {
+        let state = self.state.as_mut();
+        answered(entries::set_word(
+            state,
+            session.into(),
+            raw(claim),
+            target.into(),
+            word,
+        ))
+    }
+}
+
+/// A claim as the entries take it. Of an elevated one only the kind is read.
+fn raw(claim: impl Into<Claim>) -> RawClaim {
+    match claim.into() {
+        Claim::Elevated => RawClaim {
+            kind: 1,
+            credential: 0,
+            number: 0,
+            verdict: 0,
+        },
+        Claim::User(user) => RawClaim {
+            kind: 0,
+            credential: user.credential.into(),
+            number: user.number,
+            verdict: user.verdict.into(),
+        },
+    }
+}

@@ -1,0 +1,341 @@
+//! What a call is handed: sessions, credentials, classes, names, claims and grants.
+
+use crate::Refusal;
+use std::fmt;
+
+/// Defines a tuple struct around a number below `$count`, which no other number can become.
+macro_rules! small_number {
+    ($(#[$doc:meta])* $name:ident, $count:literal) => {
+        $(#[$doc])*
+        #[derive(Clone, Copy, Debug, PartialEq, Eq, PartialOrd, Ord, Hash)]
+        pub struct $name(pub(crate) u8);
+
+        impl $name {
+            /// How many there are.
+            pub const COUNT: usize = $count;
+
+            /// The one with this number, or `None` where there is none.
+            pub const fn new(number: u8) -> Option<Self> {
+                if number < $count {
+                    Some(Self(number))
+                } else {
+                    None
+                }
+            }
+
+            /// Its number.
+            pub const fn number(self) -> u8 {
+                self.0
+            }
+
+            /// All of them, from 0 on.
+            pub fn all() -> impl DoubleEndedIterator<Item = Self> + ExactSizeIterator {
+                (0..$count).map(Self)
+            }
+        }
+
+        impl TryFrom<u32> for $name {
+            type Error = Refusal;
+
+            /// The one with this number; [`Refusal::Argument`] where there is none, as the module answers.
+            fn try_from(number: u32) -> Result<Self, Refusal> {
+                u8::try_from(number)
+                    .ok()
+                    .and_then(Self::new)
+                    .ok_or(Refusal::Argument)
+            }
+        }
+
+        impl From<$name> for u32 {
+            fn from(value: $name) -> u32 {
+                value.0.into()
+            }
+        }
+
+        impl fmt::Display for $name {
+            fn fmt(&self, f: &mut fmt::Formatter<'_>) -> fmt::Result {
+                self.0.fmt(f)
+            }
+        }
+    };
+}
+
+small_number!(
+    /// A session's handle, 0 to 3.
+    ///
+    /// ```
+    /// use slavotuk::{Refusal, Session};
+    ///
+    /// assert_eq!(Session::new(3).unwrap().number(), 3);
+    /// assert_eq!(Session::new(4), None);
+    /// assert_eq!(Session::try_from(4u32), Err(Refusal::Argument));
+    /// assert_eq!(Session::all().count(), 4);
+    /// ```
+    ///
+    /// A credential never stands for a session:
+    ///
+    /// ```compile_fail,E0308
+    /// use slavotuk::{Credential, Grants, Module};
+    ///
+    /// let mut module = Module::fresh(&[Grants::UNPROVISIONED; 8]);
+    /// let credential = Credential::new(0).unwrap();
+    /// let _ = module.open(credential);
+    /// ```
+    Session,
+    4
+);
+
+small_number!(
+    /// A credential, 0 to 7. In a message any number of 16 bits can stand for one: see [`WireCredential`](crate::WireCredential).
+    ///
+    /// ```
+    /// use slavotuk::{Credential, Refusal};
+    ///
+    /// assert_eq!(Credential::new(7).unwrap().to_string(), "7");
+    /// assert_eq!(Credential::new(8), None);
+    /// assert_eq!(Credential::try_from(0x8000_0000), Err(Refusal::Argument));
+    /// ```
+    Credential,
+    8
+);
+
+small_number!(
+    /// A class of operations, 0 to 31. The first four are the module's own, the others are device operations.
+    ///
+    /// ```
+    /// use slavotuk::Class;
+    ///
+    /// assert_eq!(Class::SET_WORDS.number(), 3);
+    /// assert!(!Class::SET_WORDS.is_device());
+    /// assert!(Class::new(4).unwrap().is_device());
+    /// assert_eq!(Class::new(32), None);
+    /// ```
+    Class,
+    32
+);
+
+impl Class {
+    /// To list other credentials' processes.
+    pub const LIST_OTHERS: Class = Class(0);
+    /// To kill other credentials' processes.
+    pub const KILL_OTHERS: Class = Class(1);
+    /// To save one's own processes.
+    pub const SAVE_OWN: Class = Class(2);
+    /// To set grant words.
+    pub const SET_WORDS: Class = Class(3);
+
+    /// Whether it is a device operation: only such a class can be recorded.
+    pub const fn is_device(self) -> bool {
+        self.0 > Class::SET_WORDS.0
+    }
+}
+
+/// How many bytes a name has.
+pub const NAME_LENGTH: usize = 48;
+
+/// A process's name, 48 bytes. Two names are equal when all of them are.
+///
+/// It is always printed whole, as 96 hexadecimal digits: names may have a long beginning in common, and a shortened one could be taken for another.
+///
+/// ```
+/// use slavotuk::{Name, Refusal};
+///
+/// let name = Name([0x11; 48]);
+/// assert_eq!(name.to_string(), "11".repeat(48));
+/// assert_eq!(Name::try_from(&[0x11; 48][..]), Ok(name));
+/// assert_eq!(Name::try_from(&[0x11; 47][..]), Err(Refusal::Argument));
+/// ```
+#[derive(Clone, Copy, PartialEq, Eq, PartialOrd, Ord, Hash)]
+pub struct Name(
+    /// Its bytes.
+    pub [u8; NAME_LENGTH],
+);
+
+impl From<[u8; NAME_LENGTH]> for Name {
+    fn from(bytes: [u8; NAME_LENGTH]) -> Name {
+        Name(bytes)
+    }
+}
+
+impl TryFrom<&[u8]> for Name {
+    type Error = Refusal;
+
+    /// The name of these bytes; [`Refusal::Argument`] where they are not 48, as the module answers.
+    fn try_from(bytes: &[u8]) -> Result<Name, Refusal> {
+        bytes.try_into().map(Name).map_err(|_| Refusal::Argument)
+    }
+}
+
+impl AsRef<[u8]> for Name {
+    fn as_ref(&self) -> &[u8] {
+        &self.0
+    }
+}
+
+impl fmt::Display for Name {
+    fn fmt(&self, f: &mut fmt::Formatter<'_>) -> fmt::Result {
+        self.0.iter().try_for_each(|byte| write!(f, "{byte:02x}"))
+    }
+}
+
+impl fmt::Debug for Name {
+    fn fmt(&self, f: &mut fmt::Formatter<'_>) -> fmt::Result {
+        write!(f, "Name({self})")
+    }
+}
+
+/// What a user claims: that the record is theirs, that it has this number, and that the key unit said yes or no to its signature.
+///
+/// ```
+/// use slavotuk::{Claim, Credential, UserClaim};
+///
+/// let claim = UserClaim { credential: Credential::new(1).unwrap(), number: 0, verdict: true };
+/// assert_eq!(Claim::from(claim), Claim::User(claim));
+/// ```
+#[derive(Clone, Copy, Debug, PartialEq, Eq, Hash)]
+pub struct UserClaim {
+    /// Whose record it is.
+    pub credential: Credential,
+    /// The record's number, which has to be the next of the process.
+    pub number: u16,
+    /// The key unit's verdict on the signature.
+    pub verdict: bool,
+}
+
+/// The claim that a protected call carries.
+///
+/// ```
+/// use slavotuk::{Claim, Grants, Module, Refusal, Session};
+///
+/// let session = Session::new(0).unwrap();
+/// let mut module = Module::fresh(&[Grants::UNPROVISIONED; 8]);
+/// module.open(session)?;
+/// module.select(session, slavotuk::VERSION_1_0)?;
+/// // the session has no elevation
+/// let class = slavotuk::Class::new(4).unwrap();
+/// assert_eq!(module.record(session, Claim::Elevated, class), Err(Refusal::NoProcess));
+/// # Ok::<(), Refusal>(())
+/// ```
+#[derive(Clone, Copy, Debug, PartialEq, Eq, Hash)]
+pub enum Claim {
+    /// By the session's elevation.
+    Elevated,
+    /// By a user process of the session.
+    User(UserClaim),
+}
+
+impl From<UserClaim> for Claim {
+    fn from(claim: UserClaim) -> Claim {
+        Claim::User(claim)
+    }
+}
+
+/// Whose processes a listing is to have.
+///
+/// ```
+/// use slavotuk::{Credential, Wanted};
+///
+/// let own = Wanted::Of(Credential::new(1).unwrap());
+/// assert_ne!(own, Wanted::All);
+/// ```
+#[derive(Clone, Copy, Debug, PartialEq, Eq, Hash)]
+pub enum Wanted {
+    /// Everyone's.
+    All,
+    /// One credential's.
+    Of(Credential),
+}
+
+/// A process's type.
+///
+/// ```
+/// use slavotuk::Kind;
+///
+/// assert_eq!(Kind::SavedUser.number(), 2);
+/// assert_eq!(Kind::SavedUser.to_string(), "saved user");
+/// assert_eq!(Kind::new(3), None);
+/// ```
+#[derive(Clone, Copy, Debug, PartialEq, Eq, Hash)]
+pub enum Kind {
+    /// Type 0.
+    ActiveUser,
+    /// Type 1.
+    ActiveElevation,
+    /// Type 2.
+    SavedUser,
+}
+
+impl Kind {
+    /// The type with this number, or `None` where there is none.
+    pub const fn new(number: u8) -> Option<Kind> {
+        match number {
+            0 => Some(Kind::ActiveUser),
+            1 => Some(Kind::ActiveElevation),
+            2 => Some(Kind::SavedUser),
+            _ => None,
+        }
+    }
+
+    /// Its number.
+    pub const fn number(self) -> u8 {
+        self as u8
+    }
+}
+
+impl fmt::Display for Kind {
+    fn fmt(&self, f: &mut fmt::Formatter<'_>) -> fmt::Result {
+        f.pad(match self {
+            Kind::ActiveUser => "active user",
+            Kind::ActiveElevation => "active elevation",
+            Kind::SavedUser => "saved user",
+        })
+    }
+}
+
+/// What a credential is granted: nothing where it is not provisioned, else the classes of its grant word.
+///
+/// ```
+/// use slavotuk::{Class, Grants};
+///
+/// let grants = Grants::of_word(0b1_0100);
+/// assert!(grants.grants(Class::SAVE_OWN));
+/// assert!(!grants.grants(Class::SET_WORDS));
+/// let classes: Vec<u8> = grants.classes().map(Class::number).collect();
+/// assert_eq!(classes, [2, 4]);
+/// assert_eq!(Grants::UNPROVISIONED.classes().count(), 0);
+/// ```
+#[derive(Clone, Copy, Debug, Default, PartialEq, Eq, Hash)]
+pub struct Grants(pub(crate) Option<u32>);
+
+impl Grants {
+    /// Of a credential that is not provisioned.
+    pub const UNPROVISIONED: Grants = Grants(None);
+
+    /// Of a provisioned credential with this word; bit k grants class k.
+    pub const fn of_word(word: u32) -> Grants {
+        Grants(Some(word))
+    }
+
+    /// Whether the credential is provisioned.
+    pub const fn is_provisioned(self) -> bool {
+        self.0.is_some()
+    }
+
+    /// The grant word; zero where the credential is not provisioned.
+    pub const fn word(self) -> u32 {
+        match self.0 {
+            Some(word) => word,
+            None => 0,
+        }
+    }
+
+    /// Whether a class is granted.
+    pub const fn grants(self, class: Class) -> bool {
+        self.word() >> class.0 & 1 == 1
+    }
+
+    /// The granted classes, from the lowest on.
+    pub fn classes(self) -> impl DoubleEndedIterator<Item = Class> {
+        Class::all().filter(move |class| self.grants(*class))
+    }
+}

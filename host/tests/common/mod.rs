@@ -1,0 +1,76 @@
+//! What the tests of the wrapper share: document 01's module and names, and short forms of the values.
+#![allow(dead_code)]
+
+use slavotuk::{Class, Credential, Grants, Module, Name, Session, UserClaim, VERSION_1_0};
+
+pub fn session(number: u8) -> Session {
+    Session::new(number).unwrap()
+}
+
+pub fn credential(number: u8) -> Credential {
+    Credential::new(number).unwrap()
+}
+
+pub fn class(number: u8) -> Class {
+    Class::new(number).unwrap()
+}
+
+/// Document 01's P is `named(0x11, 0x11)`, its Q `named(0x22, 0x22)`, its R `named(0x11, 0x12)`.
+pub fn named(body: u8, last: u8) -> Name {
+    let mut bytes = [0; 48];
+    bytes[16..].fill(body);
+    bytes[47] = last;
+    Name(bytes)
+}
+
+pub fn p() -> Name {
+    named(0x11, 0x11)
+}
+
+pub fn q() -> Name {
+    named(0x22, 0x22)
+}
+
+pub fn r() -> Name {
+    named(0x11, 0x12)
+}
+
+/// A user claim with the verdict yes.
+pub fn by(of: u8, number: u16) -> UserClaim {
+    UserClaim {
+        credential: credential(of),
+        number,
+        verdict: true,
+    }
+}
+
+/// Document 01's grants: credential 0 has word 15 and credential 1 has word 16.
+pub fn grants() -> [Grants; 8] {
+    let mut grants = [Grants::UNPROVISIONED; 8];
+    grants[0] = Grants::of_word(15);
+    grants[1] = Grants::of_word(16);
+    grants
+}
+
+/// Document 01's module with these sessions open, each with version 1.0.
+pub fn opened(sessions: &[u8]) -> Module {
+    let mut module = Module::fresh(&grants());
+    for &number in sessions {
+        module.open(session(number)).unwrap();
+        module.select(session(number), VERSION_1_0).unwrap();
+    }
+    module
+}
+
+/// A module whose table is full: credential 0 has started eleven processes in session 0 and saved them, and has a twelfth active.
+pub fn full() -> Module {
+    let mut module = opened(&[0]);
+    for at in 0..12 {
+        let name = Name([at; 48]);
+        module.start(session(0), credential(0), &name).unwrap();
+        if at < 11 {
+            module.end(session(0), by(0, 0), true).unwrap();
+        }
+    }
+    module
+}

@@ -1,0 +1,188 @@
+//! The state, owned and lent: what it is seen to hold, and which bytes are refused.
+
+mod common;
+
+use common::*;
+use slavotuk::{
+    Claim, Grants, Module, Phase, Process, Refusal, Standing, STATE_LENGTH, VERSION_1_0,
+};
+
+/// The example of docs/STATE.md.
+fn example() -> [u8; STATE_LENGTH] {
+    let mut bytes = [0; STATE_LENGTH];
+    bytes[..14].copy_from_slice(&[2, 1, 0, 0, 1, 15, 0, 0, 0, 1, 16, 0, 0, 0]);
+    bytes[44] = 3;
+    let places = [
+        ([0, 0, 0, 3, 0], p()),
+        ([1, 2, 0, 0x2c, 1], q()),
+        ([1, 1, 0, 0, 0], r()),
+    ];
+    for (at, (head, name)) in places.into_iter().enumerate() {
+        let place = &mut bytes[45 + 53 * at..][..53];
+        place[..5].copy_from_slice(&head);
+        place[5..].copy_from_slice(name.as_ref());
+    }
+    bytes
+}
+
+/// The changes that docs/STATE.md names, each of which makes the example hold no state: the offset and the new byte.
+const DAMAGE: [(usize, u8); 13] = [
+    (3, 3),
+    (4, 2),
+    (18, 1),
+    (44, 2),
+    (44, 4),
+    (44, 13),
+    (45, 2),
+    (47, 1),
+    (47, 2),
+    (100, 1),
+    (155, 1),
+    (203, 0x11),
+    (680, 1),
+];
+
+#[test]
+fn the_example_is_seen_as_drawn() {
+    let module = Module::from_bytes(example()).unwrap();
+    let phases: Vec<Phase> = (0..4).map(|n| module.phase(session(n))).collect();
+    let closed = Phase::Closed;
+    assert_eq!(
+        phases,
+        [Phase::Version1_0, Phase::NoVersion, closed, closed]
+    );
+
+    let grants: Vec<Grants> = (0..8).map(|n| module.grants(credential(n))).collect();
+    assert_eq!(grants[..2], [Grants::of_word(15), Grants::of_word(16)]);
+    assert_eq!(grants[2..], [Grants::UNPROVISIONED; 6]);
+
+    let processes: Vec<Process> = module.processes().collect();
+    let drawn = [
+        Process {
+            credential: credential(0),
+            standing: Standing::ActiveUser {
+                session: session(0),
+                next_number: 3,
+            },
+            name: p(),
+        },
+        Process {
+            credential: credential(1),
+            standing: Standing::SavedUser { next_number: 300 },
+            name: q(),
+        },
+        Process {
+            credential: credential(1),
+            standing: Standing::ActiveElevation {
+                session: session(0),
+            },
+            name: r(),
+        },
+    ];
+    assert_eq!(processes, drawn);
+    assert_eq!(module.processes().len(), 3);
+    assert_eq!(module.processes().next_back(), Some(drawn[2]));
+}
+
+#[test]
+fn damaged_bytes_are_refused_and_left() {
+    for (at, byte) in DAMAGE {
+        let mut damaged = example();
+        damaged[at] = byte;
+        let before = damaged;
+        assert_eq!(Module::from_bytes(damaged), Err(Refusal::Argument), "{at}");
+        assert_eq!(Module::lent(&mut damaged).unwrap_err(), Refusal::Argument);
+        assert_eq!(damaged, before);
+    }
+}
+
+#[test]
+fn other_lengths_are_refused_and_left() {
+    for length in [0, 1, 680, 682, 1362] {
+        let mut bytes = vec![0xab; length];
+        assert_eq!(Module::lent(&mut bytes).unwrap_err(), Refusal::Argument);
+        let fresh = Module::fresh_in(&mut bytes, &grants());
+        assert_eq!(fresh.unwrap_err(), Refusal::Argument);
+        assert_eq!(bytes, vec![0xab; length]);
+    }
+}
+
+#[test]
+fn a_test_of_a_state_changes_nothing() {
+    for first in 0..3 {
+        let mut bytes = Module::fresh(&grants()).into_bytes();
+        bytes[0] = first;
+        let before = bytes;
+        assert_eq!(Module::lent(&mut bytes).unwrap().bytes(), before);
+        assert_eq!(Module::from_bytes(bytes).unwrap().bytes(), before);
+        assert_eq!(bytes, before);
+    }
+}
+
+fn some_calls<S: AsMut<[u8]>>(module: &mut Module<S>) -> Result<(), Refusal> {
+    module.open(session(1))?;
+    module.select(session(1), VERSION_1_0)?;
+    module.start(session(1), credential(0), &p())?;
+    module.end(session(1), by(0, 0), true)?;
+    module.continue_saved(session(1), credential(0), &p())?;
+    module.elevate(session(1), credential(1), &q(), true)?;
+    module.record(session(1), Claim::Elevated, class(4))
+}
+
+#[test]
+fn owned_and_lent_states_become_the_same() {
+    let mut owned = Module::fresh(&grants());
+    some_calls(&mut owned).unwrap();
+
+    let mut slice = [0xff; STATE_LENGTH];
+    some_calls(&mut Module::fresh_in(&mut slice, &grants()).unwrap()).unwrap();
+    assert_eq!(owned.bytes(), slice);
+
+    let mut again = Module::lent(&mut slice).unwrap();
+    again.drop_elevation(session(1)).unwrap();
+    owned.drop_elevation(session(1)).unwrap();
+    assert_eq!(owned.into_bytes(), slice);
+}
+
+#[test]
+fn each_call_is_seen_in_the_state() {
+    let mut module = opened(&[0, 1]);
+    let seen = |m: &Module| -> Vec<Standing> { m.processes().map(|p| p.standing).collect() };
+    let user = |n, next_number| Standing::ActiveUser {
+        session: session(n),
+        next_number,
+    };
+
+    module.start(session(0), credential(0), &p()).unwrap();
+    assert_eq!(seen(&module), [user(0, 0)]);
+    module
+        .set_word(session(0), by(0, 0), credential(1), 0x8000_0014)
+        .unwrap();
+    assert_eq!(module.grants(credential(1)), Grants::of_word(0x8000_0014));
+    module.start(session(1), credential(1), &r()).unwrap();
+    module.record(session(1), by(1, 0), class(31)).unwrap();
+    assert_eq!(seen(&module), [user(0, 1), user(1, 1)]);
+
+    module.end(session(1), by(1, 1), true).unwrap();
+    let saved = Standing::SavedUser { next_number: 2 };
+    assert_eq!(seen(&module), [user(0, 1), saved]);
+    module
+        .continue_saved(session(0), credential(1), &r())
+        .unwrap();
+    assert_eq!(seen(&module), [user(0, 1), user(0, 2)]);
+    module.end(session(0), by(1, 2), false).unwrap();
+    assert_eq!(seen(&module), [user(0, 1)]);
+
+    module
+        .elevate(session(1), credential(1), &q(), true)
+        .unwrap();
+    let elevation = Standing::ActiveElevation {
+        session: session(1),
+    };
+    assert_eq!(seen(&module), [user(0, 1), elevation]);
+    module.drop_elevation(session(1)).unwrap();
+    module.close(session(0)).unwrap();
+    assert_eq!(seen(&module), []);
+    assert_eq!(module.phase(session(0)), Phase::Closed);
+    assert_eq!(module.phase(session(1)), Phase::Version1_0);
+}
