@@ -1,0 +1,253 @@
+//! Carries commands out on the module that the console holds.
+
+use crate::line::{quoted, visible, Call, Command, List, Records, What, Words, DOCUMENT_01};
+use crate::{draw, files, help};
+use slavotuk::entries::{self, RawClaim};
+use slavotuk::{Listing, Module, REQUEST_LENGTH, STATE_LENGTH};
+use std::io::{self, Write};
+
+/// Why a command was not carried out.
+pub enum Trouble {
+    /// The line asks for what can't be done. The state is as it was.
+    Line(String),
+    /// The answer could not be written.
+    Output(io::Error),
+}
+
+impl From<io::Error> for Trouble {
+    fn from(error: io::Error) -> Trouble {
+        Trouble::Output(error)
+    }
+}
+
+impl From<String> for Trouble {
+    fn from(wrong: String) -> Trouble {
+        Trouble::Line(wrong)
+    }
+}
+
+/// What follows a command that was carried out.
+pub enum Next {
+    Line,
+    End,
+}
+
+/// The module and the calls that it has answered.
+pub struct Console {
+    state: [u8; STATE_LENGTH],
+    history: History,
+}
+
+/// Where the state came from, and each call since then with its answer.
+struct History {
+    origin: String,
+    calls: Vec<(String, String)>,
+}
+
+impl History {
+    fn since(origin: &str) -> History {
+        History {
+            origin: visible(origin),
+            calls: Vec::new(),
+        }
+    }
+
+    fn add(&mut self, line: &str, answer: String) {
+        self.calls.push((visible(line), answer));
+    }
+
+    fn draw(&self, out: &mut impl Write) -> io::Result<()> {
+        writeln!(out, "since {}", self.origin)?;
+        for (at, (line, answer)) in self.calls.iter().enumerate() {
+            writeln!(out, "  {:4}  {line}: {answer}", at + 1)?;
+        }
+        Ok(())
+    }
+}
+
+impl Console {
+    /// A console with document 01's module.
+    pub fn new() -> Console {
+        let mut state = [0; STATE_LENGTH];
+        make_fresh(&mut state, DOCUMENT_01);
+        Console {
+            state,
+            history: History::since("the start, with fresh 0=15 1=16"),
+        }
+    }
+
+    /// Carries out a command and writes its answer. The line is what it was read from.
+    pub fn run(
+        &mut self,
+        command: Command,
+        line: &str,
+        out: &mut impl Write,
+    ) -> Result<Next, Trouble> {
+        match command {
+            Command::Fresh(words) => self.fresh(words, line, out)?,
+            Command::Call(call) => {
+                let number = called(&mut self.state, call);
+                self.answer(number, line, out)?;
+            }
+            Command::List(list) => self.list(list, line, out)?,
+            Command::Records(records) => self.records(records, line, out)?,
+            Command::Show { whole } => draw::module(&self.module(), whole, out)?,
+            Command::Request(wanted) => request(wanted, out)?,
+            Command::Read(message) => read(&message, out)?,
+            Command::Save(file) => {
+                files::save(&file, &self.state)?;
+                writeln!(out, "saved {STATE_LENGTH} bytes")?;
+            }
+            Command::Load(file) => {
+                self.state = files::load(&file)?;
+                writeln!(out, "loaded {STATE_LENGTH} bytes")?;
+                self.begin_history(line, out)?;
+            }
+            Command::History => self.history.draw(out)?,
+            Command::Help(None) => help::overview(out)?,
+            Command::Help(Some(name)) => match help::topic(&name) {
+                Some(topic) => help::details(topic, out)?,
+                None => return Err(Trouble::Line(format!("help: no command {}", quoted(&name)))),
+            },
+            Command::Quit => return Ok(Next::End),
+        }
+        Ok(Next::Line)
+    }
+
+    fn module(&self) -> Module {
+        Module::from_bytes(self.state).expect("only the module's calls have written the state")
+    }
+
+    fn begin_history(&mut self, line: &str, out: &mut impl Write) -> io::Result<()> {
+        self.history = History::since(line);
+        writeln!(out, "a new history begins")
+    }
+
+    fn fresh(&mut self, words: Words, line: &str, out: &mut impl Write) -> io::Result<()> {
+        writeln!(out, "{}", draw::answer(make_fresh(&mut self.state, words)))?;
+        self.begin_history(line, out)
+    }
+
+    fn answer(&mut self, number: u32, line: &str, out: &mut impl Write) -> io::Result<()> {
+        let answer = draw::answer(number);
+        writeln!(out, "{answer}")?;
+        self.history.add(line, answer);
+        Ok(())
+    }
+
+    fn list(&mut self, list: List, line: &str, out: &mut impl Write) -> io::Result<()> {
+        let List {
+            session,
+            claim,
+            wanted,
+            room,
+        } = list;
+        let mut response = vec![0; room];
+        let mut length = 0;
+        let state = &mut self.state;
+        let number = entries::list(state, session, claim, wanted, &mut response, &mut length);
+        self.answer(number, line, out)?;
+        if number != 0 {
+            return Ok(());
+        }
+        draw::dump(&response[..length], out)?;
+        decoded(&response[..length], out)
+    }
+
+    /// Sends the records until one is refused; the answer is the last one's.
+    fn records(&mut self, records: Records, line: &str, out: &mut impl Write) -> io::Result<()> {
+        let state = &mut self.state;
+        let refused = (records.from..=records.to)
+            .map(|number| (number, sent(state, &records, number)))
+            .find(|(_, answer)| *answer != 0);
+        let (last, number) = refused.unwrap_or((records.to, 0));
+        let before = u32::from(last - records.from);
+        let how_far = match refused {
+            Some(_) => format!("number {last} after {before} accepted records"),
+            None => format!("numbers {} to {last}, {} records", records.from, before + 1),
+        };
+        let answer = draw::answer(number);
+        writeln!(out, "{answer}\n{how_far}")?;
+        self.history.add(line, format!("{answer}, {how_far}"));
+        Ok(())
+    }
+}
+
+fn make_fresh(state: &mut [u8], words: Words) -> u32 {
+    let provisioned = words.map(|word| u8::from(word.is_some()));
+    entries::fresh(state, &provisioned, &words.map(Option::unwrap_or_default))
+}
+
+fn sent(state: &mut [u8], records: &Records, number: u16) -> u32 {
+    let claim = RawClaim {
+        kind: 0,
+        credential: records.credential,
+        number,
+        verdict: 1,
+    };
+    entries::record(state, records.session, claim, records.class)
+}
+
+/// Hands a call to the module as it is.
+fn called(state: &mut [u8], call: Call) -> u32 {
+    let session = call.session;
+    match call.what {
+        What::Open => entries::open(state, session),
+        What::Close => entries::close(state, session),
+        What::Drop => entries::drop(state, session),
+        What::Select { version } => entries::select(state, session, version),
+        What::Start { credential, name } => entries::start(state, session, credential, &name),
+        What::Continue { credential, name } => {
+            entries::continue_saved(state, session, credential, &name)
+        }
+        What::Elevate {
+            credential,
+            name,
+            verdict,
+        } => entries::elevate(state, session, credential, &name, verdict),
+        What::End {
+            credential,
+            number,
+            verdict,
+            keep,
+        } => entries::end(state, session, credential, number, verdict, keep),
+        What::Record { claim, class } => entries::record(state, session, claim, class),
+        What::Kill { claim, name } => entries::kill(state, session, claim, &name),
+        What::SetWord {
+            claim,
+            target,
+            word,
+        } => entries::set_word(state, session, claim, target, word),
+    }
+}
+
+fn request(wanted: u16, out: &mut impl Write) -> io::Result<()> {
+    let mut message = [0; REQUEST_LENGTH];
+    let number = entries::write_request(&mut message, wanted);
+    writeln!(out, "{}", draw::answer(number))?;
+    draw::dump(&message, out)?;
+    decoded(&message, out)
+}
+
+fn read(message: &[u8], out: &mut impl Write) -> io::Result<()> {
+    let requested = slavotuk::read_request(message).map(drop);
+    let number = match requested.or(Listing::read(message).map(drop)) {
+        Ok(()) => 0,
+        Err(refusal) => refusal.number(),
+    };
+    writeln!(out, "{}", draw::answer(number))?;
+    decoded(message, out)
+}
+
+/// Draws a message that one of the two readers takes, or says what it is not.
+fn decoded(message: &[u8], out: &mut impl Write) -> io::Result<()> {
+    if let Ok(wanted) = slavotuk::read_request(message) {
+        return draw::request(wanted, out);
+    }
+    match (Listing::read(message), message.first()) {
+        (Ok(listing), _) => draw::listing(&listing, out),
+        (_, Some(0x8e)) => writeln!(out, "code 8e, but no GET_AUTH_PROCESSES"),
+        (_, Some(0x0e)) => writeln!(out, "code 0e, but no AUTH_PROCESSES"),
+        _ => writeln!(out, "neither code 8e nor code 0e"),
+    }
+}

@@ -1,0 +1,269 @@
+//! Draws what the module holds, and the messages.
+
+use crate::bytes;
+use slavotuk::{
+    Class, Credential, Grants, Listing, Module, Process, Row, Session, WireCredential, NAME_LENGTH,
+    PLACES,
+};
+use std::fmt::Display;
+use std::io::{self, Write};
+
+/// A number and its name, as every call is answered.
+pub fn answer(number: u32) -> String {
+    match slavotuk::Refusal::try_from(number) {
+        Ok(refusal) => format!("{number} {refusal}"),
+        Err(_) => format!("{number} done"),
+    }
+}
+
+/// The sessions, the credentials and the process table.
+pub fn module(module: &Module, whole: bool, out: &mut impl Write) -> io::Result<()> {
+    writeln!(out, "sessions")?;
+    for session in Session::all() {
+        writeln!(out, "  {session}  {}", module.phase(session))?;
+    }
+    writeln!(out, "credentials")?;
+    let (provisioned, others): (Vec<Credential>, Vec<Credential>) =
+        Credential::all().partition(|credential| module.grants(*credential).is_provisioned());
+    for credential in provisioned {
+        writeln!(
+            out,
+            "  {credential}  {}",
+            granted(module.grants(credential))
+        )?;
+    }
+    if !others.is_empty() {
+        let others = ranges(others.into_iter().map(Credential::number));
+        writeln!(out, "  {others}  not provisioned")?;
+    }
+    let processes: Vec<Process> = module.processes().collect();
+    table(&processes, whole, out)
+}
+
+/// A provisioned credential's word and what it grants.
+fn granted(grants: Grants) -> String {
+    let own = grants.classes().filter_map(own_class);
+    let mut classes: Vec<String> = own.map(String::from).collect();
+    let device = ranges(
+        grants
+            .classes()
+            .filter(|class| class.is_device())
+            .map(Class::number),
+    );
+    if !device.is_empty() {
+        classes.push(format!("device {device}"));
+    }
+    if classes.is_empty() {
+        classes.push("no class".into());
+    }
+    format!("word 0x{:08x}  {}", grants.word(), classes.join(", "))
+}
+
+/// The module's own classes by what they grant.
+fn own_class(class: Class) -> Option<&'static str> {
+    match class {
+        Class::LIST_OTHERS => Some("0 list others"),
+        Class::KILL_OTHERS => Some("1 kill others"),
+        Class::SAVE_OWN => Some("2 save own"),
+        Class::SET_WORDS => Some("3 set words"),
+        _ => None,
+    }
+}
+
+/// Rising numbers, those that follow each other drawn together.
+fn ranges(numbers: impl Iterator<Item = u8>) -> String {
+    let mut ranges: Vec<(u8, u8)> = Vec::new();
+    for number in numbers {
+        match ranges.last_mut() {
+            Some((_, last)) if *last + 1 == number => *last = number,
+            _ => ranges.push((number, number)),
+        }
+    }
+    let drawn = |(first, last)| match last - first {
+        0 => format!("{first}"),
+        1 => format!("{first}, {last}"),
+        _ => format!("{first} to {last}"),
+    };
+    let drawn: Vec<String> = ranges.into_iter().map(drawn).collect();
+    drawn.join(", ")
+}
+
+fn table(processes: &[Process], whole: bool, out: &mut impl Write) -> io::Result<()> {
+    writeln!(out, "processes, {} of {PLACES}", processes.len())?;
+    if processes.is_empty() {
+        return Ok(());
+    }
+    let names: Vec<&[u8; NAME_LENGTH]> = processes.iter().map(|process| &process.name.0).collect();
+    let shown = if whole {
+        [true; NAME_LENGTH]
+    } else {
+        telling_bytes(&names)
+    };
+    let positions = ranges((0..48).filter(|at| shown[usize::from(*at)]));
+    writeln!(
+        out,
+        "  place  credential  type              session  next number  name, bytes {positions}"
+    )?;
+    for (place, process) in processes.iter().enumerate() {
+        let name = &process.name.0;
+        let written = if whole {
+            bytes::written(name)
+        } else {
+            shortened(name, &shown)
+        };
+        writeln!(
+            out,
+            "  {place:5}  {:10}  {:<16}  {:>7}  {:>11}  {written}{}",
+            process.credential.number(),
+            process.kind(),
+            or_dash(process.session()),
+            or_dash(process.next_number()),
+            letter(name),
+        )?;
+    }
+    Ok(())
+}
+
+fn or_dash(value: Option<impl Display>) -> String {
+    value.map_or("-".into(), |value| value.to_string())
+}
+
+/// Document 01's letter for a name, where it has one.
+fn letter(name: &[u8; NAME_LENGTH]) -> String {
+    bytes::letter_of(name).map_or(String::new(), |letter| format!("  {letter}"))
+}
+
+/// Which bytes are shown of each of these names, so that no two that differ look alike: the first in which they differ from each other, and two at either
+/// end. In sorted order two names first differ where some neighbours between them do, so it is enough to look at neighbours.
+fn telling_bytes(names: &[&[u8; NAME_LENGTH]]) -> [bool; NAME_LENGTH] {
+    let mut shown = [false; NAME_LENGTH];
+    for at in [0, 1, NAME_LENGTH - 2, NAME_LENGTH - 1] {
+        shown[at] = true;
+    }
+    let mut sorted = names.to_vec();
+    sorted.sort();
+    for pair in sorted.windows(2) {
+        if let Some(at) = (0..NAME_LENGTH).find(|&at| pair[0][at] != pair[1][at]) {
+            shown[at] = true;
+        }
+    }
+    fill_single_gaps(&mut shown);
+    shown
+}
+
+/// A byte takes no more place than the mark of its elision.
+fn fill_single_gaps(shown: &mut [bool; NAME_LENGTH]) {
+    for at in 1..NAME_LENGTH - 1 {
+        if shown[at - 1] && shown[at + 1] {
+            shown[at] = true;
+        }
+    }
+}
+
+/// The shown bytes of a name, `..` standing for the others.
+fn shortened(name: &[u8; NAME_LENGTH], shown: &[bool; NAME_LENGTH]) -> String {
+    let mut text = String::new();
+    for at in 0..NAME_LENGTH {
+        if shown[at] {
+            text.push_str(&format!("{:02x}", name[at]));
+        } else if shown[at - 1] {
+            text.push_str("..");
+        }
+    }
+    text
+}
+
+/// Bytes in lines of 16, each after its offset.
+pub fn dump(message: &[u8], out: &mut impl Write) -> io::Result<()> {
+    for (line, bytes) in message.chunks(16).enumerate() {
+        let digits: Vec<String> = bytes.iter().map(|byte| format!("{byte:02x}")).collect();
+        writeln!(out, "  {:4}  {}", 16 * line, digits.join(" "))?;
+    }
+    Ok(())
+}
+
+/// GET_AUTH_PROCESSES.
+pub fn request(wanted: WireCredential, out: &mut impl Write) -> io::Result<()> {
+    let all = if wanted.0 == 65535 { ", all" } else { "" };
+    writeln!(out, "GET_AUTH_PROCESSES, wanted {wanted}{all}")
+}
+
+/// AUTH_PROCESSES.
+pub fn listing(listing: &Listing, out: &mut impl Write) -> io::Result<()> {
+    let count = listing.rows().len();
+    let rows = if count == 1 { "row" } else { "rows" };
+    writeln!(out, "AUTH_PROCESSES, {count} {rows}")?;
+    for (
+        place,
+        Row {
+            credential,
+            kind,
+            name,
+        },
+    ) in listing.rows().enumerate()
+    {
+        let (number, written, letter) = (kind.number(), bytes::written(&name.0), letter(&name.0));
+        writeln!(
+            out,
+            "  row {place}: credential {credential}, type {number} {kind}, name {written}{letter}"
+        )?;
+    }
+    Ok(())
+}
+
+#[cfg(test)]
+mod tests {
+    use super::*;
+
+    fn shortened_all(names: &[[u8; NAME_LENGTH]]) -> Vec<String> {
+        let names: Vec<&[u8; NAME_LENGTH]> = names.iter().collect();
+        let shown = telling_bytes(&names);
+        names.iter().map(|name| shortened(name, &shown)).collect()
+    }
+
+    #[test]
+    fn names_that_differ_are_drawn_differently() {
+        // every name of zeros but for one or two other bytes, twelve at a time
+        let mut seed = 1u32;
+        let mut below = |bound: usize| {
+            seed = seed.wrapping_mul(1664525).wrapping_add(1013904223);
+            (seed >> 8) as usize % bound
+        };
+        for _ in 0..500 {
+            let mut names = std::collections::BTreeSet::new();
+            while names.len() < 12 {
+                let mut name = [0; NAME_LENGTH];
+                name[below(NAME_LENGTH)] = below(3) as u8;
+                name[below(NAME_LENGTH)] = below(3) as u8;
+                names.insert(name);
+            }
+            let names: Vec<_> = names.into_iter().collect();
+            let drawn: std::collections::BTreeSet<String> =
+                shortened_all(&names).into_iter().collect();
+            assert_eq!(drawn.len(), 12, "{drawn:?}");
+        }
+    }
+
+    #[test]
+    fn document_01s_names_are_short() {
+        let names = ["P", "Q", "R"].map(|letter| bytes::of_letter(letter).unwrap());
+        assert_eq!(
+            shortened_all(&names),
+            ["0000..11..1111", "0000..22..2222", "0000..11..1112"]
+        );
+        assert_eq!(shortened_all(&names[..1]), ["0000..1111"]);
+    }
+
+    #[test]
+    fn classes_that_follow_each_other_are_drawn_together() {
+        assert_eq!(
+            ranges([4, 6, 7, 9, 10, 11, 31].into_iter()),
+            "4, 6, 7, 9 to 11, 31"
+        );
+        assert_eq!(granted(Grants::of_word(0)), "word 0x00000000  no class");
+        assert_eq!(
+            granted(Grants::of_word(0xffff_fff9)),
+            "word 0xfffffff9  0 list others, 3 set words, device 4 to 31"
+        );
+    }
+}

@@ -1,0 +1,243 @@
+//! What `help` says.
+
+use std::io::{self, Write};
+
+/// A command, or a part of one that has an entry of its own.
+pub struct Topic {
+    /// The word that asks for it.
+    pub name: &'static str,
+    /// How a line is written.
+    pub form: &'static str,
+    /// What it does, in a few words.
+    pub short: &'static str,
+    /// What else there is to know of it, in lines.
+    pub more: &'static [&'static str],
+}
+
+/// The commands, in the order of their listing.
+pub const COMMANDS: [Topic; 22] = [
+    Topic {
+        name: "fresh",
+        form: "fresh [CREDENTIAL=WORD ..]",
+        short: "make a fresh module",
+        more: &[
+            "The named credentials are provisioned and have these grant words.",
+            "Without any it is document 01's module, 0=15 1=16; 'fresh none' provisions none.",
+            "A new history begins.",
+        ],
+    },
+    Topic {
+        name: "open",
+        form: "open S",
+        short: "open a session",
+        more: &[],
+    },
+    Topic {
+        name: "close",
+        form: "close S",
+        short: "close a session, and its active processes",
+        more: &[],
+    },
+    Topic {
+        name: "select",
+        form: "select S VERSION",
+        short: "choose a session's version",
+        more: &["Version 1.0 is 0x10."],
+    },
+    Topic {
+        name: "start",
+        form: "start S C NAME",
+        short: "start a user process",
+        more: &[],
+    },
+    Topic {
+        name: "continue",
+        form: "continue S C NAME",
+        short: "take a saved process up again",
+        more: &[],
+    },
+    Topic {
+        name: "elevate",
+        form: "elevate S C NAME yes|no",
+        short: "start a session's elevation",
+        more: &["The last word is the key unit's verdict."],
+    },
+    Topic {
+        name: "drop",
+        form: "drop S",
+        short: "remove a session's elevation",
+        more: &[],
+    },
+    Topic {
+        name: "end",
+        form: "end S C NUMBER yes|no keep|remove",
+        short: "end a user process",
+        more: &["C, NUMBER and the verdict are its claim. With keep it is saved."],
+    },
+    Topic {
+        name: "record",
+        form: "record S CLAIM.. CLASS",
+        short: "one record of a device operation",
+        more: &[
+            "For instance: record 0 user 1 0 yes 4",
+            "or:           record 0 elevated 4",
+        ],
+    },
+    Topic {
+        name: "records",
+        form: "records S C FROM TO CLASS",
+        short: "records with the numbers FROM to TO in turn",
+        more: &["Each carries a user claim with the verdict yes. It ends at the first refusal."],
+    },
+    Topic {
+        name: "list",
+        form: "list S CLAIM.. WANTED [ROOM]",
+        short: "list processes",
+        more: &[
+            "WANTED is a credential or 'all', which is 65535. ROOM is the length of the lent",
+            "buffer: 616 bytes, a full listing's, where it isn't given, and at most 65536.",
+            "For instance: list 0 user 0 1 yes all 54",
+        ],
+    },
+    Topic {
+        name: "kill",
+        form: "kill S CLAIM.. NAME",
+        short: "remove the process of that name",
+        more: &[],
+    },
+    Topic {
+        name: "set-word",
+        form: "set-word S CLAIM.. C WORD",
+        short: "set a credential's grant word",
+        more: &[],
+    },
+    Topic {
+        name: "show",
+        form: "show [names]",
+        short: "draw the sessions, credentials and processes",
+        more: &[
+            "Names are shortened to the bytes that tell them apart; '..' stands for those left",
+            "out, the same ones in each name. 'show names' has all 48 bytes of each.",
+        ],
+    },
+    Topic {
+        name: "request",
+        form: "request WANTED",
+        short: "GET_AUTH_PROCESSES as bytes and decoded",
+        more: &["WANTED is a number of 16 bits or 'all'."],
+    },
+    Topic {
+        name: "read",
+        form: "read HEX..",
+        short: "decode the bytes of a message",
+        more: &[
+            "AUTH_PROCESSES and GET_AUTH_PROCESSES are told apart by their codes. The bytes are",
+            "hexadecimal digits, with blanks between bytes or not; 00*16 repeats as in a name.",
+        ],
+    },
+    Topic {
+        name: "save",
+        form: "save FILE",
+        short: "write the 681 bytes of the state to a file",
+        more: &[
+            "A file name with blanks stands between quotation marks. An old file is replaced",
+            "at once when the new one is whole.",
+        ],
+    },
+    Topic {
+        name: "load",
+        form: "load FILE",
+        short: "take the state from a file",
+        more: &["A file that holds no state changes nothing. Else a new history begins."],
+    },
+    Topic {
+        name: "history",
+        form: "history",
+        short: "every call so far with its answer",
+        more: &["It begins anew with fresh and load. Bad lines are not in it."],
+    },
+    Topic {
+        name: "help",
+        form: "help [COMMAND]",
+        short: "this, or more of a command",
+        more: &[],
+    },
+    Topic {
+        name: "quit",
+        form: "quit",
+        short: "end; so does the end of the input",
+        more: &[],
+    },
+];
+
+/// The parts of commands.
+const PARTS: [Topic; 3] = [
+    Topic {
+        name: "number",
+        form: "decimal, or hexadecimal after 0x",
+        short: "of 32 bits; a claim's NUMBER has 16",
+        more: &[
+            "A wrong value (open 4) is handed to the module, which answers it. A flag (yes,",
+            "no, keep, remove) can be given as a number too.",
+        ],
+    },
+    Topic {
+        name: "claim",
+        form: "user C NUMBER yes|no, or elevated",
+        short: "what a protected call carries; yes|no is the key unit's verdict",
+        more: &["'kind K C NUMBER yes|no' hands in any kind: 0 is a user's, 1 elevated."],
+    },
+    Topic {
+        name: "name",
+        form: "P, Q or R, or HEX, or \"TEXT\"",
+        short: "48 bytes",
+        more: &[
+            "P, Q and R are document 01's. HEX is 96 digits, or parts joined by +, each of",
+            "them repeated where * and a count follow: 00*16+11*32 is P. TEXT is padded with",
+            "zero bytes. A name of another length is handed to the module, which answers it.",
+        ],
+    },
+];
+
+/// The command of this name.
+pub fn command(name: &str) -> Option<&'static Topic> {
+    COMMANDS.iter().find(|topic| topic.name == name)
+}
+
+/// The command or the part of a command with this name.
+pub fn topic(name: &str) -> Option<&'static Topic> {
+    COMMANDS
+        .iter()
+        .chain(&PARTS)
+        .find(|topic| topic.name == name)
+}
+
+/// Everything in short.
+pub fn overview(out: &mut impl Write) -> io::Result<()> {
+    writeln!(
+        out,
+        "A line is a call; the answer is document 01's number and its name."
+    )?;
+    for topic in &COMMANDS {
+        writeln!(out, "  {:<35}{}", topic.form, topic.short)?;
+    }
+    writeln!(out, "where S is a session, C a credential, and")?;
+    for topic in &PARTS {
+        writeln!(out, "  {:<35}{}", topic.name.to_uppercase(), topic.form)?;
+    }
+    writeln!(
+        out,
+        "'help COMMAND' says more, and so do 'help number', 'help claim' and 'help name'.\n\
+         Blank lines and lines that begin with # are skipped."
+    )
+}
+
+/// All of one topic.
+pub fn details(topic: &Topic, out: &mut impl Write) -> io::Result<()> {
+    writeln!(out, "{}", topic.form)?;
+    writeln!(out, "  {}", topic.short)?;
+    topic
+        .more
+        .iter()
+        .try_for_each(|line| writeln!(out, "  {line}"))
+}

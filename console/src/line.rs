@@ -1,0 +1,479 @@
+//! Reads a line into a command.
+
+use crate::bytes;
+use crate::help;
+use slavotuk::entries::RawClaim;
+use slavotuk::{Credential, FULL_LISTING_LENGTH, NAME_LENGTH};
+use std::path::PathBuf;
+
+/// The longest buffer that a listing is lent here.
+pub const LONGEST_ROOM: u32 = 65536;
+
+/// A fresh module's credentials: the word of each that is provisioned.
+pub type Words = [Option<u32>; Credential::COUNT];
+
+/// Document 01's module: credentials 0 (word 15) and 1 (word 16).
+pub const DOCUMENT_01: Words = [Some(15), Some(16), None, None, None, None, None, None];
+
+/// What a line asks for.
+#[derive(Debug, PartialEq)]
+pub enum Command {
+    Fresh(Words),
+    Call(Call),
+    List(List),
+    Records(Records),
+    Show { whole: bool },
+    Request(u16),
+    Read(Vec<u8>),
+    Save(PathBuf),
+    Load(PathBuf),
+    History,
+    Help(Option<String>),
+    Quit,
+}
+
+/// A call of the module, with numbers that may be wrong: it is for the module to answer them.
+#[derive(Debug, PartialEq)]
+pub struct Call {
+    pub session: u32,
+    pub what: What,
+}
+
+/// Which call it is, and what it is handed beside the session.
+#[derive(Debug, PartialEq)]
+pub enum What {
+    Open,
+    Close,
+    Drop,
+    Select {
+        version: u32,
+    },
+    Start {
+        credential: u32,
+        name: Vec<u8>,
+    },
+    Continue {
+        credential: u32,
+        name: Vec<u8>,
+    },
+    Elevate {
+        credential: u32,
+        name: Vec<u8>,
+        verdict: u32,
+    },
+    End {
+        credential: u32,
+        number: u16,
+        verdict: u32,
+        keep: u32,
+    },
+    Record {
+        claim: RawClaim,
+        class: u32,
+    },
+    Kill {
+        claim: RawClaim,
+        name: Vec<u8>,
+    },
+    SetWord {
+        claim: RawClaim,
+        target: u32,
+        word: u32,
+    },
+}
+
+/// The call that is lent a buffer.
+#[derive(Debug, PartialEq)]
+pub struct List {
+    pub session: u32,
+    pub claim: RawClaim,
+    pub wanted: u32,
+    pub room: usize,
+}
+
+/// A series of records under a user claim with the verdict yes.
+#[derive(Debug, PartialEq)]
+pub struct Records {
+    pub session: u32,
+    pub credential: u32,
+    pub from: u16,
+    pub to: u16,
+    pub class: u32,
+}
+
+/// Text for a message: control characters can't reach the terminal, and it is cut where it is long.
+pub fn quoted(text: &str) -> String {
+    const LONGEST: usize = 40;
+    let start: String = text.chars().take(LONGEST).collect();
+    let cut = if start.len() < text.len() { ".." } else { "" };
+    format!("'{}{cut}'", visible(&start))
+}
+
+/// The text with its control characters escaped.
+pub fn visible(text: &str) -> String {
+    let escape = |c: char| match c {
+        c if c.is_control() => c.escape_default().to_string(),
+        c => c.to_string(),
+    };
+    text.chars().map(escape).collect()
+}
+
+/// A line's command: `None` where it is blank or a comment, and what is wrong where it is bad.
+pub fn read(line: &str) -> Result<Option<Command>, String> {
+    let text = line.trim();
+    if text.is_empty() || text.starts_with('#') {
+        return Ok(None);
+    }
+    let (name, rest) = match text.split_once(char::is_whitespace) {
+        Some((name, rest)) => (name, rest),
+        None => (text, ""),
+    };
+    let Some(topic) = help::command(name) else {
+        return Err(format!("no command {}; 'help' has them all", quoted(name)));
+    };
+    let with_form = |wrong| format!("{name}: {wrong}; the form is: {}", topic.form);
+    let mut words = Reader::of(rest).map_err(with_form)?;
+    let command = command(name, &mut words).map_err(with_form)?;
+    words.end().map_err(with_form)?;
+    Ok(Some(command))
+}
+
+/// The command of this name, which is one of those that have a help topic.
+fn command(name: &str, words: &mut Reader) -> Result<Command, String> {
+    Ok(match name {
+        "fresh" => Command::Fresh(words.words()?),
+        "list" => Command::List(words.list()?),
+        "records" => Command::Records(words.records()?),
+        "show" => Command::Show {
+            whole: words.whole()?,
+        },
+        "request" => Command::Request(words.wanted16()?),
+        "read" => Command::Read(words.message()?),
+        "save" => Command::Save(words.file()?),
+        "load" => Command::Load(words.file()?),
+        "history" => Command::History,
+        "help" => Command::Help(words.rest.next().map(|word| word.text.into())),
+        "quit" => Command::Quit,
+        _ => Command::Call(call(name, words)?),
+    })
+}
+
+fn call(name: &str, words: &mut Reader) -> Result<Call, String> {
+    let session = words.number("session")?;
+    let what = match name {
+        "open" => What::Open,
+        "close" => What::Close,
+        "drop" => What::Drop,
+        "select" => What::Select {
+            version: words.number("version")?,
+        },
+        "start" => What::Start {
+            credential: words.number("credential")?,
+            name: words.name()?,
+        },
+        "continue" => What::Continue {
+            credential: words.number("credential")?,
+            name: words.name()?,
+        },
+        "elevate" => What::Elevate {
+            credential: words.number("credential")?,
+            name: words.name()?,
+            verdict: words.verdict()?,
+        },
+        "end" => What::End {
+            credential: words.number("credential")?,
+            number: words.number16("number")?,
+            verdict: words.verdict()?,
+            keep: words.flag("keep", "remove")?,
+        },
+        "record" => What::Record {
+            claim: words.claim()?,
+            class: words.number("class")?,
+        },
+        "kill" => What::Kill {
+            claim: words.claim()?,
+            name: words.name()?,
+        },
+        "set-word" => What::SetWord {
+            claim: words.claim()?,
+            target: words.number("credential")?,
+            word: words.number("word")?,
+        },
+        other => return Err(format!("{} is no call", quoted(other))),
+    };
+    Ok(Call { session, what })
+}
+
+/// A word of a line; one between quotation marks may have blanks in it.
+#[derive(Clone, Copy)]
+struct Word<'a> {
+    text: &'a str,
+    is_quoted: bool,
+}
+
+/// The words of a line, taken one after another.
+struct Reader<'a> {
+    rest: std::vec::IntoIter<Word<'a>>,
+}
+
+/// The words of a text.
+fn split(text: &str) -> Result<Vec<Word<'_>>, String> {
+    let mut words = Vec::new();
+    let mut rest = text.trim_start();
+    while !rest.is_empty() {
+        let (word, after) = first_word(rest)?;
+        words.push(word);
+        rest = after.trim_start();
+    }
+    Ok(words)
+}
+
+fn first_word(text: &str) -> Result<(Word<'_>, &str), String> {
+    if let Some(inside) = text.strip_prefix('"') {
+        let (text, after) = inside
+            .split_once('"')
+            .ok_or("a quotation mark is not closed")?;
+        if after.starts_with(|c: char| !c.is_whitespace()) {
+            return Err("a blank has to follow a closing quotation mark".into());
+        }
+        return Ok((
+            Word {
+                text,
+                is_quoted: true,
+            },
+            after,
+        ));
+    }
+    let end = text.find(char::is_whitespace).unwrap_or(text.len());
+    let (text, after) = text.split_at(end);
+    Ok((
+        Word {
+            text,
+            is_quoted: false,
+        },
+        after,
+    ))
+}
+
+/// A number of 32 bits, decimal or hexadecimal after 0x.
+fn number_of(text: &str) -> Result<u32, String> {
+    let (digits, radix) = match text.strip_prefix("0x") {
+        Some(digits) => (digits, 16),
+        None => (text, 10),
+    };
+    if digits.is_empty() || !digits.chars().all(|c| c.is_digit(radix)) {
+        return Err(format!("{} is no number", quoted(text)));
+    }
+    u32::from_str_radix(digits, radix).map_err(|_| format!("{} is over 32 bits", quoted(text)))
+}
+
+fn narrow(number: u32) -> Result<u16, String> {
+    u16::try_from(number).map_err(|_| format!("{number} is over 16 bits"))
+}
+
+/// Says of which part of the line something is wrong.
+fn of(part: &str) -> impl Fn(String) -> String + '_ {
+    move |wrong| format!("{part}: {wrong}")
+}
+
+impl<'a> Reader<'a> {
+    fn of(text: &'a str) -> Result<Reader<'a>, String> {
+        Ok(Reader {
+            rest: split(text)?.into_iter(),
+        })
+    }
+
+    fn next(&mut self, part: &str) -> Result<Word<'a>, String> {
+        self.rest.next().ok_or_else(|| format!("{part} is missing"))
+    }
+
+    /// The next word, which stands without quotation marks.
+    fn plain(&mut self, part: &str) -> Result<&'a str, String> {
+        let word = self.next(part)?;
+        if word.is_quoted {
+            return Err(format!("{part} stands without quotation marks"));
+        }
+        Ok(word.text)
+    }
+
+    fn end(&mut self) -> Result<(), String> {
+        match self.rest.next() {
+            Some(word) => Err(format!("{} is too much", quoted(word.text))),
+            None => Ok(()),
+        }
+    }
+
+    fn number(&mut self, part: &str) -> Result<u32, String> {
+        number_of(self.plain(part)?).map_err(of(part))
+    }
+
+    fn number16(&mut self, part: &str) -> Result<u16, String> {
+        narrow(self.number(part)?).map_err(of(part))
+    }
+
+    /// One of two words, or a number as it is: the module answers flags that are neither 0 nor 1.
+    fn flag(&mut self, one: &str, zero: &str) -> Result<u32, String> {
+        let part = format!("{one} or {zero}");
+        let text = self.plain(&part)?;
+        if text == one {
+            return Ok(1);
+        }
+        if text == zero {
+            return Ok(0);
+        }
+        number_of(text).map_err(|_| format!("{} is neither {one} nor {zero}", quoted(text)))
+    }
+
+    fn verdict(&mut self) -> Result<u32, String> {
+        self.flag("yes", "no")
+    }
+
+    fn claim(&mut self) -> Result<RawClaim, String> {
+        let kind = match self.plain("claim")? {
+            "elevated" => {
+                return Ok(RawClaim {
+                    kind: 1,
+                    credential: 0,
+                    number: 0,
+                    verdict: 0,
+                })
+            }
+            "user" => 0,
+            "kind" => self.number("kind")?,
+            other => {
+                return Err(format!(
+                    "claim: {} is neither user nor elevated",
+                    quoted(other)
+                ))
+            }
+        };
+        Ok(RawClaim {
+            kind,
+            credential: self.number("credential")?,
+            number: self.number16("number")?,
+            verdict: self.verdict()?,
+        })
+    }
+
+    fn wanted(&mut self) -> Result<u32, String> {
+        match self.plain("wanted")? {
+            "all" => Ok(65535),
+            text => number_of(text).map_err(of("wanted")),
+        }
+    }
+
+    fn wanted16(&mut self) -> Result<u16, String> {
+        narrow(self.wanted()?).map_err(of("wanted"))
+    }
+
+    fn room(&mut self) -> Result<usize, String> {
+        if self.rest.len() == 0 {
+            return Ok(FULL_LISTING_LENGTH);
+        }
+        let room = self.number("room")?;
+        if room > LONGEST_ROOM {
+            return Err(format!(
+                "room: at most {LONGEST_ROOM} bytes can be lent here"
+            ));
+        }
+        Ok(room as usize)
+    }
+
+    /// A name in one of its forms. Its length is for the module to judge, but for text, which is padded to a name's.
+    fn name(&mut self) -> Result<Vec<u8>, String> {
+        let word = self.next("name")?;
+        if word.is_quoted {
+            let mut name = word.text.as_bytes().to_vec();
+            name.resize(name.len().max(NAME_LENGTH), 0);
+            return Ok(name);
+        }
+        if let Some(name) = bytes::of_letter(word.text) {
+            return Ok(name.to_vec());
+        }
+        bytes::read(word.text).map_err(|wrong| format!("name: {}: {wrong}", quoted(word.text)))
+    }
+
+    fn message(&mut self) -> Result<Vec<u8>, String> {
+        let mut message = self.bytes()?;
+        while self.rest.len() > 0 {
+            message.extend(self.bytes()?);
+        }
+        Ok(message)
+    }
+
+    fn bytes(&mut self) -> Result<Vec<u8>, String> {
+        let text = self.plain("message")?;
+        bytes::read(text).map_err(|wrong| format!("{}: {wrong}", quoted(text)))
+    }
+
+    fn file(&mut self) -> Result<PathBuf, String> {
+        Ok(self.next("file")?.text.into())
+    }
+
+    fn whole(&mut self) -> Result<bool, String> {
+        if self.rest.len() == 0 {
+            return Ok(false);
+        }
+        match self.plain("names")? {
+            "names" => Ok(true),
+            other => Err(format!("{} is not names", quoted(other))),
+        }
+    }
+
+    fn list(&mut self) -> Result<List, String> {
+        Ok(List {
+            session: self.number("session")?,
+            claim: self.claim()?,
+            wanted: self.wanted()?,
+            room: self.room()?,
+        })
+    }
+
+    fn records(&mut self) -> Result<Records, String> {
+        let records = Records {
+            session: self.number("session")?,
+            credential: self.number("credential")?,
+            from: self.number16("from")?,
+            to: self.number16("to")?,
+            class: self.number("class")?,
+        };
+        if records.from > records.to {
+            return Err(format!("{} comes after {}", records.from, records.to));
+        }
+        Ok(records)
+    }
+
+    /// The pairs of a fresh module.
+    fn words(&mut self) -> Result<Words, String> {
+        if self.rest.len() == 0 {
+            return Ok(DOCUMENT_01);
+        }
+        let mut words = Words::default();
+        if self.rest.as_slice()[0].text == "none" {
+            self.plain("none")?;
+            return Ok(words);
+        }
+        while self.rest.len() > 0 {
+            let (credential, word) = pair(self.plain("pair")?)?;
+            if words[credential].replace(word).is_some() {
+                return Err(format!("credential {credential} is given twice"));
+            }
+        }
+        Ok(words)
+    }
+}
+
+/// A credential and its word. A fresh module is made of eight pairs, so there is no way to hand in a ninth.
+fn pair(text: &str) -> Result<(usize, u32), String> {
+    let (credential, word) = text
+        .split_once('=')
+        .ok_or_else(|| format!("{} is no CREDENTIAL=WORD", quoted(text)))?;
+    let credential = number_of(credential).map_err(of("credential"))?;
+    let word = number_of(word).map_err(of("word"))?;
+    match Credential::try_from(credential) {
+        Ok(credential) => Ok((credential.number().into(), word)),
+        Err(_) => Err(format!(
+            "credential {credential}: a module has credentials 0 to 7"
+        )),
+    }
+}
