@@ -21,8 +21,8 @@ pub const COMMANDS: [Topic; 22] = [
         form: "fresh [CREDENTIAL=WORD ..]",
         short: "make a fresh module",
         more: &[
-            "The named credentials are provisioned and have these grant words.",
-            "Without any it is document 01's module, 0=15 1=16; 'fresh none' provisions none.",
+            "The named credentials are provisioned and have these grant words. Without any",
+            "it is document 01's module, 0=15 1=16; 'fresh none' provisions none.",
             "A new history begins.",
         ],
     },
@@ -30,49 +30,58 @@ pub const COMMANDS: [Topic; 22] = [
         name: "open",
         form: "open S",
         short: "open a session",
-        more: &[],
+        more: &["Refused with, in this order: 1, 2."],
     },
     Topic {
         name: "close",
         form: "close S",
         short: "close a session, and its active processes",
-        more: &[],
+        more: &["Refused with, in this order: 1, 2."],
     },
     Topic {
         name: "select",
         form: "select S VERSION",
         short: "choose a session's version",
-        more: &["Version 1.0 is 0x10."],
+        more: &[
+            "Version 1.0 is 0x10.",
+            "Refused with, in this order: 1, 2, 4.",
+        ],
     },
     Topic {
         name: "start",
         form: "start S C NAME",
         short: "start a user process",
-        more: &[],
+        more: &["Refused with, in this order: 1, 2, 3, 5, 7, 12, 11."],
     },
     Topic {
         name: "continue",
         form: "continue S C NAME",
         short: "take a saved process up again",
-        more: &[],
+        more: &["Refused with, in this order: 1, 2, 3, 5, 6, 7."],
     },
     Topic {
         name: "elevate",
         form: "elevate S C NAME yes|no",
         short: "start a session's elevation",
-        more: &["The last word is the key unit's verdict."],
+        more: &[
+            "The last word is the key unit's verdict.",
+            "Refused with, in this order: 1, 2, 3, 5, 8, 7, 12, 11.",
+        ],
     },
     Topic {
         name: "drop",
         form: "drop S",
         short: "remove a session's elevation",
-        more: &[],
+        more: &["Refused with, in this order: 1, 2, 3, 6."],
     },
     Topic {
         name: "end",
         form: "end S C NUMBER yes|no keep|remove",
         short: "end a user process",
-        more: &["C, NUMBER and the verdict are its claim. With keep it is saved."],
+        more: &[
+            "C, NUMBER and the verdict are its claim. With keep it is saved.",
+            "Refused with, in this order: 1, 2, 3, the claim's, 10.",
+        ],
     },
     Topic {
         name: "record",
@@ -81,6 +90,7 @@ pub const COMMANDS: [Topic; 22] = [
         more: &[
             "For instance: record 0 user 1 0 yes 4",
             "or:           record 0 elevated 4",
+            "Refused with, in this order: 1, 2, 3, the claim's, 10.",
         ],
     },
     Topic {
@@ -94,30 +104,31 @@ pub const COMMANDS: [Topic; 22] = [
         form: "list S CLAIM.. WANTED [ROOM]",
         short: "list processes",
         more: &[
-            "WANTED is a credential or 'all', which is 65535. ROOM is the length of the lent",
-            "buffer: 616 bytes, a full listing's, where it isn't given, and at most 65536.",
+            "WANTED is a credential or 'all', which is 65535. ROOM is the lent buffer's",
+            "length: 616 bytes, a full listing's, where it isn't given, and at most 65536.",
             "For instance: list 0 user 0 1 yes all 54",
+            "Refused with, in this order: 1, 2, 3, the claim's, 10, 15.",
         ],
     },
     Topic {
         name: "kill",
         form: "kill S CLAIM.. NAME",
         short: "remove the process of that name",
-        more: &[],
+        more: &["Refused with, in this order: 1, 2, 3, the claim's, 6."],
     },
     Topic {
         name: "set-word",
         form: "set-word S CLAIM.. C WORD",
         short: "set a credential's grant word",
-        more: &[],
+        more: &["Refused with, in this order: 1, 2, 3, the claim's, 10, 5."],
     },
     Topic {
         name: "show",
         form: "show [names]",
-        short: "draw the sessions, credentials and processes",
+        short: "draw sessions, credentials and processes",
         more: &[
-            "Names are shortened to the bytes that tell them apart; '..' stands for those left",
-            "out, the same ones in each name. 'show names' has all 48 bytes of each.",
+            "Names are shortened to the bytes that tell them apart; '..' stands for those",
+            "left out, the same ones in each name. 'show names' has all 48 bytes of each.",
         ],
     },
     Topic {
@@ -131,8 +142,8 @@ pub const COMMANDS: [Topic; 22] = [
         form: "read HEX..",
         short: "decode the bytes of a message",
         more: &[
-            "AUTH_PROCESSES and GET_AUTH_PROCESSES are told apart by their codes. The bytes are",
-            "hexadecimal digits, with blanks between bytes or not; 00*16 repeats as in a name.",
+            "AUTH_PROCESSES and GET_AUTH_PROCESSES are told apart by their codes. HEX is",
+            "bytes in a name's forms, with blanks between them or not.",
         ],
     },
     Topic {
@@ -140,8 +151,8 @@ pub const COMMANDS: [Topic; 22] = [
         form: "save FILE",
         short: "write the 681 bytes of the state to a file",
         more: &[
-            "A file name with blanks stands between quotation marks. An old file is replaced",
-            "at once when the new one is whole.",
+            "A file name with blanks stands between quotation marks. An old file is",
+            "replaced at once when the new one is whole.",
         ],
     },
     Topic {
@@ -177,15 +188,18 @@ const PARTS: [Topic; 3] = [
         form: "decimal, or hexadecimal after 0x",
         short: "of 32 bits; a claim's NUMBER has 16",
         more: &[
-            "A wrong value (open 4) is handed to the module, which answers it. A flag (yes,",
-            "no, keep, remove) can be given as a number too.",
+            "A wrong value (open 4) is the module's to answer. A flag (yes, no, keep,",
+            "remove) can be given as a number too.",
         ],
     },
     Topic {
         name: "claim",
         form: "user C NUMBER yes|no, or elevated",
         short: "what a protected call carries; yes|no is the key unit's verdict",
-        more: &["'kind K C NUMBER yes|no' hands in any kind: 0 is a user's, 1 elevated."],
+        more: &[
+            "'kind K C NUMBER yes|no' hands in any kind: 0 is a user's, 1 elevated.",
+            "Refused with, in this order: an elevated one, 6; a user's, 5, 6, 13, 9, 8.",
+        ],
     },
     Topic {
         name: "name",
@@ -193,8 +207,8 @@ const PARTS: [Topic; 3] = [
         short: "48 bytes",
         more: &[
             "P, Q and R are document 01's. HEX is 96 digits, or parts joined by +, each of",
-            "them repeated where * and a count follow: 00*16+11*32 is P. TEXT is padded with",
-            "zero bytes. A name of another length is handed to the module, which answers it.",
+            "them repeated where * and a count follow: 00*16+11*32 is P. TEXT is padded",
+            "with zero bytes. A name of another length is the module's to answer.",
         ],
     },
 ];

@@ -180,3 +180,41 @@ impl<W: Write> Talk<W> {
         }
     }
 }
+
+#[cfg(test)]
+mod tests {
+    use super::*;
+
+    fn talked(at_terminal: bool, input: &[u8]) -> (String, bool) {
+        let mut talk = Talk {
+            at_terminal,
+            out: Vec::new(),
+            console: Console::new(),
+            line: 0,
+            all_good: true,
+        };
+        talk.go_through(input).unwrap();
+        (String::from_utf8(talk.out).unwrap(), talk.all_good)
+    }
+
+    #[test]
+    fn a_person_is_greeted_and_prompted() {
+        let (out, all_good) = talked(true, b"open 0\n\nopen 0\n");
+        let after = out.split_once('\n').unwrap().1;
+        assert!(out.starts_with("Slavotuk"));
+        assert_eq!(
+            after,
+            "slavotuk> 0 done\nslavotuk> slavotuk> 2 session\nslavotuk> \n"
+        );
+        assert!(all_good);
+    }
+
+    #[test]
+    fn a_script_gets_answers_alone() {
+        assert_eq!(
+            talked(false, b"open 0\nopen 0\n"),
+            ("0 done\n2 session\n".into(), true)
+        );
+        assert_eq!(talked(false, b"quit\nopen 0\n"), (String::new(), true));
+    }
+}

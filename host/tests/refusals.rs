@@ -175,7 +175,7 @@ fn spent() {
     for number in 0..65535 {
         module.record(s, by(1, number), class(4)).unwrap();
     }
-    for number in [0, 65534, 65535] {
+    for number in 0..=65535 {
         refused(&mut module, 13, |m| m.record(s, by(1, number), class(4)));
     }
     refused(&mut module, 13, |m| m.end(s, by(1, 65535), false));

@@ -1,0 +1,83 @@
+//! Runs the built console on a script.
+#![allow(dead_code)]
+
+use std::io::Write;
+use std::path::PathBuf;
+use std::process::{Child, Command, Stdio};
+
+/// What a run has written, and its exit code.
+pub struct Run {
+    pub out: String,
+    pub err: String,
+    pub code: Option<i32>,
+}
+
+pub fn console() -> Command {
+    Command::new(env!("CARGO_BIN_EXE_slavotuk-console"))
+}
+
+pub fn spawn(command: &mut Command) -> Child {
+    let piped = command.stdin(Stdio::piped()).stdout(Stdio::piped());
+    piped.stderr(Stdio::piped()).spawn().unwrap()
+}
+
+/// Hands the script in from a thread of its own, so that a long answer can be read meanwhile.
+pub fn run(script: impl AsRef<[u8]>) -> Run {
+    let script = script.as_ref().to_vec();
+    let mut child = spawn(&mut console());
+    let mut input = child.stdin.take().unwrap();
+    let writer = std::thread::spawn(move || {
+        // the console may have quit before the script's end
+        let _ = input.write_all(&script);
+    });
+    let output = child.wait_with_output().unwrap();
+    writer.join().unwrap();
+    Run {
+        out: String::from_utf8(output.stdout).unwrap(),
+        err: String::from_utf8(output.stderr).unwrap(),
+        code: output.status.code(),
+    }
+}
+
+/// A run whose lines are all good.
+#[track_caller]
+pub fn good(script: impl AsRef<[u8]>) -> String {
+    let run = run(script);
+    assert_eq!(run.err, "");
+    assert_eq!(run.code, Some(0));
+    run.out
+}
+
+/// The answers' lines, those that begin with a number and its name.
+pub fn answers(script: &str) -> Vec<String> {
+    good(script).lines().map(String::from).collect()
+}
+
+/// An empty folder for one test, removed at its end.
+pub struct Folder(pub PathBuf);
+
+impl Folder {
+    pub fn new(test: &str) -> Folder {
+        let name = format!("slavotuk-console-{}-{test}", std::process::id());
+        let path = std::env::temp_dir().join(name);
+        std::fs::create_dir(&path).unwrap();
+        Folder(path)
+    }
+
+    pub fn file(&self, name: &str) -> String {
+        self.0.join(name).to_str().unwrap().into()
+    }
+
+    /// The names in the folder.
+    pub fn names(&self) -> Vec<String> {
+        let entries = std::fs::read_dir(&self.0).unwrap();
+        let name = |entry: std::fs::DirEntry| entry.file_name().into_string().unwrap();
+        entries.map(|entry| name(entry.unwrap())).collect()
+    }
+}
+
+impl Drop for Folder {
+    fn drop(&mut self) {
+        let _ = std::fs::remove_dir_all(&self.0);
+    }
+}

@@ -1,0 +1,197 @@
+//! Document 01's thirteen steps, and what else a call can be handed.
+
+mod common;
+
+use common::*;
+
+#[test]
+fn worked_steps_are_answered_as_document_01_says() {
+    let folder = concat!(env!("CARGO_MANIFEST_DIR"), "/../examples/");
+    let script = std::fs::read(format!("{folder}worked-steps.txt")).unwrap();
+    let expected = std::fs::read_to_string(format!("{folder}worked-steps.out")).unwrap();
+    let out = good(script);
+    for (at, (line, wanted)) in out.lines().zip(expected.lines()).enumerate() {
+        assert_eq!(line, wanted, "line {}", at + 1);
+    }
+    assert_eq!(out, expected);
+}
+
+/// The numbers that document 01 states in its steps, apart from the file of expected output.
+const STATED: [&[u32]; 11] = [
+    &[1, 0, 2],
+    &[3, 4, 0, 0],
+    &[5, 0, 12],
+    &[0, 7],
+    &[0, 9],
+    &[8, 10, 0],
+    &[1, 10],
+    &[6, 6],
+    &[0, 6],
+    &[15, 0],
+    &[0, 0, 0, 6, 0],
+];
+
+#[test]
+fn worked_steps_have_the_stated_numbers() {
+    let folder = concat!(env!("CARGO_MANIFEST_DIR"), "/../examples/");
+    let expected = std::fs::read_to_string(format!("{folder}worked-steps.out")).unwrap();
+    let history = expected.split_once("since the start").unwrap().1;
+    let number = |line: &str| -> u32 {
+        let answer = line.rsplit_once(": ").unwrap().1;
+        answer.split(' ').next().unwrap().parse().unwrap()
+    };
+    let numbers: Vec<u32> = history.lines().skip(1).map(number).collect();
+    let stated = STATED.concat();
+    assert_eq!(numbers[..stated.len()], stated);
+    // step 12: 4 calls for sessions 2 and 3, 12 for the processes, then 11, 0, 0; step 13
+    let rest = &numbers[stated.len()..];
+    assert_eq!(rest[..16], [0; 16]);
+    assert_eq!(rest[16..], [11, 0, 0, 0, 0, 13, 13, 13]);
+}
+
+#[test]
+fn wrong_values_are_the_modules_to_answer() {
+    let setup = "open 0\nselect 0 0x10\nstart 0 1 P\n";
+    let wrong = [
+        "open 4",
+        "open 0xffffffff",
+        "close 0x80000000",
+        "drop 256",
+        "select 4 0x10",
+        "start 0 8 Q",
+        "start 0 65536 Q",
+        "start 0 0x80000000 Q",
+        "start 0 0 00*47",
+        "start 0 0 00*49",
+        "start 0 0 \"forty-nine bytes of text, which is one byte too many\"",
+        "continue 0 0 00",
+        "elevate 0 0 Q 2",
+        "elevate 7 0 Q yes",
+        "end 0 1 0 2 remove",
+        "end 0 1 0 yes 2",
+        "record 0 user 1 0 yes 3",
+        "record 0 user 1 0 yes 32",
+        "record 0 user 8 0 yes 4",
+        "record 0 user 1 0 2 4",
+        "record 0 kind 2 1 0 yes 4",
+        "list 0 user 1 0 yes 8",
+        "list 0 user 1 0 yes 65534",
+        "list 0 user 1 0 yes 65536",
+        "kill 0 user 1 0 yes 00*47",
+        "set-word 0 user 1 0 yes 8 1",
+    ];
+    for line in wrong {
+        let lines = answers(&format!("{setup}{line}\n"));
+        assert_eq!(lines[3..], ["1 argument"], "{line}");
+    }
+}
+
+#[test]
+fn an_elevated_claims_other_values_are_ignored() {
+    let script = "open 0\nselect 0 0x10\nelevate 0 1 P yes\nrecord 0 elevated 4\nrecord 0 kind 1 0xffffffff 65535 7 4\nrecord 0 elevated 5\n";
+    assert_eq!(answers(script)[3..], ["0 done", "0 done", "10 not granted"]);
+}
+
+#[test]
+fn names_have_several_forms() {
+    let p = format!("{}{}", "00".repeat(16), "11".repeat(32));
+    let script = format!("open 0\nselect 0 0x10\nstart 0 0 P\nstart 0 1 {p}\nstart 0 1 00*16+11*31+11\nstart 0 1 00*16+11*31+12\nstart 0 1 R\n");
+    let taken = "12 name taken";
+    assert_eq!(
+        answers(&script)[3..],
+        [taken, taken, "0 done", "7 already active"]
+    );
+
+    let text =
+        "open 0\nselect 0 0x10\nstart 0 0 \"a b\"\nstart 0 1 612062+00*45\nstart 0 1 \"a b \"\n";
+    assert_eq!(answers(text)[3..], [taken, "0 done"]);
+}
+
+#[test]
+fn calls_reach_the_call_they_name() {
+    let script = "open 0\nselect 0 16\nstart 0 0 P\nelevate 0 1 Q no\nelevate 0 1 Q yes\nset-word 0 user 0 0 yes 1 0x80000000\n\
+                  record 0 elevated 31\ndrop 0\ndrop 0\nend 0 0 1 yes keep\ncontinue 0 0 P\nend 0 0 2 yes remove\ncontinue 0 0 P\nclose 0\nclose 0\n";
+    let numbers = [0, 0, 0, 8, 0, 0, 0, 0, 6, 0, 0, 0, 6, 0, 2];
+    let lines = answers(script);
+    assert_eq!(lines.len(), numbers.len());
+    for (line, number) in lines.iter().zip(numbers) {
+        assert!(line.starts_with(&format!("{number} ")), "{lines:?}");
+    }
+}
+
+#[test]
+fn series_of_records_end_at_the_first_refusal() {
+    let setup = "open 0\nselect 0 0x10\nstart 0 1 P\n";
+    let script = format!("{setup}records 0 1 0 9 4\nrecords 0 1 9 12 4\nrecords 0 1 10 10 5\nrecords 0 1 10 65535 4\nhistory\n");
+    let lines = answers(&script);
+    let expected = [
+        "0 done",
+        "numbers 0 to 9, 10 records",
+        "9 out of turn",
+        "number 9 after 0 accepted records",
+        "10 not granted",
+        "number 10 after 0 accepted records",
+        "13 spent",
+        "number 65535 after 65525 accepted records",
+    ];
+    assert_eq!(lines[3..11], expected);
+    assert_eq!(
+        lines[15],
+        "     4  records 0 1 0 9 4: 0 done, numbers 0 to 9, 10 records"
+    );
+}
+
+#[test]
+fn a_list_is_drawn_as_bytes_and_decoded() {
+    let script = "open 0\nselect 0 0x10\nstart 0 0 \"ab\"\nelevate 0 1 R yes\nlist 0 user 0 0 yes 1\nlist 0 user 0 1 yes 2\n";
+    let drawn = "\
+0 done
+     0  0e 00 01 00 01 00 01 00 00 00 00 00 00 00 00 00
+    16  00 00 00 00 00 00 00 11 11 11 11 11 11 11 11 11
+    32  11 11 11 11 11 11 11 11 11 11 11 11 11 11 11 11
+    48  11 11 11 11 11 11 12
+AUTH_PROCESSES, 1 row
+  row 0: credential 1, type 1 active elevation, name 00*16+11*31+12  R
+0 done
+     0  0e 00 00 00
+AUTH_PROCESSES, 0 rows";
+    assert_eq!(answers(script)[4..].join("\n"), drawn);
+}
+
+#[test]
+fn messages_are_read() {
+    let script = "request all\nrequest 258\nread 8e7f0102\nread 8e00010200\nread 0e00 0200 ffff 02 6162+00*46 0700 00 01*48\n\
+                  read 0e00 0100 0000 03 00*48\nread 0e000100\nread 00*0\nread 0f000000\n";
+    let drawn = "\
+0 done
+     0  8e 00 ff ff
+GET_AUTH_PROCESSES, wanted 65535, all
+0 done
+     0  8e 00 02 01
+GET_AUTH_PROCESSES, wanted 258
+0 done
+GET_AUTH_PROCESSES, wanted 513
+14 message
+code 8e, but no GET_AUTH_PROCESSES
+0 done
+AUTH_PROCESSES, 2 rows
+  row 0: credential 65535, type 2 saved user, name 6162+00*46
+  row 1: credential 7, type 0 active user, name 01*48
+14 message
+code 0e, but no AUTH_PROCESSES
+14 message
+code 0e, but no AUTH_PROCESSES
+14 message
+neither code 8e nor code 0e
+14 message
+neither code 8e nor code 0e
+";
+    assert_eq!(good(script), drawn);
+}
+
+#[test]
+fn the_largest_message_is_read() {
+    let out = good("read 0e00ffff 00*3342285\n");
+    assert_eq!(out.lines().nth(1), Some("AUTH_PROCESSES, 65535 rows"));
+    assert_eq!(out.lines().count(), 2 + 65535);
+}
