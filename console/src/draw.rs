@@ -230,16 +230,18 @@ mod tests {
             (seed >> 8) as usize % bound
         };
         for _ in 0..500 {
-            let mut names = std::collections::BTreeSet::new();
+            let mut names = Vec::new();
             while names.len() < 12 {
                 let mut name = [0; NAME_LENGTH];
                 name[below(NAME_LENGTH)] = below(3) as u8;
                 name[below(NAME_LENGTH)] = below(3) as u8;
-                names.insert(name);
+                if !names.contains(&name) {
+                    names.push(name);
+                }
             }
-            let names: Vec<_> = names.into_iter().collect();
-            let drawn: std::collections::BTreeSet<String> =
-                shortened_all(&names).into_iter().collect();
+            let mut drawn = shortened_all(&names);
+            drawn.sort();
+            drawn.dedup();
             assert_eq!(drawn.len(), 12, "{drawn:?}");
         }
     }

@@ -109,11 +109,11 @@ pub fn quoted(text: &str) -> String {
     format!("'{}{cut}'", visible(&start))
 }
 
-/// The text with its control characters escaped.
+/// The text with its control characters, and others that can't be seen, escaped.
 pub fn visible(text: &str) -> String {
     let escape = |c: char| match c {
-        c if c.is_control() => c.escape_default().to_string(),
-        c => c.to_string(),
+        '"' | '\'' | '\\' => c.to_string(),
+        c => c.escape_debug().to_string(),
     };
     text.chars().map(escape).collect()
 }

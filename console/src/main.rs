@@ -17,6 +17,9 @@ use std::process::ExitCode;
 /// The longest line that is read: the longest message there is fits into it, with a blank after each byte.
 const LONGEST_LINE: usize = 16 * 1024 * 1024;
 
+const GREETING: &str =
+    "Slavotuk: a fresh module, credentials 0 (word 15) and 1 (word 16); try help.";
+
 const USAGE: &str = "\
 usage: slavotuk-console [--help]
 
@@ -144,7 +147,7 @@ impl<W: Write> Talk<W> {
 
     fn greet(&mut self) -> io::Result<()> {
         if self.at_terminal {
-            writeln!(self.out, "Slavotuk with document 01's module, credentials 0 (word 15) and 1 (word 16); try help.")?;
+            writeln!(self.out, "{GREETING}")?;
         }
         Ok(())
     }
@@ -200,12 +203,8 @@ mod tests {
     #[test]
     fn a_person_is_greeted_and_prompted() {
         let (out, all_good) = talked(true, b"open 0\n\nopen 0\n");
-        let after = out.split_once('\n').unwrap().1;
-        assert!(out.starts_with("Slavotuk"));
-        assert_eq!(
-            after,
-            "slavotuk> 0 done\nslavotuk> slavotuk> 2 session\nslavotuk> \n"
-        );
+        let talk = "slavotuk> 0 done\nslavotuk> slavotuk> 2 session\nslavotuk> \n";
+        assert_eq!(out, format!("{GREETING}\n{talk}"));
         assert!(all_good);
     }
 

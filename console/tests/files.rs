@@ -125,6 +125,16 @@ fn unwritable_places_get_a_message() {
     assert_eq!(fs::read(folder.0.join("file")).unwrap(), b"kept");
 }
 
+#[cfg(unix)]
+#[test]
+fn what_is_no_file_is_not_replaced() {
+    let folder = Folder::new("special");
+    let socket = folder.file("socket");
+    let _listener = std::os::unix::net::UnixListener::bind(&socket).unwrap();
+    not_saved(&folder, &socket);
+    assert!(!fs::metadata(&socket).unwrap().is_file());
+}
+
 #[test]
 fn a_missing_file_name_is_a_bad_line() {
     for command in ["save", "load"] {

@@ -9,10 +9,11 @@ use std::process::Stdio;
 const SETUP: &str = "open 0\nselect 0 0x10\nstart 0 0 P\nstart 0 1 R\n";
 
 /// Bad lines, each with a part of its message.
-const BAD: [(&str, &str); 51] = [
+const BAD: [(&str, &str); 52] = [
     ("opne 3", "no command 'opne'"),
     ("OPEN 3", "no command 'OPEN'"),
     ("\u{1b}[31m", "no command '\\u{1b}[31m'"),
+    ("\u{202e}nepo 'x'", "no command '\\u{202e}nepo'"),
     ("open", "session is missing"),
     ("open x", "session: 'x' is no number"),
     ("open -1", "session: '-1' is no number"),

@@ -140,10 +140,10 @@ pub const NAME_LENGTH: usize = 48;
 /// ```
 /// use slavotuk::{Name, Refusal};
 ///
-/// let name = Name([0x11; 48]);
-/// assert_eq!(name.to_string(), "11".repeat(48));
-/// assert_eq!(Name::try_from(&[0x11; 48][..]), Ok(name));
-/// assert_eq!(Name::try_from(&[0x11; 47][..]), Err(Refusal::Argument));
+/// let name = Name([0x0a; 48]);
+/// assert_eq!(name.to_string(), "0a".repeat(48));
+/// assert_eq!(Name::try_from(&[0x0a; 48][..]), Ok(name));
+/// assert_eq!(Name::try_from(&[0x0a; 47][..]), Err(Refusal::Argument));
 /// ```
 #[derive(Clone, Copy, PartialEq, Eq, PartialOrd, Ord, Hash)]
 pub struct Name(
@@ -233,10 +233,11 @@ impl From<UserClaim> for Claim {
 /// Whose processes a listing is to have.
 ///
 /// ```
-/// use slavotuk::{Credential, Wanted};
+/// use slavotuk::{Credential, Wanted, WireCredential};
 ///
 /// let own = Wanted::Of(Credential::new(1).unwrap());
-/// assert_ne!(own, Wanted::All);
+/// assert_eq!(WireCredential::from(own).0, 1);
+/// assert_eq!(WireCredential::from(Wanted::All).0, 65535);
 /// ```
 #[derive(Clone, Copy, Debug, PartialEq, Eq, Hash)]
 pub enum Wanted {

@@ -4,7 +4,7 @@ mod common;
 
 use common::*;
 use slavotuk::{
-    write_request, Claim, Class, Listing, Module, NoRefusal, Refusal, UserClaim, Wanted,
+    write_request, Claim, Class, Listing, Module, Name, NoRefusal, Refusal, UserClaim, Wanted,
     FULL_LISTING_LENGTH,
 };
 
@@ -163,7 +163,9 @@ fn full_table() {
     let s = session(0);
     refused(&mut module, 11, |m| m.start(s, credential(1), &q()));
     refused(&mut module, 11, |m| m.elevate(s, credential(1), &q(), true));
-    module.kill(s, by(0, 0), &slavotuk::Name([5; 48])).unwrap();
+    let killed = Name([5; 48]);
+    module.kill(s, by(0, 0), &killed).unwrap();
+    assert!(module.processes().all(|process| process.name != killed));
     module.start(s, credential(1), &q()).unwrap();
 }
 
@@ -213,8 +215,5 @@ fn values_out_of_range_are_not_made() {
         );
         assert_eq!(Class::try_from(number), Err(Refusal::Argument));
     }
-    assert_eq!(
-        slavotuk::Name::try_from(&[0; 49][..]),
-        Err(Refusal::Argument)
-    );
+    assert_eq!(Name::try_from(&[0; 49][..]), Err(Refusal::Argument));
 }
