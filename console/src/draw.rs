@@ -89,20 +89,23 @@ fn ranges(numbers: impl Iterator<Item = u8>) -> String {
 }
 
 fn table(processes: &[Process], whole: bool, out: &mut impl Write) -> io::Result<()> {
-    writeln!(out, "processes, {} of {PLACES}", processes.len())?;
+    write!(out, "processes, {} of {PLACES}", processes.len())?;
     if processes.is_empty() {
-        return Ok(());
+        return writeln!(out);
     }
     let names: Vec<&[u8; NAME_LENGTH]> = processes.iter().map(|process| &process.name.0).collect();
-    let shown = if whole {
-        [true; NAME_LENGTH]
-    } else {
-        telling_bytes(&names)
-    };
-    let positions = ranges((0..48).filter(|at| shown[usize::from(*at)]));
+    let shown = telling_bytes(&names);
+    if !whole {
+        let positions = (0u8..).zip(shown).filter(|(_, is_shown)| *is_shown);
+        write!(
+            out,
+            "; of their names bytes {}",
+            ranges(positions.map(|(at, _)| at))
+        )?;
+    }
     writeln!(
         out,
-        "  place  credential  type              session  next number  name, bytes {positions}"
+        "\n  place  credential  type              session  next number  name"
     )?;
     for (place, process) in processes.iter().enumerate() {
         let name = &process.name.0;

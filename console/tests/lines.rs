@@ -157,8 +157,8 @@ credentials
   1  word 0xc0000114  2 save own, device 4, 8, 30, 31
   5  word 0x00000000  no class
   2 to 4, 6, 7  not provisioned
-processes, 3 of 12
-  place  credential  type              session  next number  name, bytes 0, 1, 16, 46, 47
+processes, 3 of 12; of their names bytes 0, 1, 16, 46, 47
+  place  credential  type              session  next number  name
       0           0  active user             0            1  0000..11..1111  P
       1           1  active elevation        0            -  0000..22..2222  Q
       2           1  saved user              -            1  0000..11..1112  R
@@ -172,7 +172,7 @@ processes, 3 of 12
     );
 
     let names = good(format!("{script}show names\n"));
-    assert!(names.contains("name, bytes 0 to 47\n"));
+    assert!(names.contains("processes, 3 of 12\n"));
     assert!(names.ends_with("saved user              -            1  00*16+11*31+12  R\n"));
 
     let none = good("fresh none\nshow\n");
