@@ -30,13 +30,9 @@ pub fn letter_of(name: &[u8; NAME_LENGTH]) -> Option<&'static str> {
     Some(letter)
 }
 
-/// Reads parts joined by `+`, each a row of hexadecimal digits, repeated where `*` and a count follow: `00*16+11*32`.
-pub fn read(text: &str) -> Result<Vec<u8>, String> {
-    let mut bytes = Vec::new();
-    for part in text.split('+') {
-        read_part(part, &mut bytes)?;
-    }
-    Ok(bytes)
+/// Adds what a text says to the bytes: parts joined by `+`, each a row of hexadecimal digits, repeated where `*` and a count follow, as in `00*16+11*32`.
+pub fn read(text: &str, bytes: &mut Vec<u8>) -> Result<(), String> {
+    text.split('+').try_for_each(|part| read_part(part, bytes))
 }
 
 fn read_part(part: &str, bytes: &mut Vec<u8>) -> Result<(), String> {
@@ -112,6 +108,11 @@ fn runs(bytes: &[u8]) -> Vec<(u8, usize)> {
 mod tests {
     use super::*;
 
+    fn bytes_of(text: &str) -> Result<Vec<u8>, String> {
+        let mut bytes = Vec::new();
+        read(text, &mut bytes).map(|()| bytes)
+    }
+
     #[test]
     fn what_is_written_is_read_back() {
         let samples: [&[u8]; 5] = [
@@ -122,7 +123,7 @@ mod tests {
             &lettered(0x11, 0x12),
         ];
         for bytes in samples {
-            assert_eq!(read(&written(bytes)).unwrap(), bytes);
+            assert_eq!(bytes_of(&written(bytes)).unwrap(), bytes);
         }
         assert_eq!(written(&lettered(0x11, 0x12)), "00*16+11*31+12");
         assert_eq!(written(&[1, 1, 2, 2, 2, 3]), "0101+02*3+03");
@@ -133,25 +134,27 @@ mod tests {
         for text in [
             "", "0", "000", "0g", "00*", "00*x", "*3", "00+", "+00", "00**2", "00*-1", "é0",
         ] {
-            assert!(read(text).is_err(), "{text}");
+            assert!(bytes_of(text).is_err(), "{text}");
         }
-        assert!(read("00*4194305").is_err());
-        assert!(read("00*99999999999999999999999").is_err());
-        assert_eq!(read("00*4194304").unwrap().len(), LONGEST);
-        assert_eq!(read("AbcD*2").unwrap(), [0xab, 0xcd, 0xab, 0xcd]);
+        assert!(bytes_of("00*4194305").is_err());
+        assert!(bytes_of("00*99999999999999999999999").is_err());
+        let mut bytes = bytes_of("00*4194304").unwrap();
+        assert_eq!(bytes.len(), LONGEST);
+        assert!(read("00", &mut bytes).is_err());
+        assert_eq!(bytes_of("AbcD*2").unwrap(), [0xab, 0xcd, 0xab, 0xcd]);
     }
 
     #[test]
     fn letters_are_document_01s() {
         let p = of_letter("P").unwrap();
-        assert_eq!(p.to_vec(), read("00*16+11*32").unwrap());
+        assert_eq!(p.to_vec(), bytes_of("00*16+11*32").unwrap());
         assert_eq!(
             of_letter("Q").unwrap().to_vec(),
-            read("00*16+22*32").unwrap()
+            bytes_of("00*16+22*32").unwrap()
         );
         assert_eq!(
             of_letter("R").unwrap().to_vec(),
-            read("00*16+11*31+12").unwrap()
+            bytes_of("00*16+11*31+12").unwrap()
         );
         assert_eq!(of_letter("S"), None);
         assert_eq!(letter_of(&p), Some("P"));

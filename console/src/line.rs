@@ -18,17 +18,29 @@ pub const DOCUMENT_01: Words = [Some(15), Some(16), None, None, None, None, None
 /// What a line asks for.
 #[derive(Debug, PartialEq)]
 pub enum Command {
+    /// A fresh module.
     Fresh(Words),
+    /// A call that is lent no buffer.
     Call(Call),
+    /// The call that is lent one.
     List(List),
+    /// A series of records.
     Records(Records),
+    /// What the module holds, with whole names or shortened ones.
     Show { whole: bool },
+    /// GET_AUTH_PROCESSES with this credential.
     Request(u16),
+    /// A message to be decoded.
     Read(Vec<u8>),
+    /// The state into a file.
     Save(PathBuf),
+    /// The state from a file.
     Load(PathBuf),
+    /// The calls so far.
     History,
+    /// Everything in short, or one topic.
     Help(Option<String>),
+    /// The end.
     Quit,
 }
 
@@ -82,7 +94,7 @@ pub enum What {
     },
 }
 
-/// The call that is lent a buffer.
+/// The list call, with the length of the buffer that it is lent.
 #[derive(Debug, PartialEq)]
 pub struct List {
     pub session: u32,
@@ -132,7 +144,7 @@ pub fn read(line: &str) -> Result<Option<Command>, String> {
         return Err(format!("no command {}; 'help' has them all", quoted(name)));
     };
     let with_form = |wrong| format!("{name}: {wrong}; the form is: {}", topic.form);
-    let mut words = Reader::of(rest).map_err(with_form)?;
+    let mut words = Reader { rest };
     let command = command(name, &mut words).map_err(with_form)?;
     words.end().map_err(with_form)?;
     Ok(Some(command))
@@ -141,7 +153,7 @@ pub fn read(line: &str) -> Result<Option<Command>, String> {
 /// The command of this name, which is one of those that have a help topic.
 fn command(name: &str, words: &mut Reader) -> Result<Command, String> {
     Ok(match name {
-        "fresh" => Command::Fresh(words.words()?),
+        "fresh" => Command::Fresh(words.grant_words()?),
         "list" => Command::List(words.list()?),
         "records" => Command::Records(words.records()?),
         "show" => Command::Show {
@@ -152,7 +164,7 @@ fn command(name: &str, words: &mut Reader) -> Result<Command, String> {
         "save" => Command::Save(words.file()?),
         "load" => Command::Load(words.file()?),
         "history" => Command::History,
-        "help" => Command::Help(words.rest.next().map(|word| word.text.into())),
+        "help" => Command::Help(words.topic()?),
         "quit" => Command::Quit,
         _ => Command::Call(call(name, words)?),
     })
@@ -211,48 +223,26 @@ struct Word<'a> {
     is_quoted: bool,
 }
 
-/// The words of a line, taken one after another.
+/// The words of a line, taken one after another from what is left of it.
 struct Reader<'a> {
-    rest: std::vec::IntoIter<Word<'a>>,
+    rest: &'a str,
 }
 
-/// The words of a text.
-fn split(text: &str) -> Result<Vec<Word<'_>>, String> {
-    let mut words = Vec::new();
-    let mut rest = text.trim_start();
-    while !rest.is_empty() {
-        let (word, after) = first_word(rest)?;
-        words.push(word);
-        rest = after.trim_start();
-    }
-    Ok(words)
-}
-
+/// The first word of a text that begins with one, and what follows it.
 fn first_word(text: &str) -> Result<(Word<'_>, &str), String> {
-    if let Some(inside) = text.strip_prefix('"') {
-        let (text, after) = inside
-            .split_once('"')
-            .ok_or("a quotation mark is not closed")?;
-        if after.starts_with(|c: char| !c.is_whitespace()) {
-            return Err("a blank has to follow a closing quotation mark".into());
-        }
-        return Ok((
-            Word {
-                text,
-                is_quoted: true,
-            },
-            after,
-        ));
+    let Some(inside) = text.strip_prefix('"') else {
+        let end = text.find(char::is_whitespace).unwrap_or(text.len());
+        let (text, after) = text.split_at(end);
+        let is_quoted = false;
+        return Ok((Word { text, is_quoted }, after));
+    };
+    let closed = inside.split_once('"');
+    let (text, after) = closed.ok_or("a quotation mark is not closed")?;
+    if after.starts_with(|c: char| !c.is_whitespace()) {
+        return Err("a blank has to follow a closing quotation mark".into());
     }
-    let end = text.find(char::is_whitespace).unwrap_or(text.len());
-    let (text, after) = text.split_at(end);
-    Ok((
-        Word {
-            text,
-            is_quoted: false,
-        },
-        after,
-    ))
+    let is_quoted = true;
+    Ok((Word { text, is_quoted }, after))
 }
 
 /// A number of 32 bits, decimal or hexadecimal after 0x.
@@ -272,19 +262,23 @@ fn narrow(number: u32) -> Result<u16, String> {
 }
 
 /// Says of which part of the line something is wrong.
-fn of(part: &str) -> impl Fn(String) -> String + '_ {
+fn about(part: &str) -> impl Fn(String) -> String + '_ {
     move |wrong| format!("{part}: {wrong}")
 }
 
 impl<'a> Reader<'a> {
-    fn of(text: &'a str) -> Result<Reader<'a>, String> {
-        Ok(Reader {
-            rest: split(text)?.into_iter(),
-        })
+    /// Whether no word is left.
+    fn is_done(&self) -> bool {
+        self.rest.trim_start().is_empty()
     }
 
     fn next(&mut self, part: &str) -> Result<Word<'a>, String> {
-        self.rest.next().ok_or_else(|| format!("{part} is missing"))
+        if self.is_done() {
+            return Err(format!("{part} is missing"));
+        }
+        let (word, rest) = first_word(self.rest.trim_start())?;
+        self.rest = rest;
+        Ok(word)
     }
 
     /// The next word, which stands without quotation marks.
@@ -297,18 +291,19 @@ impl<'a> Reader<'a> {
     }
 
     fn end(&mut self) -> Result<(), String> {
-        match self.rest.next() {
-            Some(word) => Err(format!("{} is too much", quoted(word.text))),
-            None => Ok(()),
+        if self.is_done() {
+            return Ok(());
         }
+        let word = self.next("the end")?;
+        Err(format!("{} is too much", quoted(word.text)))
     }
 
     fn number(&mut self, part: &str) -> Result<u32, String> {
-        number_of(self.plain(part)?).map_err(of(part))
+        number_of(self.plain(part)?).map_err(about(part))
     }
 
     fn number16(&mut self, part: &str) -> Result<u16, String> {
-        narrow(self.number(part)?).map_err(of(part))
+        narrow(self.number(part)?).map_err(about(part))
     }
 
     /// One of two words, or a number as it is: the module answers flags that are neither 0 nor 1.
@@ -358,16 +353,16 @@ impl<'a> Reader<'a> {
     fn wanted(&mut self) -> Result<u32, String> {
         match self.plain("wanted")? {
             "all" => Ok(65535),
-            text => number_of(text).map_err(of("wanted")),
+            text => number_of(text).map_err(about("wanted")),
         }
     }
 
     fn wanted16(&mut self) -> Result<u16, String> {
-        narrow(self.wanted()?).map_err(of("wanted"))
+        narrow(self.wanted()?).map_err(about("wanted"))
     }
 
     fn room(&mut self) -> Result<usize, String> {
-        if self.rest.len() == 0 {
+        if self.is_done() {
             return Ok(FULL_LISTING_LENGTH);
         }
         let room = self.number("room")?;
@@ -390,20 +385,29 @@ impl<'a> Reader<'a> {
         if let Some(name) = bytes::of_letter(word.text) {
             return Ok(name.to_vec());
         }
-        bytes::read(word.text).map_err(|wrong| format!("name: {}: {wrong}", quoted(word.text)))
+        let mut name = Vec::new();
+        bytes::read(word.text, &mut name)
+            .map_err(|wrong| format!("name: {}: {wrong}", quoted(word.text)))?;
+        Ok(name)
     }
 
     fn message(&mut self) -> Result<Vec<u8>, String> {
-        let mut message = self.bytes()?;
-        while self.rest.len() > 0 {
-            message.extend(self.bytes()?);
+        let mut message = Vec::new();
+        loop {
+            let text = self.plain("message")?;
+            bytes::read(text, &mut message)
+                .map_err(|wrong| format!("{}: {wrong}", quoted(text)))?;
+            if self.is_done() {
+                return Ok(message);
+            }
         }
-        Ok(message)
     }
 
-    fn bytes(&mut self) -> Result<Vec<u8>, String> {
-        let text = self.plain("message")?;
-        bytes::read(text).map_err(|wrong| format!("{}: {wrong}", quoted(text)))
+    fn topic(&mut self) -> Result<Option<String>, String> {
+        if self.is_done() {
+            return Ok(None);
+        }
+        Ok(Some(self.plain("command")?.into()))
     }
 
     fn file(&mut self) -> Result<PathBuf, String> {
@@ -411,7 +415,7 @@ impl<'a> Reader<'a> {
     }
 
     fn whole(&mut self) -> Result<bool, String> {
-        if self.rest.len() == 0 {
+        if self.is_done() {
             return Ok(false);
         }
         match self.plain("names")? {
@@ -444,16 +448,14 @@ impl<'a> Reader<'a> {
     }
 
     /// The pairs of a fresh module.
-    fn words(&mut self) -> Result<Words, String> {
-        if self.rest.len() == 0 {
-            return Ok(DOCUMENT_01);
-        }
+    fn grant_words(&mut self) -> Result<Words, String> {
         let mut words = Words::default();
-        if self.rest.as_slice()[0].text == "none" {
-            self.plain("none")?;
-            return Ok(words);
+        match self.rest.trim() {
+            "" => return Ok(DOCUMENT_01),
+            "none" => self.rest = "",
+            _ => {}
         }
-        while self.rest.len() > 0 {
+        while !self.is_done() {
             let (credential, word) = pair(self.plain("pair")?)?;
             if words[credential].replace(word).is_some() {
                 return Err(format!("credential {credential} is given twice"));
@@ -468,8 +470,8 @@ fn pair(text: &str) -> Result<(usize, u32), String> {
     let (credential, word) = text
         .split_once('=')
         .ok_or_else(|| format!("{} is no CREDENTIAL=WORD", quoted(text)))?;
-    let credential = number_of(credential).map_err(of("credential"))?;
-    let word = number_of(word).map_err(of("word"))?;
+    let credential = number_of(credential).map_err(about("credential"))?;
+    let word = number_of(word).map_err(about("word"))?;
     match Credential::try_from(credential) {
         Ok(credential) => Ok((credential.number().into(), word)),
         Err(_) => Err(format!(

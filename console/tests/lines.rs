@@ -9,7 +9,7 @@ use std::process::Stdio;
 const SETUP: &str = "open 0\nselect 0 0x10\nstart 0 0 P\nstart 0 1 R\n";
 
 /// Bad lines, each with a part of its message.
-const BAD: [(&str, &str); 52] = [
+const BAD: [(&str, &str); 53] = [
     ("opne 3", "no command 'opne'"),
     ("OPEN 3", "no command 'OPEN'"),
     ("\u{1b}[31m", "no command '\\u{1b}[31m'"),
@@ -73,9 +73,10 @@ const BAD: [(&str, &str); 52] = [
     ("fresh 0=1 0=2", "credential 0 is given twice"),
     ("fresh 0", "'0' is no CREDENTIAL=WORD"),
     ("fresh 0=", "word: '' is no number"),
-    ("fresh none 0=1", "'0=1' is too much"),
+    ("fresh none 0=1", "'none' is no CREDENTIAL=WORD"),
     ("request 65536", "wanted: 65536 is over 16 bits"),
     ("read", "message is missing"),
+    ("read 00*4194304 00", "'00': over 4194304 bytes"),
     ("read 8e0", "'8e0': a byte has two hexadecimal digits"),
     ("show me", "'me' is not names"),
     ("help me", "no command 'me'"),
