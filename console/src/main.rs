@@ -23,8 +23,8 @@ const GREETING: &str =
 const USAGE: &str = "\
 usage: slavotuk-console [--help]
 
-Reads calls from standard input, one on a line, and answers each with document 01's
-number and its name. At a terminal it prompts; otherwise the input is a script.
+Reads calls from standard input, one on a line, and answers each with document
+01's number and its name. At a terminal it prompts; other input is a script.
 
 A bad line gets a message on standard error, and the console goes on.
 Exit code: 0 where no line was bad, 1 where one was, 2 for bad arguments.

@@ -232,6 +232,7 @@ fn arguments_other_than_help_are_bad() {
         assert_eq!(output.status.code(), Some(0));
         let text = String::from_utf8(output.stdout).unwrap();
         assert!(text.starts_with("usage: slavotuk-console"));
+        assert!(text.lines().all(|line| line.len() <= 80), "{text}");
         assert!(COMMANDS
             .iter()
             .all(|name| text.contains(&format!("\n  {name}"))));
