@@ -48,7 +48,7 @@ pub fn good(script: impl AsRef<[u8]>) -> String {
     run.out
 }
 
-/// The answers' lines, those that begin with a number and its name.
+/// The lines that a good script is answered with.
 pub fn answers(script: &str) -> Vec<String> {
     good(script).lines().map(String::from).collect()
 }
