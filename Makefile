@@ -1,5 +1,8 @@
 .PHONY: help run lib test soak bench tools clean
 
+SHELL := bash
+.SHELLFLAGS := -o pipefail -c
+
 LIB := build/lib
 SOURCES := crates.txt $(shell find crates -path '*/must-fail' -prune -o -type f -print)
 CARGO := cargo run --quiet --release --package
@@ -19,9 +22,9 @@ run: lib
 lib: tools $(LIB)/libslavotuk.a $(LIB)/libslavotuk.so $(LIB)/slavotuk.h
 
 $(LIB)/libslavotuk.a: $(SOURCES)
-	@echo "proving the module and compiling it: some minutes where nothing is proved yet"
+	@echo "proving the module and compiling it: some three minutes where nothing is proved yet"
 	@mkdir -p $(LIB)
-	rt staticlib host
+	@rt staticlib host 2>&1 | tee build/proofs.log | grep --line-buffered '^rt: ' || { cat build/proofs.log; exit 1; }
 	cp target/staticlib/libhost.a $@
 
 # all of the archive, with the entries alone to be seen from outside
