@@ -25,7 +25,31 @@ const SAVED: u8 = 2;
 /// The record call on a lent state.
 #[inline(never)]
 pub fn record(state: &mut [u8], session: u32, claim: RawClaim, class: u32) -> u32 {
-    if !holds_state(state) {
+    record_by(are_zero, state, session, claim, class)
+}
+
+/// The same, with the free places read without an exit: that is faster where few processes stand, and the rest is alike.
+#[inline(never)]
+pub fn record_without_exit(state: &mut [u8], session: u32, claim: RawClaim, class: u32) -> u32 {
+    record_by(are_zero_without_exit, state, session, claim, class)
+}
+
+fn are_zero(bytes: &[u8]) -> bool {
+    bytes.iter().all(|&byte| byte == 0)
+}
+
+fn are_zero_without_exit(bytes: &[u8]) -> bool {
+    bytes.iter().fold(0, |all, &byte| all | byte) == 0
+}
+
+fn record_by(
+    are_zero: impl Fn(&[u8]) -> bool,
+    state: &mut [u8],
+    session: u32,
+    claim: RawClaim,
+    class: u32,
+) -> u32 {
+    if !holds_state(state, are_zero) {
         return ARGUMENT;
     }
     match accepting_place(state, session, claim, class) {
@@ -43,7 +67,7 @@ pub fn record(state: &mut [u8], session: u32, claim: RawClaim, class: u32) -> u3
 
 // ---- whether a slice holds a state
 
-fn holds_state(state: &[u8]) -> bool {
+fn holds_state(state: &[u8], are_zero: impl Fn(&[u8]) -> bool) -> bool {
     if state.len() != STATE_LENGTH {
         return false;
     }
@@ -60,7 +84,7 @@ fn holds_state(state: &[u8]) -> bool {
         && standing
             .chunks_exact(PLACE_LENGTH)
             .all(|process| is_process(process) && is_owned(process, sessions, credentials))
-        && free.iter().all(|&byte| byte == 0)
+        && are_zero(free)
         && all_apart(standing)
 }
 
