@@ -1,0 +1,280 @@
+//! The 17 entries as docs/ENTRIES.md has them: numbers and byte slices of any kind in, one of the numbers out.
+
+use crate::layout::{self, STATE_LENGTH};
+use crate::messages;
+use crate::module::{Claim, Module, Name, UserClaim, Wanted, CREDENTIALS, SESSIONS};
+use crate::number::{refuse_unless, refuse_when, Number};
+
+/// The wanted credential that stands for all.
+const ALL: u32 = 65_535;
+
+/// What the host lends as the state.
+#[derive(Clone, Debug, PartialEq, Eq)]
+pub enum Lent {
+    /// A slice that holds a state.
+    State(Module),
+    /// A slice that holds none.
+    Other(Vec<u8>),
+}
+
+impl Lent {
+    /// The slice of these bytes.
+    pub fn of(bytes: &[u8]) -> Lent {
+        match layout::read(bytes) {
+            Some(module) => Lent::State(module),
+            None => Lent::Other(bytes.to_vec()),
+        }
+    }
+
+    /// The bytes of the slice.
+    pub fn bytes(&self) -> Vec<u8> {
+        match self {
+            Lent::State(module) => layout::write(module),
+            Lent::Other(bytes) => bytes.clone(),
+        }
+    }
+
+    fn length(&self) -> usize {
+        match self {
+            Lent::State(_) => STATE_LENGTH,
+            Lent::Other(bytes) => bytes.len(),
+        }
+    }
+
+    fn module(&mut self) -> Result<&mut Module, Number> {
+        match self {
+            Lent::State(module) => Ok(module),
+            Lent::Other(_) => Err(Number::Argument),
+        }
+    }
+}
+
+/// A claim as the host hands it in.
+#[derive(Clone, Copy, Debug, PartialEq, Eq)]
+pub struct RawClaim {
+    /// 0 a user's, 1 elevated.
+    pub kind: u32,
+    /// Whose claim it is.
+    pub credential: u32,
+    /// The record's number.
+    pub number: u16,
+    /// 0 no, 1 yes.
+    pub verdict: u32,
+}
+
+/// Makes a fresh module; of the state only the length is tested.
+pub fn fresh(lent: &mut Lent, provisioned: &[u8], words: &[u32]) -> u32 {
+    number_of(|| {
+        refuse_unless(lent.length() == STATE_LENGTH, Number::Argument)?;
+        refuse_unless(provisioned.len() == CREDENTIALS, Number::Argument)?;
+        refuse_unless(words.len() == CREDENTIALS, Number::Argument)?;
+        let mut pairs = [(false, 0); CREDENTIALS];
+        for (credential, pair) in pairs.iter_mut().enumerate() {
+            *pair = (flag(provisioned[credential].into())?, words[credential]);
+        }
+        *lent = Lent::State(Module::fresh(pairs));
+        Ok(())
+    })
+}
+
+/// Open.
+pub fn open(lent: &mut Lent, session: u32) -> u32 {
+    number_of(|| lent.module()?.open(handle(session)?))
+}
+
+/// Close.
+pub fn close(lent: &mut Lent, session: u32) -> u32 {
+    number_of(|| lent.module()?.close(handle(session)?))
+}
+
+/// Drop.
+pub fn drop(lent: &mut Lent, session: u32) -> u32 {
+    number_of(|| lent.module()?.drop_elevation(handle(session)?))
+}
+
+/// Select. Document 01 has no argument error for a version: every value but 0x10 is 4.
+pub fn select(lent: &mut Lent, session: u32, version: u32) -> u32 {
+    number_of(|| lent.module()?.select(handle(session)?, version))
+}
+
+/// Start.
+pub fn start(lent: &mut Lent, session: u32, credential: u32, name: &[u8]) -> u32 {
+    number_of(|| {
+        lent.module()?
+            .start(handle(session)?, owner(credential)?, whole_name(name)?)
+    })
+}
+
+/// Continue.
+pub fn continue_saved(lent: &mut Lent, session: u32, credential: u32, name: &[u8]) -> u32 {
+    number_of(|| {
+        lent.module()?
+            .continue_saved(handle(session)?, owner(credential)?, whole_name(name)?)
+    })
+}
+
+/// Elevate.
+pub fn elevate(lent: &mut Lent, session: u32, credential: u32, name: &[u8], verdict: u32) -> u32 {
+    number_of(|| {
+        lent.module()?.elevate(
+            handle(session)?,
+            owner(credential)?,
+            whole_name(name)?,
+            flag(verdict)?,
+        )
+    })
+}
+
+/// End.
+pub fn end(
+    lent: &mut Lent,
+    session: u32,
+    credential: u32,
+    number: u16,
+    verdict: u32,
+    keep: u32,
+) -> u32 {
+    number_of(|| {
+        let claim = UserClaim {
+            credential: owner(credential)?,
+            number,
+            verdict: flag(verdict)?,
+        };
+        lent.module()?.end(handle(session)?, claim, flag(keep)?)
+    })
+}
+
+/// Record.
+pub fn record(lent: &mut Lent, session: u32, claim: RawClaim, class: u32) -> u32 {
+    number_of(|| {
+        refuse_when(!(4..=31).contains(&class), Number::Argument)?;
+        lent.module()?
+            .record(handle(session)?, claimed(claim)?, class)
+    })
+}
+
+/// List. The length handed out is the message's; 0 on a refusal.
+pub fn list(
+    lent: &mut Lent,
+    session: u32,
+    claim: RawClaim,
+    wanted: u32,
+    response: &mut [u8],
+    length: &mut usize,
+) -> u32 {
+    *length = 0;
+    number_of(|| {
+        let wanted = match wanted {
+            ALL => Wanted::All,
+            credential => Wanted::Of(owner(credential)?),
+        };
+        let message =
+            lent.module()?
+                .list(handle(session)?, claimed(claim)?, wanted, response.len())?;
+        response[..message.len()].copy_from_slice(&message);
+        *length = message.len();
+        Ok(())
+    })
+}
+
+/// Kill.
+pub fn kill(lent: &mut Lent, session: u32, claim: RawClaim, name: &[u8]) -> u32 {
+    number_of(|| {
+        lent.module()?
+            .kill(handle(session)?, claimed(claim)?, whole_name(name)?)
+    })
+}
+
+/// Set word.
+pub fn set_word(lent: &mut Lent, session: u32, claim: RawClaim, target: u32, word: u32) -> u32 {
+    number_of(|| {
+        lent.module()?
+            .set_word(handle(session)?, claimed(claim)?, owner(target)?, word)
+    })
+}
+
+/// Reads GET_AUTH_PROCESSES.
+pub fn read_request(message: &[u8], credential: &mut u16) -> u32 {
+    number_of(|| {
+        *credential = messages::read_request(message)?;
+        Ok(())
+    })
+}
+
+/// Writes GET_AUTH_PROCESSES: 15 for a buffer under 4 bytes.
+pub fn write_request(buffer: &mut [u8], credential: u16) -> u32 {
+    number_of(|| {
+        let message = messages::request(credential);
+        refuse_when(buffer.len() < message.len(), Number::Room)?;
+        buffer[..message.len()].copy_from_slice(&message);
+        Ok(())
+    })
+}
+
+/// Reads the count of AUTH_PROCESSES.
+pub fn read_count(message: &[u8], count: &mut u16) -> u32 {
+    number_of(|| {
+        *count = messages::read_count(message)?;
+        Ok(())
+    })
+}
+
+/// Reads a row of AUTH_PROCESSES. 14 comes before 1, and a name's slice of another length than 48 is 1.
+pub fn read_row(
+    message: &[u8],
+    at: usize,
+    credential: &mut u16,
+    kind: &mut u8,
+    name: &mut [u8],
+) -> u32 {
+    number_of(|| {
+        let row = messages::read_row(message, at)?;
+        refuse_unless(name.len() == row.name.len(), Number::Argument)?;
+        *credential = row.credential;
+        *kind = row.type_number;
+        name.copy_from_slice(&row.name);
+        Ok(())
+    })
+}
+
+fn number_of(call: impl FnOnce() -> Result<(), Number>) -> u32 {
+    call().err().unwrap_or(Number::Done) as u32
+}
+
+fn handle(session: u32) -> Result<usize, Number> {
+    below(session, SESSIONS)
+}
+
+fn owner(credential: u32) -> Result<usize, Number> {
+    below(credential, CREDENTIALS)
+}
+
+fn below(value: u32, bound: usize) -> Result<usize, Number> {
+    let value = value as usize;
+    refuse_when(value >= bound, Number::Argument)?;
+    Ok(value)
+}
+
+fn flag(value: u32) -> Result<bool, Number> {
+    match value {
+        0 => Ok(false),
+        1 => Ok(true),
+        _ => Err(Number::Argument),
+    }
+}
+
+fn whole_name(bytes: &[u8]) -> Result<Name, Number> {
+    Name::try_from(bytes).map_err(|_| Number::Argument)
+}
+
+/// An elevated claim's credential, number and verdict are ignored whatever they hold, by the check for 1 too.
+fn claimed(claim: RawClaim) -> Result<Claim, Number> {
+    if flag(claim.kind)? {
+        return Ok(Claim::Elevated);
+    }
+    Ok(Claim::User(UserClaim {
+        credential: owner(claim.credential)?,
+        number: claim.number,
+        verdict: flag(claim.verdict)?,
+    }))
+}

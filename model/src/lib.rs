@@ -1,0 +1,20 @@
+//! The module of document 01 written a second time, in ordinary Rust and from the document alone. Nothing here is taken from the proved module, so that an
+//! error of one is not an error of both. The tests run the compiled archive beside it.
+//!
+//! [`module`] has what the module holds and the calls, in the order of the document's sentences; [`messages`] the listing messages; [`layout`] the state's
+//! 681 bytes; [`entries`] the 17 entries as a host calls them.
+#![forbid(unsafe_code)]
+#![warn(missing_docs)]
+
+pub mod entries;
+pub mod layout;
+pub mod messages;
+pub mod module;
+
+mod number;
+
+pub use module::Module;
+pub use number::Number;
+
+#[cfg(test)]
+mod steps;

@@ -1,0 +1,472 @@
+//! "What the module holds", "The claim" and "Calls, with the order of their checks".
+//!
+//! The calls take arguments that are in their ranges; [`crate::entries`] refuses the others, since argument errors come first everywhere.
+
+use crate::messages::{self, Row};
+use crate::number::{refuse_unless, refuse_when, Number};
+
+/// There are four sessions, handles 0 to 3.
+pub const SESSIONS: usize = 4;
+/// There are eight credentials, 0 to 7.
+pub const CREDENTIALS: usize = 8;
+/// At most this many processes stand.
+pub const PLACES: usize = 12;
+/// Bytes of a name.
+pub const NAME_LENGTH: usize = 48;
+/// A process with this next number is spent.
+pub const SPENT: u16 = 65_535;
+
+const LIST_OTHERS: u32 = 0;
+const KILL_OTHERS: u32 = 1;
+const SAVE_OWN: u32 = 2;
+const SET_WORDS: u32 = 3;
+
+/// What the hash unit works out for a process.
+pub type Name = [u8; NAME_LENGTH];
+
+/// A session's phase.
+#[derive(Clone, Copy, Debug, PartialEq, Eq)]
+pub enum Session {
+    /// Closed.
+    Closed,
+    /// Open without a version.
+    OpenWithoutVersion,
+    /// Open with version 1.0.
+    OpenWithVersion,
+}
+
+/// What is held of a credential.
+#[derive(Clone, Copy, Debug, PartialEq, Eq)]
+pub struct Credential {
+    /// Whether it is provisioned.
+    pub provisioned: bool,
+    /// Its grant word: bit k grants class k.
+    pub word: u32,
+}
+
+/// A process's type, with what has a meaning for that type alone.
+#[derive(Clone, Copy, Debug, PartialEq, Eq)]
+pub enum Kind {
+    /// Type 0.
+    ActiveUser {
+        /// The session it is active in.
+        session: usize,
+        /// Its next number.
+        next: u16,
+    },
+    /// Type 1.
+    ActiveElevation {
+        /// The session it is active in.
+        session: usize,
+    },
+    /// Type 2.
+    SavedUser {
+        /// Its next number.
+        next: u16,
+    },
+}
+
+impl Kind {
+    /// The type's number in 004 Table 46.
+    pub fn type_number(self) -> u8 {
+        match self {
+            Kind::ActiveUser { .. } => 0,
+            Kind::ActiveElevation { .. } => 1,
+            Kind::SavedUser { .. } => 2,
+        }
+    }
+
+    /// The session of an active process.
+    pub fn session(self) -> Option<usize> {
+        match self {
+            Kind::ActiveUser { session, .. } | Kind::ActiveElevation { session } => Some(session),
+            Kind::SavedUser { .. } => None,
+        }
+    }
+}
+
+/// A process.
+#[derive(Clone, Copy, Debug, PartialEq, Eq)]
+pub struct Process {
+    /// Whose it is.
+    pub credential: usize,
+    /// Its type.
+    pub kind: Kind,
+    /// Its name.
+    pub name: Name,
+}
+
+/// A claim of a protected call.
+#[derive(Clone, Copy, Debug, PartialEq, Eq)]
+pub enum Claim {
+    /// By the session's elevation.
+    Elevated,
+    /// By a credential's user process.
+    User(UserClaim),
+}
+
+/// What a user claim carries.
+#[derive(Clone, Copy, Debug, PartialEq, Eq)]
+pub struct UserClaim {
+    /// Whose claim it is.
+    pub credential: usize,
+    /// The record's number.
+    pub number: u16,
+    /// The key unit's verdict on the signature.
+    pub verdict: bool,
+}
+
+/// Whose processes a listing is to hold.
+#[derive(Clone, Copy, Debug, PartialEq, Eq)]
+pub enum Wanted {
+    /// Those of one credential.
+    Of(usize),
+    /// All, 65535 in the message.
+    All,
+}
+
+/// What the check of a claim found.
+struct Claimant {
+    credential: usize,
+    /// Where the user process stands whose next number is counted; an elevation has none.
+    counted: Option<usize>,
+}
+
+/// The module.
+#[derive(Clone, Debug, PartialEq, Eq)]
+pub struct Module {
+    /// The sessions by handle.
+    pub sessions: [Session; SESSIONS],
+    /// The credentials.
+    pub credentials: [Credential; CREDENTIALS],
+    /// The processes in the order of their starts.
+    pub processes: Vec<Process>,
+}
+
+/// Two names are equal when all 48 bytes are.
+pub fn same_name(one: &Name, other: &Name) -> bool {
+    one == other
+}
+
+impl Module {
+    /// A fresh module: all sessions closed and no process. An unprovisioned credential's word is taken as zero.
+    pub fn fresh(pairs: [(bool, u32); CREDENTIALS]) -> Module {
+        Module {
+            sessions: [Session::Closed; SESSIONS],
+            credentials: pairs.map(|(provisioned, word)| Credential {
+                provisioned,
+                word: if provisioned { word } else { 0 },
+            }),
+            processes: Vec::new(),
+        }
+    }
+
+    /// Open.
+    pub fn open(&mut self, session: usize) -> Result<(), Number> {
+        refuse_unless(self.sessions[session] == Session::Closed, Number::Session)?;
+        self.sessions[session] = Session::OpenWithoutVersion;
+        Ok(())
+    }
+
+    /// Close: the session's active processes are removed; saved ones stay.
+    pub fn close(&mut self, session: usize) -> Result<(), Number> {
+        self.check_open(session)?;
+        self.sessions[session] = Session::Closed;
+        self.processes
+            .retain(|process| process.kind.session() != Some(session));
+        Ok(())
+    }
+
+    /// Select: 4. A second choice changes nothing.
+    pub fn select(&mut self, session: usize, version: u32) -> Result<(), Number> {
+        self.check_open(session)?;
+        refuse_unless(version == 0x10, Number::Version)?;
+        self.sessions[session] = Session::OpenWithVersion;
+        Ok(())
+    }
+
+    /// Start: 5; 7 if that credential has an active user process in that session; 12; 11.
+    pub fn start(&mut self, session: usize, credential: usize, name: Name) -> Result<(), Number> {
+        self.check_version(session)?;
+        self.check_provisioned(credential)?;
+        self.check_no_active_user(session, credential)?;
+        self.check_new_name(&name)?;
+        self.check_place()?;
+        self.processes.push(Process {
+            credential,
+            kind: Kind::ActiveUser { session, next: 0 },
+            name,
+        });
+        Ok(())
+    }
+
+    /// Continue: 5; 6 unless a saved process has that credential and that name; 7 as for start. It keeps its place and its next number.
+    pub fn continue_saved(
+        &mut self,
+        session: usize,
+        credential: usize,
+        name: Name,
+    ) -> Result<(), Number> {
+        self.check_version(session)?;
+        self.check_provisioned(credential)?;
+        let (place, next) = self
+            .find_saved(credential, &name)
+            .ok_or(Number::NoProcess)?;
+        self.check_no_active_user(session, credential)?;
+        self.processes[place].kind = Kind::ActiveUser { session, next };
+        Ok(())
+    }
+
+    /// Elevate: 5; 8; 7 if the session has an elevation; 12; 11.
+    pub fn elevate(
+        &mut self,
+        session: usize,
+        credential: usize,
+        name: Name,
+        verdict: bool,
+    ) -> Result<(), Number> {
+        self.check_version(session)?;
+        self.check_provisioned(credential)?;
+        refuse_unless(verdict, Number::Verdict)?;
+        refuse_when(
+            self.find_elevation(session).is_some(),
+            Number::AlreadyActive,
+        )?;
+        self.check_new_name(&name)?;
+        self.check_place()?;
+        self.processes.push(Process {
+            credential,
+            kind: Kind::ActiveElevation { session },
+            name,
+        });
+        Ok(())
+    }
+
+    /// Drop: 6; removes the elevation, and the session stays open.
+    pub fn drop_elevation(&mut self, session: usize) -> Result<(), Number> {
+        self.check_version(session)?;
+        let place = self.find_elevation(session).ok_or(Number::NoProcess)?;
+        self.processes.remove(place);
+        Ok(())
+    }
+
+    /// End: claim; 10 if keep and class 2 is clear. Counts the claim; then the process is saved, or removed when not kept.
+    pub fn end(&mut self, session: usize, claim: UserClaim, keep: bool) -> Result<(), Number> {
+        self.check_version(session)?;
+        let place = self.check_user_claim(session, claim)?;
+        refuse_when(
+            keep && !self.grants(claim.credential, SAVE_OWN),
+            Number::NotGranted,
+        )?;
+        if keep {
+            let next = claim.number + 1;
+            self.processes[place].kind = Kind::SavedUser { next };
+        } else {
+            self.processes.remove(place);
+        }
+        Ok(())
+    }
+
+    /// Record: claim; 10.
+    pub fn record(&mut self, session: usize, claim: Claim, class: u32) -> Result<(), Number> {
+        self.check_version(session)?;
+        let claimant = self.check_claim(session, claim)?;
+        refuse_unless(self.grants(claimant.credential, class), Number::NotGranted)?;
+        self.count(&claimant);
+        Ok(())
+    }
+
+    /// List: claim; 10 if wanted differs from the claim's credential and class 0 is clear; 15. Answers with the message.
+    pub fn list(
+        &mut self,
+        session: usize,
+        claim: Claim,
+        wanted: Wanted,
+        room: usize,
+    ) -> Result<Vec<u8>, Number> {
+        self.check_version(session)?;
+        let claimant = self.check_claim(session, claim)?;
+        refuse_when(
+            wanted != Wanted::Of(claimant.credential)
+                && !self.grants(claimant.credential, LIST_OTHERS),
+            Number::NotGranted,
+        )?;
+        let message = messages::listing(&self.rows(wanted));
+        refuse_when(room < message.len(), Number::Room)?;
+        self.count(&claimant);
+        Ok(message)
+    }
+
+    /// Kill: claim; 6 if no process that this claim may kill has the name.
+    pub fn kill(&mut self, session: usize, claim: Claim, name: Name) -> Result<(), Number> {
+        self.check_version(session)?;
+        let claimant = self.check_claim(session, claim)?;
+        let place = self
+            .processes
+            .iter()
+            .position(|process| {
+                same_name(&process.name, &name) && self.may_kill(claimant.credential, process)
+            })
+            .ok_or(Number::NoProcess)?;
+        self.count(&claimant);
+        self.processes.remove(place);
+        Ok(())
+    }
+
+    /// Set word: claim; 10 by class 3; 5.
+    pub fn set_word(
+        &mut self,
+        session: usize,
+        claim: Claim,
+        target: usize,
+        word: u32,
+    ) -> Result<(), Number> {
+        self.check_version(session)?;
+        let claimant = self.check_claim(session, claim)?;
+        refuse_unless(
+            self.grants(claimant.credential, SET_WORDS),
+            Number::NotGranted,
+        )?;
+        self.check_provisioned(target)?;
+        self.count(&claimant);
+        self.credentials[target].word = word;
+        Ok(())
+    }
+
+    /// The rows of a listing: every process of the wanted credential, or all, in table order.
+    pub fn rows(&self, wanted: Wanted) -> Vec<Row> {
+        self.processes
+            .iter()
+            .filter(|process| match wanted {
+                Wanted::Of(credential) => process.credential == credential,
+                Wanted::All => true,
+            })
+            .map(|process| Row {
+                credential: process.credential as u16,
+                type_number: process.kind.type_number(),
+                name: process.name,
+            })
+            .collect()
+    }
+
+    /// The active user process of that credential in that session: its place and its next number.
+    pub fn find_active_user(&self, session: usize, credential: usize) -> Option<(usize, u16)> {
+        self.processes
+            .iter()
+            .enumerate()
+            .find_map(|(place, process)| match process.kind {
+                Kind::ActiveUser { session: its, next }
+                    if its == session && process.credential == credential =>
+                {
+                    Some((place, next))
+                }
+                _ => None,
+            })
+    }
+
+    /// The place of the session's elevation.
+    pub fn find_elevation(&self, session: usize) -> Option<usize> {
+        self.processes
+            .iter()
+            .position(|process| process.kind == Kind::ActiveElevation { session })
+    }
+
+    /// Whether the credential's word has the class's bit.
+    pub fn grants(&self, credential: usize, class: u32) -> bool {
+        self.credentials[credential].word & (1 << class) != 0
+    }
+
+    fn find_saved(&self, credential: usize, name: &Name) -> Option<(usize, u16)> {
+        self.processes
+            .iter()
+            .enumerate()
+            .find_map(|(place, process)| match process.kind {
+                Kind::SavedUser { next }
+                    if process.credential == credential && same_name(&process.name, name) =>
+                {
+                    Some((place, next))
+                }
+                _ => None,
+            })
+    }
+
+    /// Its own credential's processes of every type, and all when class 1 is granted.
+    fn may_kill(&self, credential: usize, process: &Process) -> bool {
+        process.credential == credential || self.grants(credential, KILL_OTHERS)
+    }
+
+    fn check_open(&self, session: usize) -> Result<(), Number> {
+        refuse_when(self.sessions[session] == Session::Closed, Number::Session)
+    }
+
+    fn check_version(&self, session: usize) -> Result<(), Number> {
+        self.check_open(session)?;
+        refuse_when(
+            self.sessions[session] == Session::OpenWithoutVersion,
+            Number::NoVersion,
+        )
+    }
+
+    fn check_provisioned(&self, credential: usize) -> Result<(), Number> {
+        refuse_unless(self.credentials[credential].provisioned, Number::Credential)
+    }
+
+    fn check_no_active_user(&self, session: usize, credential: usize) -> Result<(), Number> {
+        refuse_when(
+            self.find_active_user(session, credential).is_some(),
+            Number::AlreadyActive,
+        )
+    }
+
+    fn check_new_name(&self, name: &Name) -> Result<(), Number> {
+        let taken = self
+            .processes
+            .iter()
+            .any(|process| same_name(&process.name, name));
+        refuse_when(taken, Number::NameTaken)
+    }
+
+    fn check_place(&self) -> Result<(), Number> {
+        refuse_when(self.processes.len() == PLACES, Number::Full)
+    }
+
+    fn check_claim(&self, session: usize, claim: Claim) -> Result<Claimant, Number> {
+        match claim {
+            Claim::Elevated => {
+                let place = self.find_elevation(session).ok_or(Number::NoProcess)?;
+                Ok(Claimant {
+                    credential: self.processes[place].credential,
+                    counted: None,
+                })
+            }
+            Claim::User(user) => {
+                let place = self.check_user_claim(session, user)?;
+                Ok(Claimant {
+                    credential: user.credential,
+                    counted: Some(place),
+                })
+            }
+        }
+    }
+
+    /// User: 5; 6 unless that credential has an active user process in that session; 13; 9; 8. Answers with the process's place.
+    fn check_user_claim(&self, session: usize, claim: UserClaim) -> Result<usize, Number> {
+        self.check_provisioned(claim.credential)?;
+        let (place, next) = self
+            .find_active_user(session, claim.credential)
+            .ok_or(Number::NoProcess)?;
+        refuse_when(next == SPENT, Number::Spent)?;
+        refuse_when(claim.number != next, Number::OutOfTurn)?;
+        refuse_unless(claim.verdict, Number::Verdict)?;
+        Ok(place)
+    }
+
+    /// An accepted record adds one to its process's next number.
+    fn count(&mut self, claimant: &Claimant) {
+        if let Some(place) = claimant.counted {
+            if let Kind::ActiveUser { next, .. } = &mut self.processes[place].kind {
+                *next += 1;
+            }
+        }
+    }
+}

@@ -1,0 +1,237 @@
+//! Document 01's thirteen steps, "Sequences on both sides of each bound", through the model's entries. They run on from each other, so each test begins with
+//! the steps before its own.
+
+use crate::entries::{self, Lent, RawClaim};
+use crate::layout::STATE_LENGTH;
+use crate::module::{Kind, Module};
+
+const SPENT: u16 = 65_535;
+
+fn p() -> [u8; 48] {
+    name_of(0x11)
+}
+
+fn q() -> [u8; 48] {
+    name_of(0x22)
+}
+
+fn r() -> [u8; 48] {
+    let mut name = p();
+    name[47] = 0x12;
+    name
+}
+
+/// 16 zero bytes, then 32 of the byte.
+fn name_of(byte: u8) -> [u8; 48] {
+    let mut name = [0; 48];
+    name[16..].fill(byte);
+    name
+}
+
+fn user(credential: u32, number: u16) -> RawClaim {
+    RawClaim {
+        kind: 0,
+        credential,
+        number,
+        verdict: 1,
+    }
+}
+
+fn denied(credential: u32, number: u16) -> RawClaim {
+    RawClaim {
+        verdict: 0,
+        ..user(credential, number)
+    }
+}
+
+/// The module of the steps, and the calls as the steps write them: the session is 0 where a step doesn't say.
+struct Steps {
+    lent: Lent,
+}
+
+impl Steps {
+    fn new() -> Steps {
+        let mut lent = Lent::Other(vec![0xa5; STATE_LENGTH]);
+        let words = [15, 16, 0xffff_ffff, 0, 0, 0, 0, 0];
+        assert_eq!(
+            entries::fresh(&mut lent, &[1, 1, 0, 0, 0, 0, 0, 0], &words),
+            0
+        );
+        Steps { lent }
+    }
+
+    fn after_step_3() -> Steps {
+        let mut steps = Steps::new();
+        assert_eq!(steps.open(4), 1);
+        assert_eq!(steps.open(0), 0);
+        assert_eq!(steps.open(0), 2);
+        assert_eq!(steps.start(0, p()), 3);
+        assert_eq!(steps.select(0x20), 4);
+        assert_eq!(steps.select(0x10), 0);
+        assert_eq!(steps.select(0x10), 0);
+        assert_eq!(steps.start(2, p()), 5);
+        assert_eq!(steps.start(0, p()), 0);
+        assert_eq!(steps.start(1, p()), 12);
+        steps
+    }
+
+    fn after_step_8() -> Steps {
+        let mut steps = Steps::after_step_3();
+        assert_eq!(steps.start(1, r()), 0);
+        assert_eq!(steps.start(1, p()), 7);
+        assert_eq!(steps.record(user(1, 0), 4), 0);
+        assert_eq!(steps.record(user(1, 0), 4), 9);
+        assert_eq!(steps.record(denied(1, 1), 4), 8);
+        assert_eq!(steps.record(user(1, 1), 5), 10);
+        assert_eq!(steps.record(user(1, 1), 4), 0);
+        assert_eq!(steps.record(user(1, 2), 3), 1);
+        assert_eq!(steps.record(user(1, 2), 31), 10);
+        assert_eq!(steps.kill(user(1, 2), p()), 6);
+        assert_eq!(steps.kill(user(1, 2), q()), 6);
+        steps
+    }
+
+    fn after_step_11() -> Steps {
+        let mut steps = Steps::after_step_8();
+        assert_eq!(steps.kill(user(0, 0), r()), 0);
+        assert_eq!(steps.record(user(1, 2), 4), 6);
+        assert_eq!(steps.list(user(0, 1), 65_535, &mut [0; 54]), (15, 0));
+        assert_eq!(steps.list(user(0, 1), 65_535, &mut [0; 55]), (0, 55));
+        assert_eq!(steps.end(user(0, 2), 1), 0);
+        assert_eq!(steps.open(1), 0);
+        assert_eq!(entries::select(&mut steps.lent, 1, 0x10), 0);
+        assert_eq!(entries::continue_saved(&mut steps.lent, 1, 0, &q()), 6);
+        assert_eq!(entries::continue_saved(&mut steps.lent, 1, 0, &p()), 0);
+        steps
+    }
+
+    fn module(&self) -> &Module {
+        match &self.lent {
+            Lent::State(module) => module,
+            Lent::Other(_) => panic!("the calls keep a state"),
+        }
+    }
+
+    fn open(&mut self, session: u32) -> u32 {
+        entries::open(&mut self.lent, session)
+    }
+
+    fn select(&mut self, version: u32) -> u32 {
+        entries::select(&mut self.lent, 0, version)
+    }
+
+    fn start(&mut self, credential: u32, name: [u8; 48]) -> u32 {
+        entries::start(&mut self.lent, 0, credential, &name)
+    }
+
+    fn record(&mut self, claim: RawClaim, class: u32) -> u32 {
+        entries::record(&mut self.lent, 0, claim, class)
+    }
+
+    fn kill(&mut self, claim: RawClaim, name: [u8; 48]) -> u32 {
+        entries::kill(&mut self.lent, 0, claim, &name)
+    }
+
+    fn list(&mut self, claim: RawClaim, wanted: u32, response: &mut [u8]) -> (u32, usize) {
+        let mut length = 999;
+        let number = entries::list(&mut self.lent, 0, claim, wanted, response, &mut length);
+        (number, length)
+    }
+
+    fn end(&mut self, claim: RawClaim, keep: u32) -> u32 {
+        entries::end(
+            &mut self.lent,
+            0,
+            claim.credential,
+            claim.number,
+            claim.verdict,
+            keep,
+        )
+    }
+}
+
+#[test]
+fn steps_1_to_3() {
+    let steps = Steps::after_step_3();
+    assert_eq!(steps.module().processes.len(), 1);
+    assert_eq!(steps.module().processes[0].name, p());
+    assert_eq!(steps.module().credentials[2].word, 0);
+}
+
+#[test]
+fn steps_4_to_8() {
+    let steps = Steps::after_step_8();
+    assert_eq!(
+        steps.module().processes[1].kind,
+        Kind::ActiveUser {
+            session: 0,
+            next: 2
+        }
+    );
+}
+
+#[test]
+fn step_9() {
+    let mut steps = Steps::after_step_8();
+    assert_eq!(steps.kill(user(0, 0), r()), 0);
+    assert_eq!(steps.record(user(1, 2), 4), 6);
+    assert_eq!(steps.module().processes.len(), 1);
+}
+
+#[test]
+fn step_10() {
+    let mut steps = Steps::after_step_8();
+    assert_eq!(steps.kill(user(0, 0), r()), 0);
+    let mut response = [0xee; 54];
+    assert_eq!(steps.list(user(0, 1), 65_535, &mut response), (15, 0));
+    assert_eq!(response, [0xee; 54]);
+    let mut response = [0xee; 57];
+    assert_eq!(steps.list(user(0, 1), 65_535, &mut response), (0, 55));
+    assert_eq!(response[..7], [0x0e, 0, 1, 0, 0, 0, 0]);
+    assert_eq!(response[7..55], p());
+    assert_eq!(response[55..], [0xee; 2]);
+}
+
+#[test]
+fn step_11() {
+    let steps = Steps::after_step_11();
+    assert_eq!(
+        steps.module().processes[0].kind,
+        Kind::ActiveUser {
+            session: 1,
+            next: 3
+        }
+    );
+}
+
+#[test]
+fn step_12() {
+    let mut steps = Steps::after_step_11();
+    for byte in 1..=11 {
+        assert_eq!(steps.start(1, name_of(byte)), 0);
+        let saved = entries::set_word(&mut steps.lent, 1, user(0, 2 + u16::from(byte)), 1, 0x14);
+        assert_eq!(saved, 0);
+        assert_eq!(steps.end(user(1, 0), 1), 0);
+    }
+    assert_eq!(steps.module().processes.len(), 12);
+    assert_eq!(steps.start(2, q()), 5);
+    assert_eq!(steps.start(1, p()), 12);
+    assert_eq!(steps.start(1, q()), 11);
+    let killed = entries::kill(&mut steps.lent, 1, user(0, 14), &name_of(5));
+    assert_eq!(killed, 0);
+    assert_eq!(steps.start(1, q()), 0);
+    assert_eq!(steps.module().processes[11].name, q());
+}
+
+#[test]
+fn step_13() {
+    let mut steps = Steps::after_step_3();
+    assert_eq!(steps.start(1, r()), 0);
+    for number in 0..SPENT {
+        assert_eq!(steps.record(user(1, number), 4), 0, "number {number}");
+    }
+    for number in 0..=SPENT {
+        assert_eq!(steps.record(user(1, number), 4), 13, "number {number}");
+    }
+    assert_eq!(steps.record(denied(1, SPENT), 4), 13);
+}
