@@ -1,0 +1,322 @@
+//! Slices that hold no state, or another one: damaged bytes, wrong lengths, and what a fresh module is made of.
+
+use crate::call::{Answer, Bytes, Call, STATE_ENTRIES};
+use crate::depth::Depth;
+use crate::generate::Generator;
+use crate::random::Random;
+use crate::report::{Report, Singles};
+use crate::sequence::{run, Plan};
+use slavotuk_model::layout::{self, COUNT_AT, STATE_LENGTH};
+use slavotuk_model::module::{Kind, CREDENTIALS, PLACES};
+use slavotuk_model::Module;
+
+/// How many states of twelve processes are damaged, beside the three plain ones.
+const DEEP_STATES: usize = 5;
+
+/// Every byte of several states at each of 256 values, every length, pairs of bytes, random bytes.
+pub fn test(seed: u64, report: &mut Report) {
+    let mut random = Random::new(seed);
+    let states = states(&mut random);
+    for (name, state) in &states {
+        report.judge(every_byte(name, state, &mut random));
+    }
+    report.judge(every_length(&states, &mut random));
+    report.judge(pairs_of_bytes(&states, 200_000, &mut random));
+    report.judge(random_bytes(&states, &mut random));
+}
+
+/// Some random damage to a state.
+pub fn soak(state: &[u8], random: &mut Random) -> Result<u64, String> {
+    let mut tried = Tried::of(state, random);
+    for _ in 0..500 {
+        let mut damaged = state.to_vec();
+        damage_two(&mut damaged, random);
+        tried.slice(&damaged)?;
+    }
+    Ok(tried.singles.calls)
+}
+
+fn states(random: &mut Random) -> Vec<(String, Vec<u8>)> {
+    let fresh = Module::fresh([1, 2, 3, 4, 5, 6, 7, 8].map(|c| (c % 3 != 0, 0x0102_0304 * c)));
+    let mut states = vec![
+        ("all zero".to_string(), vec![0; STATE_LENGTH]),
+        ("fresh".to_string(), layout::write(&fresh)),
+        ("example of docs/STATE.md".to_string(), example()),
+    ];
+    for number in 1..=DEEP_STATES {
+        let name = format!("twelve processes, state {number}");
+        states.push((name, layout::write(&deep_state(random))));
+    }
+    states
+}
+
+/// Sessions 0 and 1 open, session 0 with a version; credentials 0 and 1; three processes with the names P, Q and R.
+fn example() -> Vec<u8> {
+    let mut bytes = vec![0; STATE_LENGTH];
+    bytes[..14].copy_from_slice(&[2, 1, 0, 0, 1, 0x0f, 0, 0, 0, 1, 0x10, 0, 0, 0]);
+    bytes[COUNT_AT] = 3;
+    bytes[45..50].copy_from_slice(&[0, 0, 0, 3, 0]);
+    bytes[66..98].fill(0x11);
+    bytes[98..103].copy_from_slice(&[1, 2, 0, 0x2c, 1]);
+    bytes[119..151].fill(0x22);
+    bytes[151..156].copy_from_slice(&[1, 1, 0, 0, 0]);
+    bytes[172..203].fill(0x11);
+    bytes[203] = 0x12;
+    bytes
+}
+
+/// A state that a random sequence reached, with twelve processes of all three types.
+fn deep_state(random: &mut Random) -> Module {
+    let plan = Plan {
+        calls: 300,
+        replays: false,
+    };
+    loop {
+        let reached = run(random.next(), plan, &mut Depth::default());
+        let Ok(pair) = reached else { continue };
+        match pair.module() {
+            Some(module) if is_deep(module) => return module.clone(),
+            _ => {}
+        }
+    }
+}
+
+fn is_deep(module: &Module) -> bool {
+    let of_type = |number| {
+        module
+            .processes
+            .iter()
+            .any(|process| process.kind.type_number() == number)
+    };
+    let counted = module.processes.iter().any(|process| match process.kind {
+        Kind::ActiveUser { next, .. } | Kind::SavedUser { next } => next > 0,
+        Kind::ActiveElevation { .. } => false,
+    });
+    module.processes.len() == PLACES && (0..3).all(of_type) && counted
+}
+
+/// The trial of slices made from one state.
+struct Tried {
+    singles: Singles,
+    generator: Generator,
+    module: Option<Module>,
+    /// How many of the slices held a state.
+    held: u64,
+}
+
+impl Tried {
+    fn of(state: &[u8], random: &mut Random) -> Tried {
+        Tried {
+            singles: Singles::default(),
+            generator: Generator::new(random.next()),
+            module: layout::read(state),
+            held: 0,
+        }
+    }
+
+    /// A slice through select, which tells whether it holds a state, and through a call that fits the state it was made from.
+    fn slice(&mut self, slice: &[u8]) -> Result<(), String> {
+        let telling = Call::Select {
+            session: 0,
+            version: 0,
+        };
+        let told = self.call(slice, &telling)?.number != 1;
+        let held = layout::read(slice).is_some();
+        if told != held {
+            return Err(format!("told {told}, held {held}: {}", Bytes(slice)));
+        }
+        self.held += u64::from(held);
+        let fitting = self.fitting_call();
+        self.call(slice, &fitting).map(|_| ())
+    }
+
+    fn call(&mut self, slice: &[u8], call: &Call) -> Result<Answer, String> {
+        let answered = self.singles.on(slice, call);
+        answered.map_err(|what| format!("{what}; lent {}", Bytes(slice)))
+    }
+
+    fn fitting_call(&mut self) -> Call {
+        loop {
+            let call = self.generator.next(self.module.as_ref());
+            if call.entry() < STATE_ENTRIES {
+                return call;
+            }
+        }
+    }
+}
+
+fn every_byte(name: &str, state: &[u8], random: &mut Random) -> Result<String, String> {
+    let mut tried = Tried::of(state, random);
+    for at in 0..state.len() {
+        let mut damaged = state.to_vec();
+        for value in 0..=255 {
+            damaged[at] = value;
+            let outcome = tried.slice(&damaged);
+            outcome.map_err(|what| format!("byte {at} of '{name}' at {value:#04x}: {what}"))?;
+        }
+    }
+    let (calls, held) = (tried.singles.calls, tried.held);
+    Ok(format!(
+        "every byte of '{name}' at every value: {held} of {} slices hold a state, {calls} calls",
+        256 * state.len()
+    ))
+}
+
+fn every_length(states: &[(String, Vec<u8>)], random: &mut Random) -> Result<String, String> {
+    let mut calls = 0;
+    for (name, state) in states {
+        let mut tried = Tried::of(state, random);
+        for length in 0..=2 * STATE_LENGTH {
+            let mut zeros = state.clone();
+            zeros.resize(length, 0);
+            let mut drawn = [state.clone(), random.bytes(STATE_LENGTH)].concat();
+            drawn.truncate(length);
+            for slice in [zeros, drawn] {
+                let fresh = tried.generator.next(None);
+                let outcome = tried
+                    .slice(&slice)
+                    .and_then(|()| tried.call(&slice, &fresh));
+                outcome.map_err(|what| format!("'{name}' at length {length}: {what}"))?;
+            }
+        }
+        if tried.held != 2 {
+            return Err(format!("'{name}': {} lengths hold a state", tried.held));
+        }
+        calls += tried.singles.calls;
+    }
+    let longest = 2 * STATE_LENGTH;
+    Ok(format!(
+        "every length from 0 to {longest} of {} states, with zeros and random bytes: {calls} calls",
+        states.len()
+    ))
+}
+
+fn pairs_of_bytes(
+    states: &[(String, Vec<u8>)],
+    times: usize,
+    random: &mut Random,
+) -> Result<String, String> {
+    let (mut calls, mut held) = (0, 0);
+    for (name, state) in states {
+        let mut tried = Tried::of(state, random);
+        for _ in 0..times / states.len() {
+            let mut damaged = state.clone();
+            damage_two(&mut damaged, random);
+            let outcome = tried.slice(&damaged);
+            outcome.map_err(|what| format!("two bytes of '{name}': {what}"))?;
+        }
+        calls += tried.singles.calls;
+        held += tried.held;
+    }
+    Ok(format!(
+        "{times} times two bytes of a state changed: {held} slices hold a state, {calls} calls"
+    ))
+}
+
+/// Changes two bytes. Fields are changed more often than names, and mostly to small values, so that the slice may hold a state still.
+fn damage_two(state: &mut [u8], random: &mut Random) {
+    for _ in 0..2 {
+        let field = match random.below(3) {
+            0 => random.below(layout::PLACES_AT),
+            1 => layout::PLACES_AT + layout::PLACE_LENGTH * random.below(PLACES) + random.below(6),
+            _ => random.below(state.len()),
+        };
+        state[field] = match random.percent(70) {
+            true => random.below(13) as u8,
+            false => random.word() as u8,
+        };
+    }
+}
+
+fn random_bytes(states: &[(String, Vec<u8>)], random: &mut Random) -> Result<String, String> {
+    let mut tried = Tried::of(&states[states.len() - 1].1, random);
+    for _ in 0..20_000 {
+        let small = random.percent(50);
+        let mut slice = random.bytes(STATE_LENGTH);
+        if small {
+            slice.iter_mut().for_each(|byte| *byte &= 1);
+        }
+        tried.slice(&slice)?;
+        let fresh = tried.generator.next(None);
+        tried.call(&slice, &fresh)?;
+    }
+    let calls = tried.singles.calls;
+    Ok(format!("20000 slices of random bytes: {calls} calls"))
+}
+
+/// Every flag's value at each place, and every length of the three slices.
+pub fn test_fresh(seed: u64, report: &mut Report) {
+    let mut random = Random::new(seed);
+    report.judge(fresh_flags(&mut random));
+    report.judge(fresh_lengths(&mut random));
+    report.judge(fresh_state_lengths(&mut random));
+}
+
+fn fresh_flags(random: &mut Random) -> Result<String, String> {
+    let mut singles = Singles::default();
+    let mut accepted = 0;
+    for at in 0..CREDENTIALS {
+        for value in 0..=255 {
+            let mut provisioned: Vec<u8> = random.bytes(CREDENTIALS);
+            provisioned.iter_mut().for_each(|flag| *flag &= 1);
+            provisioned[at] = value;
+            let answer = singles.on(&random.bytes(STATE_LENGTH), &fresh(provisioned, random))?;
+            accepted += u64::from(answer.number == 0);
+        }
+    }
+    match accepted {
+        16 => Ok(format!(
+            "fresh, every flag's value at each of 8 places: {} calls, 16 accepted",
+            singles.calls
+        )),
+        _ => Err(format!("fresh accepted {accepted} flags, 16 are good")),
+    }
+}
+
+fn fresh_lengths(random: &mut Random) -> Result<String, String> {
+    let mut singles = Singles::default();
+    let mut accepted = 0;
+    for flags in 0..=10 {
+        for length in 0..=10 {
+            let words = (0..length).map(|_| random.word()).collect();
+            let call = Call::Fresh {
+                provisioned: vec![1; flags],
+                words,
+            };
+            let answer = singles.on(&random.bytes(STATE_LENGTH), &call)?;
+            accepted += u64::from(answer.number == 0);
+        }
+    }
+    match accepted {
+        1 => Ok(format!(
+            "fresh, both slices of 0 to 10: {} calls, 1 accepted",
+            singles.calls
+        )),
+        _ => Err(format!(
+            "fresh accepted {accepted} pairs of lengths, 1 is good"
+        )),
+    }
+}
+
+fn fresh_state_lengths(random: &mut Random) -> Result<String, String> {
+    let mut singles = Singles::default();
+    let mut accepted = 0;
+    for length in 0..=2 * STATE_LENGTH {
+        let call = fresh(vec![1; CREDENTIALS], random);
+        let answer = singles.on(&random.bytes(length), &call)?;
+        accepted += u64::from(answer.number == 0);
+    }
+    match accepted {
+        1 => Ok(format!(
+            "fresh, a state's slice of 0 to {}: {} calls, 1 accepted",
+            2 * STATE_LENGTH,
+            singles.calls
+        )),
+        _ => Err(format!("fresh accepted {accepted} lengths, 1 is good")),
+    }
+}
+
+fn fresh(provisioned: Vec<u8>, random: &mut Random) -> Call {
+    let words = (0..CREDENTIALS).map(|_| random.word()).collect();
+    Call::Fresh { provisioned, words }
+}

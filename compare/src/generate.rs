@@ -1,0 +1,618 @@
+//! Draws the calls of a sequence, with an eye on the state so that deep ones are reached.
+
+use crate::call::{Answer, Call, Out, ENTRIES};
+use crate::random::Random;
+use slavotuk::entries::RawClaim;
+use slavotuk_model::layout::{self, STATE_LENGTH};
+use slavotuk_model::module::{Credential, Kind, Name, Process, Session, Wanted};
+use slavotuk_model::module::{CREDENTIALS, NAME_LENGTH, PLACES, SESSIONS, SPENT};
+use slavotuk_model::{messages, Module};
+
+/// Handles, credentials, classes and flags on both sides of each width.
+const BOUNDS: [u32; 12] = [
+    0,
+    3,
+    4,
+    7,
+    8,
+    255,
+    256,
+    257,
+    65_535,
+    65_536,
+    1 << 31,
+    u32::MAX,
+];
+
+/// Added to a good value: a side that takes fewer bits takes the sum for the good value.
+const WRAPS: [u32; 4] = [1 << 8, 1 << 16, 1 << 24, 1 << 31];
+
+/// What a sequence is after.
+#[derive(Clone, Copy, Debug, PartialEq, Eq)]
+enum Style {
+    /// Everything.
+    Mixed,
+    /// Full tables: little is removed.
+    Crowded,
+    /// Begins with next numbers near 65,535.
+    NearlySpent,
+}
+
+/// How often each entry is drawn, in the order of docs/ENTRIES.md.
+#[rustfmt::skip]
+fn weights(style: Style) -> [usize; ENTRIES] {
+    match style {
+        //                    fresh open close drop select start cont. elev. end rec. list kill word requests listings
+        Style::Mixed =>       [2,   30,  15,   12,  30,    100,  60,   40,   60, 120, 50,  40,  40,  5, 5,    10, 15],
+        Style::Crowded =>     [0,   30,  2,    4,   40,    160,  30,   60,   80, 50,  40,  6,   20,  5, 5,    10, 15],
+        Style::NearlySpent => [0,   10,  2,    5,   10,    30,   50,   20,   40, 120, 60,  50,  40,  5, 5,    10, 15],
+    }
+}
+
+/// The source of one sequence's calls.
+pub struct Generator {
+    random: Random,
+    style: Style,
+    names: Vec<Name>,
+    /// The last listing that was answered, for the readers.
+    listing: Vec<u8>,
+}
+
+impl Generator {
+    /// The source that the seed makes.
+    pub fn new(seed: u64) -> Generator {
+        let mut random = Random::new(seed);
+        let style = [Style::Mixed, Style::Crowded, Style::NearlySpent][random.weighted(&[4, 3, 3])];
+        let names = draw_names(&mut random);
+        Generator {
+            random,
+            style,
+            names,
+            listing: messages::listing(&[]),
+        }
+    }
+
+    /// The bytes that are lent at the beginning.
+    pub fn lent(&mut self) -> Vec<u8> {
+        match self.style {
+            Style::NearlySpent => layout::write(&self.nearly_spent()),
+            _ => self.random.bytes(STATE_LENGTH),
+        }
+    }
+
+    /// The next call. A slice that holds no state gets a fresh module.
+    pub fn next(&mut self, module: Option<&Module>) -> Call {
+        let Some(module) = module else {
+            return self.fresh();
+        };
+        if !module.sessions.contains(&Session::OpenWithVersion) && self.random.percent(60) {
+            return self.entering(module);
+        }
+        match self.random.weighted(&weights(self.style)) {
+            0 => self.wrong_fresh(),
+            1 => {
+                let session = self.session_in(module, Session::Closed);
+                Call::Open { session }
+            }
+            2 => {
+                let session = self.session(module);
+                Call::Close { session }
+            }
+            3 => {
+                let session = self.elevated_session(module);
+                Call::Drop { session }
+            }
+            4 => self.select(module),
+            5 => self.start(module),
+            6 => self.continue_saved(module),
+            7 => self.elevate(module),
+            8 => self.end(module),
+            9 => self.record(module),
+            10 => self.list(module),
+            11 => self.kill(module),
+            12 => self.set_word(module),
+            13 => self.read_request(),
+            14 => self.write_request(),
+            15 => self.read_count(),
+            _ => self.read_row(),
+        }
+    }
+
+    /// Takes note of an answer.
+    pub fn observe(&mut self, answer: &Answer) {
+        if let (0, Out::Listing { response, length }) = (answer.number, &answer.out) {
+            self.listing = response[..*length].to_vec();
+        }
+    }
+
+    /// A state of many processes whose next numbers are near the last one.
+    fn nearly_spent(&mut self) -> Module {
+        let mut module = Module {
+            sessions: [Session::OpenWithVersion; SESSIONS],
+            ..Module::fresh([(false, 0); CREDENTIALS])
+        };
+        for credential in &mut module.credentials {
+            *credential = Credential {
+                provisioned: self.random.percent(80),
+                word: 0,
+            };
+            if credential.provisioned {
+                credential.word = draw_word(&mut self.random);
+            }
+        }
+        let most = self.random.below(PLACES) + 1;
+        for place in 0..most {
+            let process = self.nearly_spent_process(place);
+            module.processes.push(process);
+            if layout::read(&layout::write(&module)).is_none() {
+                module.processes.pop();
+            }
+        }
+        module
+    }
+
+    fn nearly_spent_process(&mut self, place: usize) -> Process {
+        let session = self.random.below(SESSIONS);
+        let next = SPENT - self.random.pick(&[0, 0, 1, 1, 2, 3, 10, 100]);
+        Process {
+            credential: self.random.below(CREDENTIALS),
+            kind: match self.random.below(5) {
+                0 => Kind::SavedUser { next },
+                1 => Kind::ActiveElevation { session },
+                _ => Kind::ActiveUser { session, next },
+            },
+            name: self.names[place],
+        }
+    }
+
+    fn fresh(&mut self) -> Call {
+        let provisioned = (0..CREDENTIALS).map(|_| u8::from(self.random.percent(75)));
+        let provisioned = provisioned.collect();
+        let words = (0..CREDENTIALS).map(|_| draw_word(&mut self.random));
+        let words = words.collect();
+        Call::Fresh { provisioned, words }
+    }
+
+    /// A fresh that is mostly refused, so that the state lives on.
+    fn wrong_fresh(&mut self) -> Call {
+        let mut call = self.fresh();
+        if let Call::Fresh { provisioned, words } = &mut call {
+            match self.random.below(8) {
+                0 => {}
+                1 => provisioned.truncate(self.random.below(8)),
+                2 => provisioned.push(1),
+                3 => words.truncate(self.random.below(8)),
+                4 => words.push(1),
+                _ => provisioned[self.random.below(8)] = self.random.pick(&[2, 3, 128, 255]),
+            }
+        }
+        call
+    }
+
+    /// Towards a session with a version.
+    fn entering(&mut self, module: &Module) -> Call {
+        if module.sessions.contains(&Session::OpenWithoutVersion) {
+            return self.select(module);
+        }
+        let session = self.session_in(module, Session::Closed);
+        Call::Open { session }
+    }
+
+    fn select(&mut self, module: &Module) -> Call {
+        let session = self.session_in(module, Session::OpenWithoutVersion);
+        let version = match self.random.percent(80) {
+            true => 0x10,
+            false => {
+                let others = [0, 1, 0x0f, 0x11, 0x20, 0xff, 0x110, 0x1_0010, 0x8000_0010];
+                self.random.pick(&others)
+            }
+        };
+        Call::Select { session, version }
+    }
+
+    fn start(&mut self, module: &Module) -> Call {
+        let session = self.session(module);
+        let credential = self.credential(module);
+        let name = self.new_name(module);
+        Call::Start {
+            session,
+            credential,
+            name,
+        }
+    }
+
+    fn continue_saved(&mut self, module: &Module) -> Call {
+        let session = self.session(module);
+        let saved = self.process(module, |kind| matches!(kind, Kind::SavedUser { .. }));
+        let (credential, name) = match saved {
+            Some(saved) if self.random.percent(85) => {
+                let credential = self.near(saved.credential as u32);
+                (credential, self.near_name(saved.name))
+            }
+            _ => (self.credential(module), self.standing_name(module)),
+        };
+        Call::Continue {
+            session,
+            credential,
+            name,
+        }
+    }
+
+    fn elevate(&mut self, module: &Module) -> Call {
+        let session = self.session(module);
+        let credential = self.credential(module);
+        let name = self.new_name(module);
+        let verdict = self.flag(90);
+        Call::Elevate {
+            session,
+            credential,
+            name,
+            verdict,
+        }
+    }
+
+    fn end(&mut self, module: &Module) -> Call {
+        let (session, claim) = self.user_claim(module);
+        let keep = match self.style {
+            Style::Crowded => self.flag(95),
+            _ => self.flag(70),
+        };
+        Call::End {
+            session,
+            credential: claim.credential,
+            number: claim.number,
+            verdict: claim.verdict,
+            keep,
+        }
+    }
+
+    fn record(&mut self, module: &Module) -> Call {
+        let (session, claim) = self.claim(module);
+        let credential = claimant(module, session, claim);
+        let granted: Vec<u32> = (4..32)
+            .filter(|class| module.grants(credential, *class))
+            .collect();
+        let class = match granted.is_empty() || self.random.percent(30) {
+            true => 4 + self.random.below(28) as u32,
+            false => self.random.pick(&granted),
+        };
+        let class = match self.random.percent(2) {
+            true => self.random.pick(&[0, 1, 2, 3, 32, 33, 36, 63, 64]),
+            false => self.near(class),
+        };
+        Call::Record {
+            session,
+            claim,
+            class,
+        }
+    }
+
+    fn list(&mut self, module: &Module) -> Call {
+        let (session, claim) = self.claim(module);
+        let wanted = match self.random.below(10) {
+            0..=3 => 65_535,
+            4..=7 => claimant(module, session, claim) as u32,
+            8 => self.random.pick(&[65_534, 65_536, 131_071, 8, 7, 0]),
+            _ => self.random.below(CREDENTIALS) as u32,
+        };
+        let wanted = self.near(wanted);
+        let room = self.room(module, wanted);
+        Call::List {
+            session,
+            claim,
+            wanted,
+            response: self.random.bytes(room),
+            length: self.random.next() as usize,
+        }
+    }
+
+    /// Around the length of the message that is to come.
+    fn room(&mut self, module: &Module, wanted: u32) -> usize {
+        let rows = match wanted {
+            0..=7 => module.rows(Wanted::Of(wanted as usize)),
+            _ => module.rows(Wanted::All),
+        };
+        let exact = messages::listing(&rows).len();
+        match self.random.below(10) {
+            0..=3 => exact,
+            4 => exact - 1,
+            5 => exact + 1,
+            6..=7 => exact + self.random.below(60),
+            8 => self.random.below(exact),
+            _ => self.random.pick(&[0, 3, 4, 5, 54, 55, 615, 616, 617]),
+        }
+    }
+
+    fn kill(&mut self, module: &Module) -> Call {
+        let (session, claim) = self.claim(module);
+        let name = self.standing_name(module);
+        Call::Kill {
+            session,
+            claim,
+            name,
+        }
+    }
+
+    fn set_word(&mut self, module: &Module) -> Call {
+        let (session, claim) = self.claim(module);
+        let target = self.credential(module);
+        let word = match self.random.percent(30) {
+            true => {
+                let held = module.credentials[target as usize % CREDENTIALS].word;
+                held ^ (1 << self.random.below(32))
+            }
+            false => draw_word(&mut self.random),
+        };
+        Call::SetWord {
+            session,
+            claim,
+            target,
+            word,
+        }
+    }
+
+    fn read_request(&mut self) -> Call {
+        let mut message = messages::request(self.random.word() as u16).to_vec();
+        self.spoil(&mut message);
+        Call::ReadRequest {
+            message,
+            credential: self.random.word() as u16,
+        }
+    }
+
+    fn write_request(&mut self) -> Call {
+        let room = self.random.below(9);
+        Call::WriteRequest {
+            buffer: self.random.bytes(room),
+            credential: self.random.word() as u16,
+        }
+    }
+
+    fn read_count(&mut self) -> Call {
+        let mut message = self.listing.clone();
+        self.spoil(&mut message);
+        Call::ReadCount {
+            message,
+            count: self.random.word() as u16,
+        }
+    }
+
+    fn read_row(&mut self) -> Call {
+        let mut message = self.listing.clone();
+        self.spoil(&mut message);
+        let count = message.len() / messages::ROW_LENGTH;
+        let length = match self.random.percent(90) {
+            true => NAME_LENGTH,
+            false => self.random.pick(&[0, 47, 49, 51, 96]),
+        };
+        Call::ReadRow {
+            message,
+            at: match self.random.percent(95) {
+                true => self.random.below(count + 2),
+                false => usize::MAX - self.random.below(60),
+            },
+            credential: self.random.word() as u16,
+            kind: self.random.word() as u8,
+            name: self.random.bytes(length),
+        }
+    }
+
+    /// Sometimes changes a byte of a message, or its length.
+    fn spoil(&mut self, message: &mut Vec<u8>) {
+        let at = self.random.below(message.len());
+        match self.random.below(12) {
+            0 => message[at] = self.random.word() as u8,
+            1 => message[at.min(3)] ^= 1 << self.random.below(8),
+            2 => message.truncate(at),
+            3 => message.push(0),
+            _ => {}
+        }
+    }
+
+    /// A claim and the session it is made in.
+    fn claim(&mut self, module: &Module) -> (u32, RawClaim) {
+        let elevation = self.process(module, |kind| matches!(kind, Kind::ActiveElevation { .. }));
+        let elevated = if elevation.is_some() { 35 } else { 5 };
+        let (session, mut claim) = match self.random.percent(elevated) {
+            true => (self.elevated_session(module), self.elevated_claim()),
+            false => self.user_claim(module),
+        };
+        claim.kind = self.near(claim.kind);
+        (session, claim)
+    }
+
+    /// What it carries beside its kind is ignored, and so may be anything.
+    fn elevated_claim(&mut self) -> RawClaim {
+        RawClaim {
+            kind: 1,
+            credential: self.random.pick(&BOUNDS),
+            number: self.random.word() as u16,
+            verdict: self.random.pick(&BOUNDS),
+        }
+    }
+
+    fn user_claim(&mut self, module: &Module) -> (u32, RawClaim) {
+        let user = self.process(module, |kind| matches!(kind, Kind::ActiveUser { .. }));
+        let (session, credential, next) = match user.map(|user| (user.credential, user.kind)) {
+            Some((credential, Kind::ActiveUser { session, next })) if self.random.percent(90) => {
+                let session = match self.random.percent(92) {
+                    true => self.near(session as u32),
+                    false => self.session(module),
+                };
+                (session, credential as u32, next)
+            }
+            _ => (self.session(module), self.credential(module), 0),
+        };
+        let claim = RawClaim {
+            kind: 0,
+            credential: self.near(credential),
+            number: self.number(next),
+            verdict: self.flag(93),
+        };
+        (session, claim)
+    }
+
+    fn number(&mut self, next: u16) -> u16 {
+        if self.random.percent(88) {
+            return next;
+        }
+        let drawn = self.random.word() as u16;
+        let (before, after) = (next.wrapping_sub(1), next.wrapping_add(1));
+        let others = [
+            before,
+            before,
+            after,
+            0,
+            SPENT,
+            SPENT - 1,
+            next ^ 0x100,
+            drawn,
+        ];
+        self.random.pick(&others)
+    }
+
+    /// A session handle, mostly of a session with a version.
+    fn session(&mut self, module: &Module) -> u32 {
+        self.session_in(module, Session::OpenWithVersion)
+    }
+
+    fn session_in(&mut self, module: &Module, phase: Session) -> u32 {
+        let such: Vec<u32> = (0..SESSIONS)
+            .filter(|session| module.sessions[*session] == phase)
+            .map(|session| session as u32)
+            .collect();
+        let session = match such.is_empty() || self.random.percent(12) {
+            true => self.random.below(SESSIONS) as u32,
+            false => self.random.pick(&such),
+        };
+        self.near(session)
+    }
+
+    fn elevated_session(&mut self, module: &Module) -> u32 {
+        let elevation = self.process(module, |kind| matches!(kind, Kind::ActiveElevation { .. }));
+        match elevation.and_then(|process| process.kind.session()) {
+            Some(session) if self.random.percent(85) => self.near(session as u32),
+            _ => self.session(module),
+        }
+    }
+
+    /// A credential, mostly a provisioned one.
+    fn credential(&mut self, module: &Module) -> u32 {
+        let first = self.random.below(CREDENTIALS);
+        let credential = match module.credentials[first].provisioned || self.random.percent(40) {
+            true => first,
+            false => self.random.below(CREDENTIALS),
+        };
+        self.near(credential as u32)
+    }
+
+    /// The value; now and then one that is wrong, or wrong in its upper bits alone.
+    fn near(&mut self, value: u32) -> u32 {
+        match self.random.below(120) {
+            0 => self.random.pick(&BOUNDS),
+            1 => value.wrapping_add(self.random.pick(&WRAPS)),
+            _ => value,
+        }
+    }
+
+    fn flag(&mut self, yes: usize) -> u32 {
+        let flag = u32::from(self.random.percent(yes));
+        self.near(flag)
+    }
+
+    fn process(&mut self, module: &Module, wanted: impl Fn(Kind) -> bool) -> Option<Process> {
+        let such: Vec<Process> = module
+            .processes
+            .iter()
+            .filter(|process| wanted(process.kind))
+            .copied()
+            .collect();
+        (!such.is_empty()).then(|| self.random.pick(&such))
+    }
+
+    /// A name that mostly no process has.
+    fn new_name(&mut self, module: &Module) -> Vec<u8> {
+        let taken = |name: &Name| module.processes.iter().any(|process| process.name == *name);
+        let mut name = self.random.pick(&self.names);
+        for _ in 0..6 {
+            if !taken(&name) {
+                break;
+            }
+            name = self.random.pick(&self.names);
+        }
+        self.cut(name)
+    }
+
+    /// A name that mostly a process has.
+    fn standing_name(&mut self, module: &Module) -> Vec<u8> {
+        match self.process(module, |_| true) {
+            Some(process) if self.random.percent(80) => self.near_name(process.name),
+            _ => {
+                let name = self.random.pick(&self.names);
+                self.cut(name)
+            }
+        }
+    }
+
+    /// The name, now and then with one byte changed.
+    fn near_name(&mut self, mut name: Name) -> Vec<u8> {
+        if self.random.percent(10) {
+            let at = self.random.pick(&[0, 15, 16, 31, 32, 46, 47]);
+            name[at] ^= 1 << self.random.below(8);
+        }
+        self.cut(name)
+    }
+
+    /// The name's slice, now and then of a wrong length.
+    fn cut(&mut self, name: Name) -> Vec<u8> {
+        let mut name = name.to_vec();
+        if self.random.percent(2) {
+            name.resize(self.random.pick(&[0, 1, 47, 49, 96]), 0);
+        }
+        name
+    }
+}
+
+/// Names that differ in one byte: the last, the first, those around byte 16; and all-zero ones.
+fn draw_names(random: &mut Random) -> Vec<Name> {
+    let mut base: Name = [0; NAME_LENGTH];
+    random.fill(&mut base[16..]);
+    let mut names = vec![base, [0; NAME_LENGTH], [0xff; NAME_LENGTH]];
+    for at in [0, 15, 16, 31, 32, 47] {
+        for like in [base, [0; NAME_LENGTH]] {
+            let mut name = like;
+            name[at] ^= 1;
+            names.push(name);
+        }
+    }
+    for _ in 0..5 {
+        let mut name = [0; NAME_LENGTH];
+        random.fill(&mut name);
+        names.push(name);
+    }
+    for at in (1..names.len()).rev() {
+        names.swap(at, random.below(at + 1));
+    }
+    names
+}
+
+fn draw_word(random: &mut Random) -> u32 {
+    match random.below(8) {
+        0..=2 => u32::MAX,
+        3 => 15,
+        4 => 16,
+        5 => !(1 << random.below(32)),
+        6 => random.pick(&[0, 1, 2, 4, 8, 0x8000_0000]),
+        _ => random.word(),
+    }
+}
+
+/// The credential a claim speaks for; 0 where it speaks for none.
+fn claimant(module: &Module, session: u32, claim: RawClaim) -> usize {
+    let elevation = module.find_elevation(session as usize);
+    match elevation {
+        Some(place) if claim.kind == 1 => module.processes[place].credential,
+        _ if claim.credential < CREDENTIALS as u32 => claim.credential as usize,
+        _ => 0,
+    }
+}

@@ -1,0 +1,125 @@
+//! Runs the compiled archive beside the model of document 01, and tells where they differ.
+#![forbid(unsafe_code)]
+
+mod call;
+mod damage;
+mod depth;
+mod generate;
+mod messages;
+mod random;
+mod report;
+mod run;
+mod sequence;
+mod shrink;
+mod sides;
+
+use std::process::ExitCode;
+use std::time::{Duration, SystemTime, UNIX_EPOCH};
+
+const HELP: &str = "\
+Runs the compiled archive beside the model of document 01, and tells where they differ.
+
+usage: slavotuk-compare test [--calls N] [--seed S]
+       slavotuk-compare soak [--seconds N | --forever] [--seed S]
+       slavotuk-compare replay SEED
+
+test    all tests: N calls in random sequences over the 17 entries (5000000 unless given, at least 200000), accepted records
+        sent again, damaged states, messages, fresh modules. The same seed makes the same calls; it is 1 unless given.
+soak    random sequences and damaged states for N seconds (60 unless given), with a line now and then. The seed is taken
+        from the clock unless given, and printed.
+replay  one sequence again, by the seed that a failure printed. The failure is printed with its sequence shrunk.
+
+A test prints 'ok: ..' or 'FAILED: ..', and the last line is 'N passed, M failed'.
+Exit codes: 0 nothing failed, 1 something failed, 2 bad usage.
+";
+
+const LEAST_CALLS: u64 = 200_000;
+
+enum Command {
+    Help,
+    Test { calls: usize, seed: u64 },
+    Soak { time: Option<Duration>, seed: u64 },
+    Replay { seed: u64 },
+}
+
+fn main() -> ExitCode {
+    let arguments: Vec<String> = std::env::args().skip(1).collect();
+    match parse(&arguments) {
+        Ok(Command::Help) => {
+            print!("{HELP}");
+            ExitCode::SUCCESS
+        }
+        Ok(Command::Test { calls, seed }) => run::test(calls, seed),
+        Ok(Command::Soak { time, seed }) => run::soak(time, seed),
+        Ok(Command::Replay { seed }) => run::replay(seed),
+        Err(message) => {
+            eprintln!("slavotuk-compare: {message}; --help tells more");
+            ExitCode::from(2)
+        }
+    }
+}
+
+fn parse(arguments: &[String]) -> Result<Command, String> {
+    if arguments
+        .iter()
+        .any(|word| word == "--help" || word == "-h")
+    {
+        return Ok(Command::Help);
+    }
+    let mut words = arguments.iter().map(String::as_str);
+    match words.next() {
+        Some("test") => parse_test(words),
+        Some("soak") => parse_soak(words),
+        Some("replay") => {
+            let seed = number(words.next(), "replay")?;
+            match words.next() {
+                None => Ok(Command::Replay { seed }),
+                Some(word) => Err(format!("'{word}' is one word too many")),
+            }
+        }
+        Some(word) => Err(format!("there is no command '{word}'")),
+        None => Err("a command is missing".to_string()),
+    }
+}
+
+fn parse_test<'a>(mut words: impl Iterator<Item = &'a str>) -> Result<Command, String> {
+    let (mut calls, mut seed) = (5_000_000, 1);
+    while let Some(word) = words.next() {
+        match word {
+            "--calls" => calls = number(words.next(), word)?,
+            "--seed" => seed = number(words.next(), word)?,
+            _ => return Err(format!("test has no option '{word}'")),
+        }
+    }
+    if calls < LEAST_CALLS {
+        return Err(format!("--calls is at least {LEAST_CALLS}"));
+    }
+    let calls = calls as usize;
+    Ok(Command::Test { calls, seed })
+}
+
+fn parse_soak<'a>(mut words: impl Iterator<Item = &'a str>) -> Result<Command, String> {
+    let mut time = Some(Duration::from_secs(60));
+    let mut seed = None;
+    while let Some(word) = words.next() {
+        match word {
+            "--seconds" => time = Some(Duration::from_secs(number(words.next(), word)?)),
+            "--forever" => time = None,
+            "--seed" => seed = Some(number(words.next(), word)?),
+            _ => return Err(format!("soak has no option '{word}'")),
+        }
+    }
+    let seed = seed.unwrap_or_else(seed_of_the_clock);
+    Ok(Command::Soak { time, seed })
+}
+
+fn number(word: Option<&str>, of: &str) -> Result<u64, String> {
+    let word = word.ok_or(format!("{of} needs a number"))?;
+    let parsed = word.parse();
+    parsed.map_err(|_| format!("{of} needs a number, not '{word}'"))
+}
+
+fn seed_of_the_clock() -> u64 {
+    let since = SystemTime::now().duration_since(UNIX_EPOCH);
+    since.map_or(1, |since| since.as_nanos() as u64)
+}

@@ -1,0 +1,203 @@
+//! The three things the program does: test, soak, replay.
+
+use crate::damage;
+use crate::depth::Depth;
+use crate::messages;
+use crate::random::Random;
+use crate::report::Report;
+use crate::sequence::{self, Failure, Plan};
+use crate::shrink::{describe, shrink};
+use std::process::ExitCode;
+use std::sync::atomic::{AtomicBool, AtomicUsize, Ordering};
+use std::thread;
+use std::time::{Duration, Instant};
+
+/// Calls of a sequence.
+const SEQUENCE: usize = 1_000;
+
+/// Sequences whose accepted records are sent again after each call. They are shorter: each call brings some hundred others.
+const REPLAYED: usize = 600;
+const REPLAYED_PLAN: Plan = Plan {
+    calls: 400,
+    replays: true,
+};
+
+/// What is to come up comes up at least once in so many calls.
+const CALLS_FOR_ONE: u64 = 20_000;
+
+/// Every test, with about so many calls in random sequences.
+pub fn test(calls: usize, seed: u64) -> ExitCode {
+    let begun = Instant::now();
+    let mut report = Report::default();
+    println!("seed {seed}");
+    test_sequences(calls, seed, &mut report);
+    test_replays(seed, &mut report);
+    report.judge(sequence::run_to_spent());
+    damage::test(seed, &mut report);
+    damage::test_fresh(seed, &mut report);
+    messages::test(seed, &mut report);
+    println!("{:.1} s", begun.elapsed().as_secs_f64());
+    report.finish()
+}
+
+fn test_sequences(calls: usize, seed: u64, report: &mut Report) {
+    let plan = Plan {
+        calls: SEQUENCE,
+        replays: false,
+    };
+    let (depth, failure) = run_all(&seeds(seed, (calls + SEQUENCE - 1) / SEQUENCE), plan);
+    let (calls, sequences) = (depth.calls, depth.sequences);
+    let title = format!("random sequences: {calls} calls in {sequences} sequences");
+    match failure {
+        Some(failure) => report.judge(Err(explain(&title, failure))),
+        None => report.judge(Ok(title)),
+    }
+    judge_depth(&depth, calls / CALLS_FOR_ONE, report);
+}
+
+fn test_replays(seed: u64, report: &mut Report) {
+    let (depth, failure) = run_all(&seeds(!seed, REPLAYED), REPLAYED_PLAN);
+    let (calls, replays, others) = (depth.calls, depth.replays, depth.replays_of_others);
+    let title = format!(
+        "accepted records sent again: {replays} times after {calls} calls, none good again; {others} were another process's turn"
+    );
+    match failure {
+        Some(failure) => report.judge(Err(explain(&title, failure))),
+        None => report.judge(Ok(title)),
+    }
+}
+
+fn judge_depth(depth: &Depth, least: u64, report: &mut Report) {
+    for line in depth.table() {
+        println!("{line}");
+    }
+    for outcome in depth.judge(least.max(1)) {
+        report.judge(outcome);
+    }
+}
+
+fn seeds(seed: u64, count: usize) -> Vec<u64> {
+    let mut random = Random::new(seed);
+    (0..count).map(|_| random.next()).collect()
+}
+
+/// Runs the seeds' sequences on every core, up to the first failure.
+fn run_all(seeds: &[u64], plan: Plan) -> (Depth, Option<(u64, Failure)>) {
+    let cores = thread::available_parallelism().map_or(1, usize::from);
+    let (next, stopped) = (AtomicUsize::new(0), AtomicBool::new(false));
+    let work = || {
+        let mut depth = Depth::default();
+        while !stopped.load(Ordering::Relaxed) {
+            let Some(seed) = seeds.get(next.fetch_add(1, Ordering::Relaxed)) else {
+                break;
+            };
+            if let Err(failure) = sequence::run(*seed, plan, &mut depth) {
+                stopped.store(true, Ordering::Relaxed);
+                return (depth, Some((*seed, *failure)));
+            }
+        }
+        (depth, None)
+    };
+    let finished: Vec<_> = thread::scope(|scope| {
+        let workers: Vec<_> = (0..cores).map(|_| scope.spawn(work)).collect();
+        let join = |worker: thread::ScopedJoinHandle<_>| worker.join().expect("a worker ends");
+        workers.into_iter().map(join).collect()
+    });
+    let mut depth = Depth::default();
+    finished.iter().for_each(|(counted, _)| depth.add(counted));
+    let failure = finished.into_iter().find_map(|(_, failure)| failure);
+    (depth, failure)
+}
+
+/// The failure's lines: how to run it again, and the shrunk sequence.
+fn explain(title: &str, (seed, failure): (u64, Failure)) -> String {
+    let (at, what) = (failure.found.at + 1, failure.found.what.clone());
+    let shrunk = shrink(failure);
+    let calls = shrunk.sequence.calls.len();
+    let lines = describe(&shrunk).join("\n      ");
+    format!(
+        "{title}\n  at call {at}: {what}\n  again: slavotuk-compare replay {seed}\n  shrunk from {at} to {calls} calls, each with its number:\n      {lines}"
+    )
+}
+
+/// Runs until the time is over; without one, until it fails.
+pub fn soak(time: Option<Duration>, seed: u64) -> ExitCode {
+    const ROUND: usize = 200;
+    let begun = Instant::now();
+    let is_over = || time.map_or(false, |time| begun.elapsed() >= time);
+    let mut said = begun;
+    let mut random = Random::new(seed);
+    let (mut depth, mut damaged) = (Depth::default(), 0);
+    let mut report = Report::default();
+    println!("seed {seed}");
+    while !is_over() {
+        let outcome = soak_round(random.next(), ROUND, &mut depth, &mut damaged);
+        if let Err(what) = outcome {
+            report.judge(Err(what));
+            return report.finish();
+        }
+        if said.elapsed() >= Duration::from_secs(10) {
+            said = Instant::now();
+            println!("{}", progress(begun, &depth, damaged));
+        }
+    }
+    for line in depth.table() {
+        println!("{line}");
+    }
+    report.judge(Ok(progress(begun, &depth, damaged)));
+    report.finish()
+}
+
+fn progress(begun: Instant, depth: &Depth, damaged: u64) -> String {
+    format!(
+        "{:.0} s: {} calls in {} sequences, {} records sent again, {damaged} calls on damaged states",
+        begun.elapsed().as_secs_f64(),
+        depth.calls,
+        depth.sequences,
+        depth.replays
+    )
+}
+
+/// Sequences on every core, two of them with replays, and damage to the state that one of them ends in.
+fn soak_round(
+    seed: u64,
+    sequences: usize,
+    depth: &mut Depth,
+    damaged: &mut u64,
+) -> Result<(), String> {
+    let plan = Plan {
+        calls: SEQUENCE,
+        replays: false,
+    };
+    for (seeds, plan) in [
+        (seeds(seed, sequences), plan),
+        (seeds(!seed, 2), REPLAYED_PLAN),
+    ] {
+        let (counted, failure) = run_all(&seeds, plan);
+        depth.add(&counted);
+        if let Some(failure) = failure {
+            return Err(explain("random sequences", failure));
+        }
+    }
+    let reached = sequence::run(seed, plan, depth);
+    let pair = reached.map_err(|failure| explain("random sequences", (seed, *failure)))?;
+    *damaged += damage::soak(pair.archive.state(), &mut Random::new(seed))?;
+    Ok(())
+}
+
+/// Runs one sequence again, with replays.
+pub fn replay(seed: u64) -> ExitCode {
+    let plan = Plan {
+        calls: SEQUENCE,
+        replays: true,
+    };
+    let mut report = Report::default();
+    let mut depth = Depth::default();
+    let outcome = sequence::run(seed, plan, &mut depth);
+    let title = format!("sequence {seed}: {} calls", depth.calls);
+    report.judge(match outcome {
+        Ok(_) => Ok(title),
+        Err(failure) => Err(explain(&title, (seed, *failure))),
+    });
+    report.finish()
+}

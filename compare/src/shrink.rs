@@ -1,0 +1,388 @@
+//! Makes a sequence that shows an error as short and as plain as it gets, while it still shows one.
+
+use crate::call::{Bytes, Call};
+use crate::sequence::{Failure, Sequence};
+use crate::sides::Pair;
+use slavotuk::entries::RawClaim;
+use slavotuk_model::layout::{self, STATE_LENGTH};
+use slavotuk_model::module::{Module, SESSIONS};
+
+/// The failure with its sequence made short and plain.
+pub fn shrink(mut failure: Failure) -> Failure {
+    failure.sequence.calls.truncate(failure.found.at + 1);
+    loop {
+        let before = failure.sequence.clone();
+        remove_calls(&mut failure);
+        plainer_lent(&mut failure);
+        plainer_names(&mut failure);
+        plainer_sessions(&mut failure);
+        plainer_arguments(&mut failure);
+        if failure.sequence == before {
+            return failure;
+        }
+    }
+}
+
+/// Takes the sequence over if it shows an error too.
+fn accept(failure: &mut Failure, mut tried: Sequence) -> bool {
+    if tried == failure.sequence {
+        return false;
+    }
+    match (failure.test)(&tried) {
+        Some(found) => {
+            tried.calls.truncate(found.at + 1);
+            failure.sequence = tried;
+            failure.found = found;
+            true
+        }
+        None => false,
+    }
+}
+
+/// Removes parts, from halves down to single calls.
+fn remove_calls(failure: &mut Failure) {
+    let mut size = (failure.sequence.calls.len() / 2).max(1);
+    loop {
+        let mut end = failure.sequence.calls.len();
+        while end > 0 {
+            let begin = end.saturating_sub(size);
+            let _ = accept(failure, without(&failure.sequence, begin, end))
+                || accept(failure, renumbered(&failure.sequence, begin, end));
+            end = begin.min(failure.sequence.calls.len());
+        }
+        if size == 1 {
+            return;
+        }
+        size /= 2;
+    }
+}
+
+fn without(sequence: &Sequence, begin: usize, end: usize) -> Sequence {
+    let mut shorter = sequence.clone();
+    shorter.calls.drain(begin..end);
+    shorter
+}
+
+/// Without the calls, and the later numbers of their credentials lowered by as many records as are gone.
+fn renumbered(sequence: &Sequence, begin: usize, end: usize) -> Sequence {
+    let mut shorter = without(sequence, begin, end);
+    for gone in &sequence.calls[begin..end] {
+        let Some((_, credential, _)) = gone.user_claim() else {
+            continue;
+        };
+        for call in &mut shorter.calls[begin..] {
+            let same = call.user_claim().map(|claim| claim.1) == Some(credential);
+            if let (true, Some(number)) = (same, call.number_mut()) {
+                *number = number.saturating_sub(1);
+            }
+        }
+    }
+    shorter
+}
+
+/// Zero bytes, or fewer processes.
+fn plainer_lent(failure: &mut Failure) {
+    let mut tried = failure.sequence.clone();
+    tried.lent = vec![0; STATE_LENGTH];
+    if accept(failure, tried) {
+        return;
+    }
+    let mut place = 0;
+    while let Some(mut module) = layout::read(&failure.sequence.lent) {
+        if place >= module.processes.len() {
+            return;
+        }
+        module.processes.remove(place);
+        let mut tried = failure.sequence.clone();
+        tried.lent = layout::write(&module);
+        if !accept(failure, tried) {
+            place += 1;
+        }
+    }
+}
+
+/// Each name becomes one byte 48 times, or zeros with its own last byte.
+fn plainer_names(failure: &mut Failure) {
+    let mut names: Vec<Vec<u8>> = Vec::new();
+    for call in &mut failure.sequence.calls.clone() {
+        if let Some(name) = call.name_mut() {
+            if !name.is_empty() && !names.contains(name) {
+                names.push(name.clone());
+            }
+        }
+    }
+    for (at, name) in names.iter().enumerate() {
+        let byte = at as u8 + 1;
+        let mut zeros = vec![0; name.len()];
+        zeros[name.len() - 1] = byte;
+        for plainer in [vec![byte; name.len()], zeros] {
+            if runs(&plainer) < runs(name)
+                && accept(failure, with_name(&failure.sequence, name, &plainer))
+            {
+                break;
+            }
+        }
+    }
+}
+
+/// How many runs of equal bytes there are.
+fn runs(bytes: &[u8]) -> usize {
+    1 + bytes.windows(2).filter(|pair| pair[0] != pair[1]).count()
+}
+
+fn with_name(sequence: &Sequence, from: &[u8], to: &[u8]) -> Sequence {
+    let mut changed = sequence.clone();
+    let names = changed.calls.iter_mut().filter_map(Call::name_mut);
+    for name in names.filter(|name| *name == from) {
+        *name = to.to_vec();
+    }
+    changed
+}
+
+fn plainer_sessions(failure: &mut Failure) {
+    for from in (1..SESSIONS as u32).rev() {
+        for to in 0..from {
+            let mut tried = failure.sequence.clone();
+            let sessions = tried.calls.iter_mut().filter_map(Call::session_mut);
+            for session in sessions.filter(|session| **session == from) {
+                *session = to;
+            }
+            if accept(failure, tried) {
+                break;
+            }
+        }
+    }
+}
+
+fn plainer_arguments(failure: &mut Failure) {
+    let mut at = 0;
+    while at < failure.sequence.calls.len() {
+        let accepted = plainer_calls(&failure.sequence.calls[at])
+            .into_iter()
+            .any(|plainer| {
+                let mut tried = failure.sequence.clone();
+                tried.calls[at] = plainer;
+                accept(failure, tried)
+            });
+        at += usize::from(!accepted);
+    }
+}
+
+/// Calls a little plainer than this one, the plainest first. None leads back to it, so that shrinking ends.
+fn plainer_calls(call: &Call) -> Vec<Call> {
+    let change = |edit: &dyn Fn(&mut Call)| {
+        let mut changed = call.clone();
+        edit(&mut changed);
+        changed
+    };
+    let mut plainer = vec![change(&plain_elevated_claim)];
+    match call {
+        Call::Fresh { provisioned, words } => {
+            for (at, held) in provisioned.iter().zip(words).enumerate() {
+                let held = (*held.0, *held.1);
+                let pairs = [(0, 0), (1, 0), (1, 15), (1, 16), (1, 31)];
+                for pair in pairs.into_iter().take_while(|pair| *pair != held) {
+                    plainer.push(change(&|call| set_pair(call, at, pair)));
+                }
+            }
+        }
+        Call::Record { .. } => plainer.push(change(&|call| set_class(call, 4))),
+        Call::List { response, .. } => {
+            let room = response.len();
+            let rooms = [0, 4, room / 2, room.saturating_sub(1), room];
+            for room in rooms.into_iter().filter(|tried| *tried <= room) {
+                plainer.push(change(&|call| set_room(call, room)));
+            }
+        }
+        Call::SetWord { word, .. } => {
+            for plain in [0, 15, 16, 31]
+                .into_iter()
+                .take_while(|plain| plain != word)
+            {
+                plainer.push(change(&|call| set_word(call, plain)));
+            }
+        }
+        _ => {}
+    }
+    plainer
+}
+
+fn plain_elevated_claim(call: &mut Call) {
+    if let Call::Record { claim, .. }
+    | Call::List { claim, .. }
+    | Call::Kill { claim, .. }
+    | Call::SetWord { claim, .. } = call
+    {
+        if claim.kind == 1 {
+            *claim = RawClaim {
+                kind: 1,
+                credential: 0,
+                number: 0,
+                verdict: 0,
+            };
+        }
+    }
+}
+
+fn set_pair(call: &mut Call, at: usize, pair: (u8, u32)) {
+    if let Call::Fresh { provisioned, words } = call {
+        (provisioned[at], words[at]) = pair;
+    }
+}
+
+fn set_class(call: &mut Call, plain: u32) {
+    if let Call::Record { class, .. } = call {
+        *class = plain;
+    }
+}
+
+fn set_room(call: &mut Call, room: usize) {
+    if let Call::List {
+        response, length, ..
+    } = call
+    {
+        *response = vec![0xee; room];
+        *length = 0;
+    }
+}
+
+fn set_word(call: &mut Call, plain: u32) {
+    if let Call::SetWord { word, .. } = call {
+        *word = plain;
+    }
+}
+
+/// The failure, a call on each line with its number.
+pub fn describe(failure: &Failure) -> Vec<String> {
+    let mut pair = Pair::of(&failure.sequence.lent);
+    let mut lines = describe_lent(&failure.sequence.lent);
+    for (at, call) in failure.sequence.calls.iter().enumerate() {
+        let answered = pair.call(call);
+        if at == failure.found.at {
+            lines.push(format!("{call}: {}", failure.found.what));
+        } else if let Ok(answer) = answered {
+            lines.push(format!("{call}: {}", answer.number));
+        }
+    }
+    lines
+}
+
+fn describe_lent(lent: &[u8]) -> Vec<String> {
+    match layout::read(lent) {
+        Some(module) if module == Module::fresh([(false, 0); 8]) => {
+            vec!["lent: 681 zero bytes".to_string()]
+        }
+        Some(module) => {
+            let mut lines = vec![format!("lent: sessions {:?}", module.sessions)];
+            for (number, credential) in module.credentials.iter().enumerate() {
+                if credential.provisioned {
+                    lines.push(format!(
+                        "lent: credential {number}, word {:#x}",
+                        credential.word
+                    ));
+                }
+            }
+            for process in &module.processes {
+                let name = Bytes(&process.name);
+                let (credential, kind) = (process.credential, process.kind);
+                lines.push(format!(
+                    "lent: process of credential {credential}, {kind:?}, name {name}"
+                ));
+            }
+            lines
+        }
+        None => vec![format!("lent: {}", Bytes(lent))],
+    }
+}
+
+#[cfg(test)]
+mod tests {
+    use super::*;
+    use crate::call::ENTRY_NAMES;
+    use crate::depth::Depth;
+    use crate::generate::Generator;
+    use crate::sequence::Found;
+
+    /// A sequence is called wrong where some process was saved; no side need be broken for that.
+    fn find_save(sequence: &Sequence) -> Option<Found> {
+        let mut pair = Pair::of(&sequence.lent);
+        for (at, call) in sequence.calls.iter().enumerate() {
+            let answer = pair.call(call).ok()?;
+            if matches!(call, Call::End { keep: 1, .. }) && answer.number == 0 {
+                let what = "saved".to_string();
+                return Some(Found { at, what });
+            }
+        }
+        None
+    }
+
+    fn drawn(seed: u64, length: usize) -> Sequence {
+        let mut generator = Generator::new(seed);
+        let lent = generator.lent();
+        let mut pair = Pair::of(&lent);
+        let mut calls = Vec::new();
+        for _ in 0..length {
+            let call = generator.next(pair.module());
+            let _ = pair.call(&call);
+            calls.push(call);
+        }
+        Sequence { lent, calls }
+    }
+
+    /// From a fresh module it takes fresh, open, select, start and end; two calls more where the word is first given by another's set word.
+    #[test]
+    fn a_save_takes_few_calls() {
+        let mut lengths = Vec::new();
+        for seed in 0..20 {
+            let sequence = drawn(seed, 400);
+            let Some(found) = find_save(&sequence) else {
+                continue;
+            };
+            let shrunk = shrink(Failure {
+                sequence,
+                found,
+                test: find_save,
+            });
+            let calls = &shrunk.sequence.calls;
+            assert_eq!(find_save(&shrunk.sequence), Some(shrunk.found));
+            assert_eq!(
+                calls.last().map(|call| ENTRY_NAMES[call.entry()]),
+                Some("end")
+            );
+            lengths.push(calls.len());
+        }
+        assert!(lengths.len() >= 10, "{lengths:?}");
+        assert!(lengths.iter().all(|length| *length <= 7), "{lengths:?}");
+        assert!(lengths.contains(&5), "{lengths:?}");
+    }
+
+    #[test]
+    fn a_sequence_without_an_error_has_none_found() {
+        assert_eq!(crate::sequence::find_difference(&drawn(3, 300)), None);
+        assert_eq!(crate::sequence::find_replay(&drawn(3, 300)), None);
+        let plan = crate::sequence::Plan {
+            calls: 300,
+            replays: true,
+        };
+        assert!(crate::sequence::run(3, plan, &mut Depth::default()).is_ok());
+    }
+
+    #[test]
+    fn later_numbers_are_lowered_with_the_records_before_them() {
+        let record = |credential, number| Call::End {
+            session: 0,
+            credential,
+            number,
+            verdict: 1,
+            keep: 1,
+        };
+        let sequence = Sequence {
+            lent: Vec::new(),
+            calls: vec![record(0, 0), record(1, 0), record(0, 1), record(1, 1)],
+        };
+        assert_eq!(
+            renumbered(&sequence, 0, 1).calls,
+            [record(1, 0), record(0, 0), record(1, 1)]
+        );
+    }
+}
