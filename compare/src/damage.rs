@@ -10,13 +10,23 @@ use slavotuk_model::layout::{self, COUNT_AT, STATE_LENGTH};
 use slavotuk_model::module::{Kind, CREDENTIALS, PLACES};
 use slavotuk_model::Module;
 
-/// How many states of twelve processes are damaged, beside the three plain ones.
+/// How many states of twelve processes are damaged, beside the plain ones.
 const DEEP_STATES: usize = 5;
+const PLAIN_STATES: usize = 3;
+
+/// Sequences that are drawn to reach them.
+const DRAWN: usize = 2_000;
 
 /// Every byte of several states at each of 256 values, every length, pairs of bytes, random bytes.
 pub fn test(seed: u64, report: &mut Report) {
     let mut random = Random::new(seed);
     let states = states(&mut random);
+    if states.len() < PLAIN_STATES + DEEP_STATES {
+        let reached = states.len() - PLAIN_STATES;
+        report.judge(Err(format!(
+            "{reached} of {DEEP_STATES} states of twelve processes were reached"
+        )));
+    }
     for (name, state) in &states {
         report.judge(every_byte(name, state, &mut random));
     }
@@ -43,9 +53,10 @@ fn states(random: &mut Random) -> Vec<(String, Vec<u8>)> {
         ("fresh".to_string(), layout::write(&fresh)),
         ("example of docs/STATE.md".to_string(), example()),
     ];
-    for number in 1..=DEEP_STATES {
-        let name = format!("twelve processes, state {number}");
-        states.push((name, layout::write(&deep_state(random))));
+    let reached = (0..DRAWN).filter_map(|_| deep_state(random.next()));
+    for (at, module) in reached.take(DEEP_STATES).enumerate() {
+        let name = format!("twelve processes, state {}", at + 1);
+        states.push((name, layout::write(&module)));
     }
     states
 }
@@ -65,20 +76,14 @@ fn example() -> Vec<u8> {
     bytes
 }
 
-/// A state that a random sequence reached, with twelve processes of all three types.
-fn deep_state(random: &mut Random) -> Module {
+/// The state that the seed's sequence ends in, if it has twelve processes of all three types.
+fn deep_state(seed: u64) -> Option<Module> {
     let plan = Plan {
         calls: 300,
         replays: false,
     };
-    loop {
-        let reached = run(random.next(), plan, &mut Depth::default());
-        let Ok(pair) = reached else { continue };
-        match pair.module() {
-            Some(module) if is_deep(module) => return module.clone(),
-            _ => {}
-        }
-    }
+    let pair = run(seed, plan, &mut Depth::default()).ok()?;
+    pair.module().filter(|module| is_deep(module)).cloned()
 }
 
 fn is_deep(module: &Module) -> bool {
