@@ -151,8 +151,8 @@ fault 'the reserved byte of a request is looked at' messages.rs '[GET_AUTH_PROCE
 fault 'the reserved byte of a listing is looked at' messages.rs '[AUTH_PROCESSES, _, low' '[AUTH_PROCESSES, 0, low'
 fault 'the last type is not looked at' messages.rs 'rows.chunks(ROW_LENGTH).any' 'rows.chunks(ROW_LENGTH).rev().skip(1).any'
 fault 'a type of 3' messages.rs 'row[2] > 2' 'row[2] > 3'
-fault 'a longer listing' messages.rs 'rows.len() == ROW_LENGTH * usize::from(count)' 'rows.len() >= ROW_LENGTH * usize::from(count)'
-fault 'a row past the last' messages.rs 'place < usize::from(count)' 'place <= usize::from(count) && count > 0 && { let place = place - 1; place < usize::from(count) }'
+fault 'a listing of a row more' messages.rs 'rows.len() == ROW_LENGTH * usize::from(count)' 'rows.len().saturating_sub(ROW_LENGTH) == ROW_LENGTH * usize::from(count)'
+fault 'refuses the last row' messages.rs 'place < usize::from(count)' 'place < usize::from(count).saturating_sub(1)'
 fault 'a count of 8 bits' messages.rs 'let count = u16::from_le_bytes([*low, *high]);' 'let count = u16::from_le_bytes([*low, *high - *high]);'
 
 echo "$passed passed, $failed failed"
