@@ -1,4 +1,4 @@
-.PHONY: help run lib test soak bench tools clean
+.PHONY: help run lib test soak faults bench tools clean
 
 SHELL := bash
 .SHELLFLAGS := -o pipefail -c
@@ -12,6 +12,7 @@ help:
 	@echo "make lib      proves the module, and puts the archives and slavotuk.h into $(LIB)"
 	@echo "make test     the proofs, the wrong builds and the hosts' tests; its last line is 'N passed, 0 failed'"
 	@echo "make soak     the compiled module against the model, until it is stopped; make soak TIME=600 for so many seconds"
+	@echo "make faults   breaks the model in some fifty ways and asks that the comparison tells"
 	@echo "make bench    the record entry against ordinary Rust"
 	@echo "make clean    removes what these have built"
 
@@ -40,6 +41,9 @@ test: tools
 
 soak: lib
 	@$(CARGO) slavotuk-compare -- soak $(if $(TIME),--seconds $(TIME),--forever)
+
+faults: lib
+	@tests/faults
 
 bench: lib
 	@$(CARGO) slavotuk-bench
