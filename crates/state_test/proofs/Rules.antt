@@ -1,6 +1,6 @@
 -- The laws that close the needs of this crate's functions by `search rules`: each premise is as a place's record has it.
 -- Assumes nothing.
-use Prim.Native.Nat.{ℕ, zero, suc, _+_, _-_, _*_, _<_, _≤_}
+use Prim.Native.Nat.{ℕ, zero, suc, _+_, _-_, _*_, _<_, _≤_, _%_}
 use mathlib.Core.Path.{_≡_, refl, sym, ap, _∙_}
 use mathlib.Core.Bool.{Bool, true, false, _&&_, _||_, not}
 use mathlib.Core.List.{List, [], _∷_, _++_, map}
@@ -9,22 +9,26 @@ use native.Mathlib.Nat.{add-zero}
 use native.Mathlib.Numerals.{add-one}
 use borrow.Author.Needs.{needs}
 use borrow.Author.Tests.{eqb-true, eqb-false, eq-eqb, ne-eqb, le-leb, lt-leb, not-true, not-false}
+use lib.Bits.{bitXor, bitOr}
 use lib.Dec.{eqb, leb}
-use lib.ListN.{length, take, drop, getD, List·getD-eq-default, length-map, length-take, length-drop, take-append-drop, drop-of-length-le}
-use lib.Seq.{drop-cons, drop-drop, getD-drop, getD-take, take-all}
+use lib.ListN.{length, take, drop, getD, List·getD-eq-default, length-map, length-take, length-drop, take-append-drop, drop-of-length-le, replicate, length-replicate, set, length-set}
+use lib.Seq.{getD-set-same, drop-cons, drop-drop, getD-drop, getD-take, take-all}
 use Rattle.lists.specs.Bytes.{number}
 use Rattle.lists.proofs.Lists.{length-mapped}
-use Rattle.lists.proofs.Tests.{split}
+use Rattle.lists.specs.Each.{Each, each-nil, each-cons}
+use Rattle.lists.proofs.Tests.{split, clash, and-left, and-right, and-both}
 use Rattle.codec.specs.Codec.{rows, every, pairwise, isZero, Widened}
-use Rattle.codec.proofs.Codec.{rows-length, rows-take, map-take}
-use Rattle.codec.proofs.Loops.{RowsTo, rows-begin, rows-on, rows-fail, rows-all, RecordsTo, records-begin, records-on, records-fail, records-all, zero-begin, zero-on, zero-all, map-part, and-assoc, and-true, and-false, paired-begin, paired-on, paired-fail, paired-all}
+use Rattle.codec.proofs.Codec.{rows-length, rows-take, map-take, map-drop, row-at, each-imp}
+use Rattle.codec.proofs.Loops.{RowsTo, rows-begin, rows-on, rows-fail, rows-all, RecordsTo, records-begin, records-on, records-fail, records-all, zero-begin, zero-on, zero-all, or-zero, map-part, and-assoc, and-true, and-false}
 use Rattle.names.specs.Names.{sameBytes, sameName, kindOf}
+use Rattle.names.proofs.Laws.{same-iff}
 use Rattle.names.specs.declared.Kind.the-variants.{Saved}
 use Rattle.table.specs.Table.{standing, freePlace, isUser, isElevation, isActive, isActiveIn}
 use Rattle.table.specs.declared.Process.{Process}
 use Rattle.claims.specs.Module.{closedSession, unprovisioned, provisioned, phaseOf, isChosen}
 use Rattle.claims.specs.declared.Grants.{Grants}
 use Rattle.layout.specs.Layout.{phaseNumbered, sessionOf, sessionFits, grantsOf, grantsFit, keptZero, processOf, processFits, countIn, placesIn, stateOf, isOwned, areRivals, areApart, sound, shaped, holdsState}
+use Rattle.state_test.specs.Marks.{folded, nameMark, seatNumbered, seatMark, Mark, Met}
 use Rattle.layout.proofs.Laws.{state-in}
 use Rattle.layout.proofs.Parts.{grants-part, place-part, next-in}
 
@@ -234,6 +238,208 @@ module _ (a b : List ℕ) where
     unfolding areApart processOf sameName
     apart-name t f = rw (← e, t, f)
 
+-- ---- marks: of the name, byte by byte
+pub record FoldedTo (row : List ℕ) (d i : ℕ) : Type 0 where
+  pub low : i ≤ 53
+  pub long : length row ≡ 53
+  pub rest : nameMark row ≡ folded d (drop i row) % 128
+
+pub folded-begin : (row : List ℕ) → length row ≡ 53 → FoldedTo row 0 5
+unfolding nameMark
+folded-begin row h = record { low = omega arith; long = h; rest = refl }
+
+pub folded-on : {row : List ℕ} {d i : ℕ} → FoldedTo row d i → i < 53 → FoldedTo row (bitXor d (getD row i 0)) (i + 1)
+unfolding folded
+folded-on {row} {d} {i} v h =
+    let k : i < length row = omega arith in
+    record { low = omega arith; long = v .long; rest = v .rest ∙ rw (drop-cons row i 0 k, add-one) }
+
+pub folded-all : {row : List ℕ} {d i r : ℕ} → FoldedTo row d i → 53 ≤ i → Widened d r → Mark (nameMark row) (r % 128)
+unfolding folded
+folded-all {row} {d} {i} {r} v h w =
+    let k : length row ≤ i = omega (arith, v .long) in
+    record { is = sym (v .rest ∙ rw (drop-of-length-le row k, w .is)); small = omega arith }
+
+-- of the seat, by the type
+module _ (row : List ℕ) {s : ℕ} (t : Widened (getD row 2 0) s) where
+  pub seat-user : {c : ℕ} → Widened (getD row 0 0) c → getD row 1 0 ≡ 0 → Mark (seatMark row) (128 + s % 4 * 8 + c % 8)
+  unfolding seatMark
+  seat-user {c} w e = record { is = rw (e, t .is, w .is); small = omega arith }
+
+  pub seat-elevation : getD row 1 0 ≡ 1 → Mark (seatMark row) (160 + s % 4)
+  unfolding seatMark
+  seat-elevation e = record { is = rw (e, t .is); small = omega arith }
+
+seat-named : (k s c name : ℕ) → (k ≡ 0 → ⊥) → (k ≡ 1 → ⊥) → seatNumbered k s c name ≡ name
+seat-named zero s c name n m = absurd (n refl)
+seat-named (suc zero) s c name n m = absurd (m refl)
+seat-named (suc (suc k)) s c name n m = refl
+
+pub seat-saved : (row : List ℕ) {name : ℕ} → Mark (nameMark row) name → (getD row 1 0 ≡ 0 → ⊥) → (getD row 1 0 ≡ 1 → ⊥) → Mark (seatMark row) name
+unfolding seatMark
+seat-saved row m n o =
+    record { is = m .is ∙ sym (seat-named (getD row 1 0) (getD row 2 0) (getD row 0 0) (nameMark row) n o); small = m .small }
+
+-- rivals have one seat
+or-false : (b : Bool) → (b || false) ≡ b
+or-false true = refl
+or-false false = refl
+
+rivalry-seat : (k l s t c d x y : ℕ) → rivalry k l (eqb t s) (eqb d c) ≡ true → seatNumbered k s c x ≡ seatNumbered l t d y
+rivalry-seat zero zero s t c d x y e =
+    let q : (eqb t s && eqb d c) ≡ true = sym (or-false (eqb t s && eqb d c)) ∙ e in
+    rw (eqb-true t s (and-left (eqb t s) (eqb d c) q), eqb-true d c (and-right (eqb t s) (eqb d c) q))
+rivalry-seat zero (suc zero) s t c d x y e = clash e refl
+rivalry-seat zero (suc (suc l)) s t c d x y e = clash e refl
+rivalry-seat (suc zero) zero s t c d x y e = clash e refl
+rivalry-seat (suc zero) (suc zero) s t c d x y e = rw (eqb-true t s e)
+rivalry-seat (suc zero) (suc (suc l)) s t c d x y e = clash e refl
+rivalry-seat (suc (suc k)) l s t c d x y e = clash e refl
+
+module _ (a b : List ℕ) where
+  rivals-seat : areRivals (processOf a) (processOf b) ≡ true → seatMark a ≡ seatMark b
+  unfolding seatMark
+  rivals-seat e = rivalry-seat (getD a 1 0) (getD b 1 0) (getD a 2 0) (getD b 2 0) (getD a 0 0) (getD b 0 0) (nameMark a) (nameMark b) (sym (rivals-are a b) ∙ e)
+
+  same-mark : sameName (processOf a .name) (processOf b .name) ≡ true → nameMark a ≡ nameMark b
+  unfolding nameMark processOf
+  same-mark e = ap (λ (l : List ℕ). folded 0 l % 128) (same-iff (processOf a .name) (processOf b .name) .0 e)
+
+  marks-differ : (seatMark a ≡ seatMark b → ⊥) → (nameMark a ≡ nameMark b → ⊥) → areApart (processOf a) (processOf b) ≡ true
+  unfolding areApart
+  marks-differ n m =
+      split (areRivals (processOf a) (processOf b))
+      (λ e. absurd (n (rivals-seat e)))
+      (λ e. split (sameName (processOf a .name) (processOf b .name)) (λ f. absurd (m (same-mark f))) (λ f. rw (e, f)))
+
+-- ---- the table of marks: those of the places from i on, which are apart from each other
+abbrev firstRows : ℕ → List ℕ → List (List ℕ)
+firstRows n s = rows n 53 (drop 45 s)
+
+abbrev firstPlaces : ℕ → List ℕ → List Process
+firstPlaces n s = map processOf (firstRows n s)
+
+pub record IsMarked (marks row : List ℕ) : Type 0 where
+  pub seat : getD marks (seatMark row) 0 ≡ 1
+  pub name : getD marks (nameMark row) 0 ≡ 1
+
+pub record Marked (s : List ℕ) (n : ℕ) (marks : List ℕ) (i : ℕ) : Type 0 where
+  pub low : i ≤ n
+  pub long : length marks ≡ 164
+  pub each : Each (IsMarked marks) (drop i (firstRows n s))
+  pub apart : pairwise areApart (drop i (firstPlaces n s)) ≡ true
+
+pub marks-begin : (s : List ℕ) (n : ℕ) → Marked s n (replicate 164 0) n
+unfolding pairwise
+marks-begin s n =
+    let l : length (firstRows n s) ≤ n = omega (arith, rows-length n 53 (drop 45 s)) in
+    let m : length (firstPlaces n s) ≤ n = rw length-map l in
+    let z : ℕ = 0 in
+    record {
+      low = omega arith;
+      long = length-replicate 164 z;
+      each = rw (drop-of-length-le (firstRows n s) l) each-nil;
+      apart = rw (drop-of-length-le (firstPlaces n s) m);
+    }
+
+-- a mark stays when another is set
+set-one : (l : List ℕ) (k j : ℕ) → getD l j 0 ≡ 1 → getD (set l k 1) j 0 ≡ 1
+set-one [] k j e = e
+set-one (x ∷ l) zero zero e = refl
+set-one (x ∷ l) zero (suc j) e = e
+set-one (x ∷ l) (suc k) zero e = e
+set-one (x ∷ l) (suc k) (suc j) e = set-one l k j e
+
+marked-on : (marks : List ℕ) (x y : ℕ) (row : List ℕ) → IsMarked marks row → IsMarked (set (set marks x 1) y 1) row
+marked-on marks x y row m =
+    record {
+      seat = set-one (set marks x 1) y (seatMark row) (set-one marks x (seatMark row) (m .seat));
+      name = set-one (set marks x 1) y (nameMark row) (set-one marks x (nameMark row) (m .name));
+    }
+
+-- a place whose marks are not set is apart from each whose marks are
+clear-each : (marks row : List ℕ) → getD marks (seatMark row) 0 ≡ 0 → getD marks (nameMark row) 0 ≡ 0 → {l : List (List ℕ)} → Each (IsMarked marks) l → every (areApart (processOf row)) (map processOf l) ≡ true
+unfolding every
+clear-each marks row p q each-nil = refl
+clear-each marks row p q (each-cons {x} {l} m r) =
+    and-both
+    (marks-differ row x
+    (λ e. let z : getD marks (seatMark x) 0 ≡ 0 = rw (← e) p in omega (arith, m .seat))
+    (λ e. let z : getD marks (nameMark x) 0 ≡ 0 = rw (← e) q in omega (arith, m .name)))
+    (clear-each marks row p q r)
+
+pairwise-drop : {A : Type 0} (f : A → A → Bool) (k : ℕ) (l : List A) → pairwise f (drop k l) ≡ false → pairwise f l ≡ false
+unfolding pairwise
+pairwise-drop f zero l e = e
+pairwise-drop f (suc k) [] e = e
+pairwise-drop f (suc k) (x ∷ l) e = rw (pairwise-drop f k l e) (and-false (every (f x) l))
+
+-- the place before those: its row, and the test of it with each later one
+abbrev rowAt : List ℕ → ℕ → List ℕ
+rowAt s i = take (45 + i * 53 + 53 - (45 + i * 53)) (drop (45 + i * 53) s)
+
+abbrev laterApart : List ℕ → ℕ → ℕ → Bool
+laterApart s n i = every (areApart (getD (firstPlaces n s) i freePlace)) (drop (i + 1) (firstPlaces n s))
+
+module _ {s : List ℕ} {n : ℕ} {marks : List ℕ} {left : ℕ} (v : Marked s n marks left) (h : 0 < left) where
+  back : left - 1 + 1 ≡ left
+  back = omega arith
+
+  before : left - 1 < n
+  before = omega (arith, v .low)
+
+  row-before : drop (left - 1) (firstRows n s) ≡ rowAt s (left - 1) ∷ drop left (firstRows n s)
+  row-before =
+      let k : left - 1 < length (firstRows n s) = omega (arith, rows-length n 53 (drop 45 s), before) in
+      let w : 45 + (left - 1) * 53 + 53 - (45 + (left - 1) * 53) ≡ 53 = omega arith in
+      drop-cons (firstRows n s) (left - 1) [] k ∙ rw (← add-one (left - 1), back, w, row-at n 53 (drop 45 s) (left - 1) [] before, drop-drop ((left - 1) * 53) 45 s)
+
+  place-before : drop (left - 1) (firstPlaces n s) ≡ getD (firstPlaces n s) (left - 1) freePlace ∷ drop left (firstPlaces n s)
+  place-before =
+      let k : left - 1 < length (firstPlaces n s) = rw (length-map, rows-length) before in
+      drop-cons (firstPlaces n s) (left - 1) freePlace k ∙ rw (← add-one (left - 1), back)
+
+  pairs-before : pairwise areApart (drop (left - 1) (firstPlaces n s)) ≡ laterApart s n (left - 1)
+  unfolding pairwise
+  pairs-before = rw (place-before, v .apart, back) (and-true (every (areApart (getD (firstPlaces n s) (left - 1) freePlace)) (drop left (firstPlaces n s))))
+
+  module _ {x y : ℕ} (p : Mark (seatMark (rowAt s (left - 1))) x) (q : Mark (nameMark (rowAt s (left - 1))) y) where
+    pub marks-clear : Met (bitOr (getD marks x 0) (getD marks y 0)) (laterApart s n (left - 1))
+    marks-clear =
+        record {
+          none = λ e.
+              let z : (isZero (getD marks x 0) && isZero (getD marks y 0)) ≡ true =
+              sym (or-zero (getD marks x 0) (getD marks y 0)) ∙ eq-eqb (bitOr (getD marks x 0) (getD marks y 0)) 0 e
+              in
+              let f : getD marks (seatMark (rowAt s (left - 1))) 0 ≡ 0 = rw (← p .is) (eqb-true (getD marks x 0) 0 (and-left (isZero (getD marks x 0)) (isZero (getD marks y 0)) z)) in
+              let g : getD marks (nameMark (rowAt s (left - 1))) 0 ≡ 0 = rw (← q .is) (eqb-true (getD marks y 0) 0 (and-right (isZero (getD marks x 0)) (isZero (getD marks y 0)) z)) in
+              sym (rw (back, map-part processOf n 53 45 s (left - 1) freePlace before, map-drop processOf left (firstRows n s)) (clear-each marks (rowAt s (left - 1)) f g (v .each)));
+        }
+
+    pub marks-on : {b : Bool} → b ≡ laterApart s n (left - 1) → not b ≡ false → Marked s n (set (set marks x 1) y 1) (left - 1)
+    marks-on {b} e t =
+        let k : x < length marks = omega (arith, v .long, p .small) in
+        let l : length (set marks x 1) ≡ 164 = length-set marks x 1 ∙ v .long in
+        let m : y < length (set marks x 1) = omega (arith, l, q .small) in
+        let here : IsMarked (set (set marks x 1) y 1) (rowAt s (left - 1)) =
+        record { seat = rw (← p .is) (set-one (set marks x 1) y x (getD-set-same marks x 1 0 k)); name = rw (← q .is) (getD-set-same (set marks x 1) y 1 0 m) }
+        in
+        record {
+          low = omega (arith, v .low);
+          long = length-set (set marks x 1) y 1 ∙ l;
+          each = rw row-before (each-cons here (each-imp (marked-on marks x y) (v .each)));
+          apart = pairs-before ∙ sym e ∙ not-false b t;
+        }
+
+  pub marks-fail : {b : Bool} → b ≡ laterApart s n (left - 1) → not b ≡ true → false ≡ pairwise areApart (firstPlaces n s)
+  marks-fail {b} e t = sym (pairwise-drop areApart (left - 1) (firstPlaces n s) (pairs-before ∙ sym e ∙ not-true b t))
+
+pub marks-all : {s : List ℕ} {n : ℕ} {marks : List ℕ} {left : ℕ} → Marked s n marks left → left ≤ 0 → true ≡ pairwise areApart (firstPlaces n s)
+marks-all {s} {n} {marks} {left} v h = let z : left ≡ 0 = omega arith in sym (rw z at (v .apart))
+
+pub clear-none : {met : ℕ} {test : Bool} → Met met test → met ≡ 0 → true ≡ test
+clear-none m e = m .none e
+
 -- ---- an owner
 chosen-of : (b : ℕ) → isChosen (phaseNumbered b) ≡ eqb b 2
 unfolding isChosen
@@ -380,4 +586,4 @@ module _ (b : List ℕ) (h : length b ≡ 681) {n : ℕ} (w : Widened (getD b 44
               pub holds-pairs : not o ≡ false → {a : Bool} → a ≡ pairwise areApart (map processOf (rows n 53 (drop 45 b))) → a ≡ holdsState b
               holds-pairs l m = m ∙ sym (tests ∙ rw (← e, not-false p t, ← f, not-false q u, ← g, not-false r x, ← i, not-false z y, ← j, not-false o l))
 
-pub ruleset rules = (needs, length-mapped, grants-high, grants-on, grants-off, process-credential, process-type, process-session, process-user, process-elevation, process-saved, same-begin, same-all, name-first, name-second, name-third, rivals-elsewhere, rivals-other, rivals-users, rivals-last, apart-rivals, apart-name, owner-none, owner-not, owner-saved, owner-nowhere, owner-there, grants-part, place-part, session-on, session-fail, session-all, owned-fail, owned-all, apart-begin, apart-on, apart-fail, holds-short, holds-many, holds-sessions, holds-credentials, holds-places, holds-free, holds-owners, holds-pairs, zero-begin, zero-on, zero-all, rows-begin, rows-on, rows-fail, rows-all, records-begin, records-on, records-all, paired-begin, paired-on, paired-fail, paired-all)
+pub ruleset rules = (needs, length-mapped, grants-high, grants-on, grants-off, process-credential, process-type, process-session, process-user, process-elevation, process-saved, same-begin, same-all, name-first, name-second, name-third, rivals-elsewhere, rivals-other, rivals-users, rivals-last, apart-rivals, apart-name, owner-none, owner-not, owner-saved, owner-nowhere, owner-there, grants-part, place-part, session-on, session-fail, session-all, owned-fail, owned-all, apart-begin, apart-on, apart-fail, holds-short, holds-many, holds-sessions, holds-credentials, holds-places, holds-free, holds-owners, holds-pairs, zero-begin, zero-on, zero-all, rows-begin, rows-on, rows-fail, rows-all, records-begin, records-on, records-all, folded-begin, folded-on, folded-all, seat-user, seat-elevation, seat-saved, marks-begin, marks-clear, marks-on, marks-fail, marks-all, clear-none)

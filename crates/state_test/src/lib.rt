@@ -6,6 +6,7 @@ ghost use lib.ListN.{length, take, drop, getD};
 ghost use Rattle.codec.specs.Codec.{rows, every, pairwise, isZero};
 ghost use Rattle.names.specs.Names.{sameBytes};
 ghost use Rattle.table.specs.Table.{freePlace};
+ghost use Rattle.state_test.specs.Marks.{nameMark, seatMark, Mark, Met};
 ghost use Rattle.layout.specs.Layout.{sessionFits, grantsFit, processOf, processFits, stateOf, isOwned, areRivals, areApart, holdsState};
 
 // ---- bytes
@@ -172,6 +173,39 @@ fn all_owned(s: &[u8], n: usize) -> bool
     true
 }
 
+// ---- marks
+
+// The mark of a place's name. There is no exit, so that many bytes are read at a time.
+fn name_mark(row: &[u8]) -> usize
+    requires { ⌜ length (now row) ≡ 53 ⌝ }
+    ensures { λ r. ⌜ Mark (nameMark (now (row .entry))) r ⌝ }
+{
+    let mut d: u8 = 0;
+    let mut i: usize = 5;
+    while i < 53 {
+        d = d ^ row[i];
+        i += 1;
+    }
+    state_read::wide(d) % 128
+}
+
+// The mark of a place's seat: by remainders, so that any bytes have one.
+fn seat_mark(row: &[u8], name: usize) -> usize
+    requires { ⌜ length (now row) ≡ 53 ⌝ }
+    requires { ⌜ Mark (nameMark (now row)) name ⌝ }
+    ensures { λ r. ⌜ Mark (seatMark (now (row .entry))) r ⌝ }
+{
+    let kind = row[1];
+    let session = state_read::wide(row[2]) % 4;
+    if kind == 0 {
+        return 128 + session * 8 + state_read::wide(row[0]) % 8;
+    }
+    if kind == 1 {
+        return 160 + session;
+    }
+    name
+}
+
 // ---- pairs
 
 // Whether both places are the active user process of one session and credential, or both the elevation of one session.
@@ -243,17 +277,40 @@ fn is_apart(s: &[u8], n: usize, i: usize) -> bool
     true
 }
 
+// Whether the place at i is apart from each later one, where `met` is 0 if none of those has a mark of it: then none is compared.
+fn is_clear(s: &[u8], n: usize, i: usize, met: u8) -> bool
+    requires { ⌜ length (now s) ≡ 681 ⌝ }
+    requires { ⌜ n ≤ 12 ⌝ }
+    requires { ⌜ i < n ⌝ }
+    requires { ⌜ Met met (every (areApart (getD (map processOf (rows n 53 (drop 45 (now s)))) i freePlace)) (drop (i + 1) (map processOf (rows n 53 (drop 45 (now s)))))) ⌝ }
+    ensures { λ r. ⌜ r ≡ every (areApart (getD (map processOf (rows n 53 (drop 45 (now (s .entry))))) i freePlace)) (drop (i + 1) (map processOf (rows n 53 (drop 45 (now (s .entry)))))) ⌝ }
+{
+    if met == 0 {
+        return true;
+    }
+    is_apart(s, n, i)
+}
+
+// From the last place to the first, so that the marks are those of the later ones.
 fn all_apart(s: &[u8], n: usize) -> bool
     requires { ⌜ length (now s) ≡ 681 ⌝ }
     requires { ⌜ n ≤ 12 ⌝ }
     ensures { λ r. ⌜ r ≡ pairwise areApart (map processOf (rows n 53 (drop 45 (now (s .entry))))) ⌝ }
 {
-    let mut i: usize = 0;
-    while i < n {
-        if !is_apart(s, n, i) {
+    let mut marks: [u8; 164] = [0; 164];
+    let mut left = n;
+    while 0 < left {
+        let i = left - 1;
+        let a = 45 + i * 53;
+        let e = a + 53;
+        let name = name_mark(&s[a..e]);
+        let seat = seat_mark(&s[a..e], name);
+        if !is_clear(s, n, i, marks[seat] | marks[name]) {
             return false;
         }
-        i += 1;
+        marks[seat] = 1;
+        marks[name] = 1;
+        left = i;
     }
     true
 }
