@@ -12,14 +12,14 @@ use borrow.Author.Tests.{eqb-true, eqb-false, eq-eqb, ne-eqb, le-leb, lt-leb, no
 use lib.Bits.{bitXor, bitOr}
 use lib.Dec.{eqb, leb}
 use lib.ListN.{length, take, drop, getD, List·getD-eq-default, length-map, length-take, length-drop, take-append-drop, drop-of-length-le, replicate, length-replicate, set, length-set}
-use lib.Seq.{getD-set-same, drop-cons, drop-drop, getD-drop, getD-take, take-all}
+use lib.Seq.{getD-set-same, getD-set-other, drop-cons, drop-drop, getD-drop, getD-take, take-all}
 use Rattle.lists.specs.Bytes.{number}
 use Rattle.lists.proofs.Lists.{length-mapped}
 use Rattle.lists.specs.Each.{Each, each-nil, each-cons}
 use Rattle.lists.proofs.Tests.{split, clash, and-left, and-right, and-both}
 use Rattle.codec.specs.Codec.{rows, every, pairwise, isZero, Widened}
 use Rattle.codec.proofs.Codec.{rows-length, rows-take, map-take, map-drop, row-at, each-imp}
-use Rattle.codec.proofs.Loops.{RowsTo, rows-begin, rows-on, rows-fail, rows-all, RecordsTo, records-begin, records-on, records-fail, records-all, zero-begin, zero-on, zero-all, or-zero, map-part, and-assoc, and-true, and-false}
+use Rattle.codec.proofs.Loops.{RowsTo, rows-begin, rows-on, rows-fail, rows-all, RecordsTo, records-begin, records-on, records-fail, records-all, zero-begin, zero-on, zero-all, or-zero, map-part, and-assoc, and-true, and-false, paired-begin, paired-on, paired-fail, paired-all}
 use Rattle.names.specs.Names.{sameBytes, sameName, kindOf}
 use Rattle.names.proofs.Laws.{same-iff}
 use Rattle.names.specs.declared.Kind.the-variants.{Saved}
@@ -28,7 +28,7 @@ use Rattle.table.specs.declared.Process.{Process}
 use Rattle.claims.specs.Module.{closedSession, unprovisioned, provisioned, phaseOf, isChosen}
 use Rattle.claims.specs.declared.Grants.{Grants}
 use Rattle.layout.specs.Layout.{phaseNumbered, sessionOf, sessionFits, grantsOf, grantsFit, keptZero, processOf, processFits, countIn, placesIn, stateOf, isOwned, areRivals, areApart, sound, shaped, holdsState}
-use Rattle.state_test.specs.Marks.{folded, nameMark, seatNumbered, seatMark, Mark, Met}
+use Rattle.state_test.specs.Marks.{folded, nameMark, seatNumbered, seatMark, Mark, laterApart, Met, AllMet}
 use Rattle.layout.proofs.Laws.{state-in}
 use Rattle.layout.proofs.Parts.{grants-part, place-part, next-in}
 
@@ -312,34 +312,30 @@ module _ (a b : List ℕ) where
       (λ e. absurd (n (rivals-seat e)))
       (λ e. split (sameName (processOf a .name) (processOf b .name)) (λ f. absurd (m (same-mark f))) (λ f. rw (e, f)))
 
--- ---- the table of marks: those of the places from i on, which are apart from each other
-abbrev firstRows : ℕ → List ℕ → List (List ℕ)
-firstRows n s = rows n 53 (drop 45 s)
-
-abbrev firstPlaces : ℕ → List ℕ → List Process
-firstPlaces n s = map processOf (firstRows n s)
-
+-- ---- the table of marks: those of the places from i on
 pub record IsMarked (marks row : List ℕ) : Type 0 where
   pub seat : getD marks (seatMark row) 0 ≡ 1
   pub name : getD marks (nameMark row) 0 ≡ 1
 
-pub record Marked (s : List ℕ) (n : ℕ) (marks : List ℕ) (i : ℕ) : Type 0 where
+pub record MarkedTo (s : List ℕ) (n : ℕ) (met marks : List ℕ) (i : ℕ) : Type 0 where
   pub low : i ≤ n
+  pub few : n ≤ 12
+  pub wide : length met ≡ 12
   pub long : length marks ≡ 164
-  pub each : Each (IsMarked marks) (drop i (firstRows n s))
-  pub apart : pairwise areApart (drop i (firstPlaces n s)) ≡ true
+  pub each : Each (IsMarked marks) (drop i (rows n 53 (drop 45 s)))
+  pub told : (j : ℕ) → i ≤ j → j < n → Met (getD met j 0) (laterApart s n j)
 
-pub marks-begin : (s : List ℕ) (n : ℕ) → Marked s n (replicate 164 0) n
-unfolding pairwise
-marks-begin s n =
-    let l : length (firstRows n s) ≤ n = omega (arith, rows-length n 53 (drop 45 s)) in
-    let m : length (firstPlaces n s) ≤ n = rw length-map l in
+pub marks-begin : (s : List ℕ) (n : ℕ) → n ≤ 12 → MarkedTo s n (replicate 12 0) (replicate 164 0) n
+marks-begin s n h =
+    let l : length (rows n 53 (drop 45 s)) ≤ n = omega (arith, rows-length n 53 (drop 45 s)) in
     let z : ℕ = 0 in
     record {
       low = omega arith;
+      few = h;
+      wide = length-replicate 12 z;
       long = length-replicate 164 z;
-      each = rw (drop-of-length-le (firstRows n s) l) each-nil;
-      apart = rw (drop-of-length-le (firstPlaces n s) m);
+      each = rw (drop-of-length-le (rows n 53 (drop 45 s)) l) each-nil;
+      told = λ j p q. absurd (omega arith);
     }
 
 -- a mark stays when another is set
@@ -368,44 +364,26 @@ clear-each marks row p q (each-cons {x} {l} m r) =
     (λ e. let z : getD marks (nameMark x) 0 ≡ 0 = rw (← e) q in omega (arith, m .name)))
     (clear-each marks row p q r)
 
-pairwise-drop : {A : Type 0} (f : A → A → Bool) (k : ℕ) (l : List A) → pairwise f (drop k l) ≡ false → pairwise f l ≡ false
-unfolding pairwise
-pairwise-drop f zero l e = e
-pairwise-drop f (suc k) [] e = e
-pairwise-drop f (suc k) (x ∷ l) e = rw (pairwise-drop f k l e) (and-false (every (f x) l))
-
--- the place before those: its row, and the test of it with each later one
+-- the row of the place before those
 abbrev rowAt : List ℕ → ℕ → List ℕ
 rowAt s i = take (45 + i * 53 + 53 - (45 + i * 53)) (drop (45 + i * 53) s)
 
-abbrev laterApart : List ℕ → ℕ → ℕ → Bool
-laterApart s n i = every (areApart (getD (firstPlaces n s) i freePlace)) (drop (i + 1) (firstPlaces n s))
-
-module _ {s : List ℕ} {n : ℕ} {marks : List ℕ} {left : ℕ} (v : Marked s n marks left) (h : 0 < left) where
+module _ {s : List ℕ} {n : ℕ} {met marks : List ℕ} {left : ℕ} (v : MarkedTo s n met marks left) (h : 0 < left) where
   back : left - 1 + 1 ≡ left
   back = omega arith
 
   before : left - 1 < n
   before = omega (arith, v .low)
 
-  row-before : drop (left - 1) (firstRows n s) ≡ rowAt s (left - 1) ∷ drop left (firstRows n s)
+  row-before : drop (left - 1) (rows n 53 (drop 45 s)) ≡ rowAt s (left - 1) ∷ drop left (rows n 53 (drop 45 s))
   row-before =
-      let k : left - 1 < length (firstRows n s) = omega (arith, rows-length n 53 (drop 45 s), before) in
+      let k : left - 1 < length (rows n 53 (drop 45 s)) = omega (arith, rows-length n 53 (drop 45 s), before) in
       let w : 45 + (left - 1) * 53 + 53 - (45 + (left - 1) * 53) ≡ 53 = omega arith in
-      drop-cons (firstRows n s) (left - 1) [] k ∙ rw (← add-one (left - 1), back, w, row-at n 53 (drop 45 s) (left - 1) [] before, drop-drop ((left - 1) * 53) 45 s)
-
-  place-before : drop (left - 1) (firstPlaces n s) ≡ getD (firstPlaces n s) (left - 1) freePlace ∷ drop left (firstPlaces n s)
-  place-before =
-      let k : left - 1 < length (firstPlaces n s) = rw (length-map, rows-length) before in
-      drop-cons (firstPlaces n s) (left - 1) freePlace k ∙ rw (← add-one (left - 1), back)
-
-  pairs-before : pairwise areApart (drop (left - 1) (firstPlaces n s)) ≡ laterApart s n (left - 1)
-  unfolding pairwise
-  pairs-before = rw (place-before, v .apart, back) (and-true (every (areApart (getD (firstPlaces n s) (left - 1) freePlace)) (drop left (firstPlaces n s))))
+      drop-cons (rows n 53 (drop 45 s)) (left - 1) [] k ∙ rw (← add-one (left - 1), back, w, row-at n 53 (drop 45 s) (left - 1) [] before, drop-drop ((left - 1) * 53) 45 s)
 
   module _ {x y : ℕ} (p : Mark (seatMark (rowAt s (left - 1))) x) (q : Mark (nameMark (rowAt s (left - 1))) y) where
-    pub marks-clear : Met (bitOr (getD marks x 0) (getD marks y 0)) (laterApart s n (left - 1))
-    marks-clear =
+    met-before : Met (bitOr (getD marks x 0) (getD marks y 0)) (laterApart s n (left - 1))
+    met-before =
         record {
           none = λ e.
               let z : (isZero (getD marks x 0) && isZero (getD marks y 0)) ≡ true =
@@ -413,29 +391,36 @@ module _ {s : List ℕ} {n : ℕ} {marks : List ℕ} {left : ℕ} (v : Marked s 
               in
               let f : getD marks (seatMark (rowAt s (left - 1))) 0 ≡ 0 = rw (← p .is) (eqb-true (getD marks x 0) 0 (and-left (isZero (getD marks x 0)) (isZero (getD marks y 0)) z)) in
               let g : getD marks (nameMark (rowAt s (left - 1))) 0 ≡ 0 = rw (← q .is) (eqb-true (getD marks y 0) 0 (and-right (isZero (getD marks x 0)) (isZero (getD marks y 0)) z)) in
-              sym (rw (back, map-part processOf n 53 45 s (left - 1) freePlace before, map-drop processOf left (firstRows n s)) (clear-each marks (rowAt s (left - 1)) f g (v .each)));
+              sym (rw (back, map-part processOf n 53 45 s (left - 1) freePlace before, map-drop processOf left (rows n 53 (drop 45 s))) (clear-each marks (rowAt s (left - 1)) f g (v .each)));
         }
 
-    pub marks-on : {b : Bool} → b ≡ laterApart s n (left - 1) → not b ≡ false → Marked s n (set (set marks x 1) y 1) (left - 1)
-    marks-on {b} e t =
+    pub marks-on : MarkedTo s n (set met (left - 1) (bitOr (getD marks x 0) (getD marks y 0))) (set (set marks x 1) y 1) (left - 1)
+    marks-on =
         let k : x < length marks = omega (arith, v .long, p .small) in
         let l : length (set marks x 1) ≡ 164 = length-set marks x 1 ∙ v .long in
         let m : y < length (set marks x 1) = omega (arith, l, q .small) in
+        let d : ℕ = bitOr (getD marks x 0) (getD marks y 0) in
+        let w : left - 1 < length met = omega (arith, v .wide, v .few, v .low) in
         let here : IsMarked (set (set marks x 1) y 1) (rowAt s (left - 1)) =
         record { seat = rw (← p .is) (set-one (set marks x 1) y x (getD-set-same marks x 1 0 k)); name = rw (← q .is) (getD-set-same (set marks x 1) y 1 0 m) }
         in
         record {
           low = omega (arith, v .low);
+          few = v .few;
+          wide = length-set met (left - 1) d ∙ v .wide;
           long = length-set (set marks x 1) y 1 ∙ l;
           each = rw row-before (each-cons here (each-imp (marked-on marks x y) (v .each)));
-          apart = pairs-before ∙ sym e ∙ not-false b t;
+          told = λ j a b.
+              split (eqb j (left - 1))
+              (λ e. let f : j ≡ left - 1 = eqb-true j (left - 1) e in rw (f, getD-set-same met (left - 1) d 0 w) met-before)
+              (λ e. let f : j ≡ left - 1 → ⊥ = eqb-false j (left - 1) e in rw (getD-set-other met (left - 1) j d 0 f) (v .told j (omega arith) b));
         }
 
-  pub marks-fail : {b : Bool} → b ≡ laterApart s n (left - 1) → not b ≡ true → false ≡ pairwise areApart (firstPlaces n s)
-  marks-fail {b} e t = sym (pairwise-drop areApart (left - 1) (firstPlaces n s) (pairs-before ∙ sym e ∙ not-true b t))
+pub marks-all : {s : List ℕ} {n : ℕ} {met marks : List ℕ} {left : ℕ} → MarkedTo s n met marks left → left ≤ 0 → AllMet s n met
+marks-all v h = record { at = λ i k. v .told i (omega arith) k }
 
-pub marks-all : {s : List ℕ} {n : ℕ} {marks : List ℕ} {left : ℕ} → Marked s n marks left → left ≤ 0 → true ≡ pairwise areApart (firstPlaces n s)
-marks-all {s} {n} {marks} {left} v h = let z : left ≡ 0 = omega arith in sym (rw z at (v .apart))
+pub met-at : {s : List ℕ} {n : ℕ} {met : List ℕ} {i : ℕ} → AllMet s n met → i < n → Met (getD met i 0) (laterApart s n i)
+met-at {s} {n} {met} {i} m k = m .at i k
 
 pub clear-none : {met : ℕ} {test : Bool} → Met met test → met ≡ 0 → true ≡ test
 clear-none m e = m .none e
@@ -586,4 +571,4 @@ module _ (b : List ℕ) (h : length b ≡ 681) {n : ℕ} (w : Widened (getD b 44
               pub holds-pairs : not o ≡ false → {a : Bool} → a ≡ pairwise areApart (map processOf (rows n 53 (drop 45 b))) → a ≡ holdsState b
               holds-pairs l m = m ∙ sym (tests ∙ rw (← e, not-false p t, ← f, not-false q u, ← g, not-false r x, ← i, not-false z y, ← j, not-false o l))
 
-pub ruleset rules = (needs, length-mapped, grants-high, grants-on, grants-off, process-credential, process-type, process-session, process-user, process-elevation, process-saved, same-begin, same-all, name-first, name-second, name-third, rivals-elsewhere, rivals-other, rivals-users, rivals-last, apart-rivals, apart-name, owner-none, owner-not, owner-saved, owner-nowhere, owner-there, grants-part, place-part, session-on, session-fail, session-all, owned-fail, owned-all, apart-begin, apart-on, apart-fail, holds-short, holds-many, holds-sessions, holds-credentials, holds-places, holds-free, holds-owners, holds-pairs, zero-begin, zero-on, zero-all, rows-begin, rows-on, rows-fail, rows-all, records-begin, records-on, records-all, folded-begin, folded-on, folded-all, seat-user, seat-elevation, seat-saved, marks-begin, marks-clear, marks-on, marks-fail, marks-all, clear-none)
+pub ruleset rules = (needs, length-mapped, grants-high, grants-on, grants-off, process-credential, process-type, process-session, process-user, process-elevation, process-saved, same-begin, same-all, name-first, name-second, name-third, rivals-elsewhere, rivals-other, rivals-users, rivals-last, apart-rivals, apart-name, owner-none, owner-not, owner-saved, owner-nowhere, owner-there, grants-part, place-part, session-on, session-fail, session-all, owned-fail, owned-all, apart-begin, apart-on, apart-fail, holds-short, holds-many, holds-sessions, holds-credentials, holds-places, holds-free, holds-owners, holds-pairs, zero-begin, zero-on, zero-all, rows-begin, rows-on, rows-fail, rows-all, records-begin, records-on, records-all, paired-begin, paired-on, paired-fail, paired-all, folded-begin, folded-on, folded-all, seat-user, seat-elevation, seat-saved, marks-begin, marks-on, marks-all, met-at, clear-none)

@@ -3,9 +3,12 @@
 use Prim.Native.Nat.{ℕ, zero, suc, _+_, _*_, _%_, _<_}
 use mathlib.Core.Path.{_≡_}
 use mathlib.Core.Bool.{Bool, true}
-use mathlib.Core.List.{List, [], _∷_}
+use mathlib.Core.List.{List, [], _∷_, map}
 use lib.Bits.{bitXor}
 use lib.ListN.{drop, getD}
+use Rattle.codec.specs.Codec.{rows, every}
+use Rattle.table.specs.Table.{freePlace}
+use Rattle.layout.specs.Layout.{processOf, areApart}
 
 -- a byte with all bytes of a list, by exclusive or
 unfoldable pub folded : ℕ → List ℕ → ℕ
@@ -31,6 +34,14 @@ pub record Mark (x r : ℕ) : Type 0 where
   pub is : r ≡ x
   pub small : r < 164
 
+-- the place at i is apart from each later one of the first n
+abbrev pub laterApart : List ℕ → ℕ → ℕ → Bool
+laterApart s n i = every (areApart (getD (map processOf (rows n 53 (drop 45 s))) i freePlace)) (drop (i + 1) (map processOf (rows n 53 (drop 45 s))))
+
 -- the marks of a place that were met, 0 for none: where none was, a test passes
 pub record Met (met : ℕ) (test : Bool) : Type 0 where
   pub none : met ≡ 0 → true ≡ test
+
+-- those of each place, met among the later ones
+pub record AllMet (s : List ℕ) (n : ℕ) (met : List ℕ) : Type 0 where
+  pub at : (i : ℕ) → i < n → Met (getD met i 0) (laterApart s n i)

@@ -2,12 +2,11 @@
 ghost use mathlib.Core.Path.{_≡_};
 ghost use mathlib.Core.List.{map};
 ghost use Prim.Native.Nat.{_+_, _<_, _≤_};
-ghost use lib.ListN.{length, take, drop, getD};
+ghost use lib.ListN.{length, take, drop};
 ghost use Rattle.codec.specs.Codec.{rows, every, pairwise, isZero};
 ghost use Rattle.names.specs.Names.{sameBytes};
-ghost use Rattle.table.specs.Table.{freePlace};
-ghost use Rattle.state_test.specs.Marks.{nameMark, seatMark, Mark, Met};
 ghost use Rattle.layout.specs.Layout.{sessionFits, grantsFit, processOf, processFits, stateOf, isOwned, areRivals, areApart, holdsState};
+ghost use Rattle.state_test.specs.Marks.{nameMark, seatMark, Mark, laterApart, Met, AllMet};
 
 // ---- bytes
 
@@ -206,6 +205,30 @@ fn seat_mark(row: &[u8], name: usize) -> usize
     name
 }
 
+// For each place, whether a later one has a mark of it: 0 where none has. It goes from the last place to the first, so that the table has the
+// marks of the later ones.
+fn marks_met(s: &[u8], n: usize) -> [u8; 12]
+    requires { ⌜ length (now s) ≡ 681 ⌝ }
+    requires { ⌜ n ≤ 12 ⌝ }
+    ensures { λ r. ⌜ AllMet (now (s .entry)) n r ⌝ }
+{
+    let mut met: [u8; 12] = [0; 12];
+    let mut marks: [u8; 164] = [0; 164];
+    let mut left = n;
+    while 0 < left {
+        let i = left - 1;
+        let a = 45 + i * 53;
+        let e = a + 53;
+        let name = name_mark(&s[a..e]);
+        let seat = seat_mark(&s[a..e], name);
+        met[i] = marks[seat] | marks[name];
+        marks[seat] = 1;
+        marks[name] = 1;
+        left = i;
+    }
+    met
+}
+
 // ---- pairs
 
 // Whether both places are the active user process of one session and credential, or both the elevation of one session.
@@ -261,7 +284,7 @@ fn is_apart(s: &[u8], n: usize, i: usize) -> bool
     requires { ⌜ length (now s) ≡ 681 ⌝ }
     requires { ⌜ n ≤ 12 ⌝ }
     requires { ⌜ i < n ⌝ }
-    ensures { λ r. ⌜ r ≡ every (areApart (getD (map processOf (rows n 53 (drop 45 (now (s .entry))))) i freePlace)) (drop (i + 1) (map processOf (rows n 53 (drop 45 (now (s .entry)))))) ⌝ }
+    ensures { λ r. ⌜ r ≡ laterApart (now (s .entry)) n i ⌝ }
 {
     let a = 45 + i * 53;
     let e = a + 53;
@@ -282,8 +305,8 @@ fn is_clear(s: &[u8], n: usize, i: usize, met: u8) -> bool
     requires { ⌜ length (now s) ≡ 681 ⌝ }
     requires { ⌜ n ≤ 12 ⌝ }
     requires { ⌜ i < n ⌝ }
-    requires { ⌜ Met met (every (areApart (getD (map processOf (rows n 53 (drop 45 (now s)))) i freePlace)) (drop (i + 1) (map processOf (rows n 53 (drop 45 (now s)))))) ⌝ }
-    ensures { λ r. ⌜ r ≡ every (areApart (getD (map processOf (rows n 53 (drop 45 (now (s .entry))))) i freePlace)) (drop (i + 1) (map processOf (rows n 53 (drop 45 (now (s .entry)))))) ⌝ }
+    requires { ⌜ Met met (laterApart (now s) n i) ⌝ }
+    ensures { λ r. ⌜ r ≡ laterApart (now (s .entry)) n i ⌝ }
 {
     if met == 0 {
         return true;
@@ -291,26 +314,18 @@ fn is_clear(s: &[u8], n: usize, i: usize, met: u8) -> bool
     is_apart(s, n, i)
 }
 
-// From the last place to the first, so that the marks are those of the later ones.
 fn all_apart(s: &[u8], n: usize) -> bool
     requires { ⌜ length (now s) ≡ 681 ⌝ }
     requires { ⌜ n ≤ 12 ⌝ }
     ensures { λ r. ⌜ r ≡ pairwise areApart (map processOf (rows n 53 (drop 45 (now (s .entry))))) ⌝ }
 {
-    let mut marks: [u8; 164] = [0; 164];
-    let mut left = n;
-    while 0 < left {
-        let i = left - 1;
-        let a = 45 + i * 53;
-        let e = a + 53;
-        let name = name_mark(&s[a..e]);
-        let seat = seat_mark(&s[a..e], name);
-        if !is_clear(s, n, i, marks[seat] | marks[name]) {
+    let met = marks_met(s, n);
+    let mut i: usize = 0;
+    while i < n {
+        if !is_clear(s, n, i, met[i]) {
             return false;
         }
-        marks[seat] = 1;
-        marks[name] = 1;
-        left = i;
+        i += 1;
     }
     true
 }

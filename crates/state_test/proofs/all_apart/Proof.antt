@@ -1,69 +1,33 @@
-use Rattle.state_test.proofs.Rules.{Marked, rules}
+use Prim.Native.Nat.{_-_}
+use Rattle.layout.specs.Layout.{processOf, areApart}
+use Rattle.codec.proofs.Loops.{PairedTo}
+use Rattle.state_test.proofs.Rules.{rules}
 use Rattle.state_test.proofs.all_apart.Statement.{statement}
 use Rattle.state_test.proofs.all_apart.Tie as tie
 
 abbrev Inv-loop : tie.InvT-loop
-Inv-loop s n marks₀ left₀ marks left = Marked s n marks left
+Inv-loop s n met i₀ i = PairedTo areApart processOf n 53 45 s i
 
 abbrev μ-loop : tie.MeasureT-loop
-μ-loop s n marks₀ left₀ marks left = left
+μ-loop s n met i₀ i = n - i
+
+marks-met-requires : tie.Need-marks-met-requires Inv-loop μ-loop
+marks-met-requires c κs = search rules
 
 loop-holds : tie.Need-loop-holds Inv-loop μ-loop
 loop-holds c = search rules
 
-sub-i : tie.Need-sub-i Inv-loop μ-loop
-sub-i c = search rules
-
-mul-a : tie.Need-mul-a Inv-loop μ-loop
-mul-a c = search rules
-
-add-a : tie.Need-add-a Inv-loop μ-loop
-add-a c = search rules
-
-add-e : tie.Need-add-e Inv-loop μ-loop
-add-e c = search rules
-
-sub-name-mark : tie.Need-sub-name-mark Inv-loop μ-loop
-sub-name-mark c = search rules
-
-part-name-mark-start : tie.Need-part-name-mark-start Inv-loop μ-loop
-part-name-mark-start c = search rules
-
-part-name-mark-end : tie.Need-part-name-mark-end Inv-loop μ-loop
-part-name-mark-end c = search rules
-
-name-mark-requires : tie.Need-name-mark-requires Inv-loop μ-loop
-name-mark-requires c κs = search rules
-
-sub-seat-mark : tie.Need-sub-seat-mark Inv-loop μ-loop
-sub-seat-mark c = search rules
-
-part-seat-mark-start : tie.Need-part-seat-mark-start Inv-loop μ-loop
-part-seat-mark-start c = search rules
-
-part-seat-mark-end : tie.Need-part-seat-mark-end Inv-loop μ-loop
-part-seat-mark-end c = search rules
-
-seat-mark-requires : tie.Need-seat-mark-requires Inv-loop μ-loop
-seat-mark-requires c κs = search rules
-
 array-read-is-clear : tie.Need-array-read-is-clear Inv-loop μ-loop
 array-read-is-clear c = search rules
 
-array-read-is-clear-2 : tie.Need-array-read-is-clear-2 Inv-loop μ-loop
-array-read-is-clear-2 c = search rules
-
 is-clear-requires : tie.Need-is-clear-requires Inv-loop μ-loop
-is-clear-requires c κs = (search rules, (search rules, (search rules, search rules)))
+is-clear-requires c κs = search rules
 
 returns : tie.Need-returns Inv-loop μ-loop
 returns c = search rules
 
-array-write-marks : tie.Need-array-write-marks Inv-loop μ-loop
-array-write-marks c = search rules
-
-array-write-marks-2 : tie.Need-array-write-marks-2 Inv-loop μ-loop
-array-write-marks-2 c = search rules
+add-i : tie.Need-add-i Inv-loop μ-loop
+add-i c = search rules
 
 loop-less : tie.Need-loop-less Inv-loop μ-loop
 loop-less c = search rules
@@ -80,25 +44,12 @@ all-apart-spec =
     (tie.spec
     Inv-loop
     μ-loop
+    marks-met-requires
     loop-holds
-    sub-i
-    mul-a
-    add-a
-    add-e
-    sub-name-mark
-    part-name-mark-start
-    part-name-mark-end
-    name-mark-requires
-    sub-seat-mark
-    part-seat-mark-start
-    part-seat-mark-end
-    seat-mark-requires
     array-read-is-clear
-    array-read-is-clear-2
     is-clear-requires
     returns
-    array-write-marks
-    array-write-marks-2
+    add-i
     loop-less
     loop-again
     returns-2)
