@@ -129,26 +129,13 @@ fn accepted_call(input: &Input) -> Result<Call, String> {
 fn check_slice(slice: &[u8], call: Call) -> Result<(), String> {
     let mut by_entry = slice.to_vec();
     let mut by_ordinary = slice.to_vec();
-    let mut without_exit = slice.to_vec();
-    let Call {
-        session,
-        claim,
-        class,
-        ..
-    } = call;
-    let numbers = [
-        entries::record(&mut by_entry, session, claim, class),
-        ordinary::record(&mut by_ordinary, session, claim, class),
-        ordinary::record_without_exit(&mut without_exit, session, claim, class),
-    ];
-    let [entry, ordinary, without] = numbers;
-    if numbers != [entry; 3] {
-        return Err(format!(
-            "entry {entry}, ordinary {ordinary}, without exit {without}: {call:?}"
-        ));
+    let entry = entries::record(&mut by_entry, call.session, call.claim, call.class);
+    let ordinary = ordinary::record(&mut by_ordinary, call.session, call.claim, call.class);
+    if entry != ordinary {
+        return Err(format!("entry {entry}, ordinary {ordinary}: {call:?}"));
     }
-    if by_entry != by_ordinary || by_entry != without_exit {
-        return Err(format!("the programs left different bytes: {call:?}"));
+    if by_entry != by_ordinary {
+        return Err(format!("entry and ordinary left different bytes: {call:?}"));
     }
     Ok(())
 }

@@ -92,12 +92,12 @@ fn run(options: &Options) -> Result<(), String> {
             )
         })?;
     }
-    println!("The programs agree on every call of every setting and on calls with several faults. Entry and ordinary leave the same bytes, and agree on every slice that is one byte away.");
+    println!("The three agree on every call of every setting and on calls with several faults. Entry and ordinary leave the same bytes, and agree on every slice that is one byte away.");
     println!();
     println!("Medians of {} alternating rounds:", options.rounds);
     println!();
-    println!("| standing | names differ in | entry, ns a call | ordinary, ns | without exit, ns | structured, ns | entry/ordinary | entry/without exit | entry/structured |");
-    println!("|---|---|---|---|---|---|---|---|---|");
+    println!("| standing | names differ in | entry, ns a call | ordinary, ns | structured, ns | entry/ordinary | entry/structured |");
+    println!("|---|---|---|---|---|---|---|");
     let mut slower = 0;
     for (setting, input) in &inputs {
         let measured = timing::measure(input, options.rounds);
@@ -131,20 +131,23 @@ fn describe_input(options: &Options) {
     println!("Accepted: user claims in turn. Number 1: one of a session of 4, a kind of 2, a credential of 8, a verdict of 2, a class of 3, a class of 32, drawn evenly.");
     println!("Number 6: an elevated claim in session 1 or a user claim without a process, drawn evenly. Number 9: one too high or one too low, drawn evenly.");
     println!();
-    println!("entry: slavotuk_record. ordinary: plain Rust on the same slice, which it tests on each call. without exit: the same, but for the free places, all of whose bytes are or-ed together. structured: plain Rust that keeps a struct and tests no slice.");
+    let free_places = if cfg!(feature = "without-exit") {
+        ", the free places with no exit"
+    } else {
+        ""
+    };
+    println!("entry: slavotuk_record. ordinary: plain Rust on the same slice, which it tests on each call{free_places}. structured: plain Rust that keeps a struct and tests no slice.");
 }
 
 fn print_row(setting: &Setting, measured: &Measured) {
     println!(
-        "| {} | {} | {:.1} | {:.1} | {:.1} | {:.1} | {:.2} | {:.2} | {:.1} |",
+        "| {} | {} | {:.1} | {:.1} | {:.1} | {:.2} | {:.1} |",
         setting.standing.name(),
         setting.differ.name(),
         measured.entry,
         measured.ordinary,
-        measured.without_exit,
         measured.structured,
         measured.entry_to_ordinary,
-        measured.entry_to_without_exit,
         measured.entry_to_structured
     );
 }

@@ -25,31 +25,7 @@ const SAVED: u8 = 2;
 /// The record call on a lent state.
 #[inline(never)]
 pub fn record(state: &mut [u8], session: u32, claim: RawClaim, class: u32) -> u32 {
-    record_by(are_zero, state, session, claim, class)
-}
-
-/// The same, with the free places read without an exit: that is faster where few processes stand, and the rest is alike.
-#[inline(never)]
-pub fn record_without_exit(state: &mut [u8], session: u32, claim: RawClaim, class: u32) -> u32 {
-    record_by(are_zero_without_exit, state, session, claim, class)
-}
-
-fn are_zero(bytes: &[u8]) -> bool {
-    bytes.iter().all(|&byte| byte == 0)
-}
-
-fn are_zero_without_exit(bytes: &[u8]) -> bool {
-    bytes.iter().fold(0, |all, &byte| all | byte) == 0
-}
-
-fn record_by(
-    are_zero: impl Fn(&[u8]) -> bool,
-    state: &mut [u8],
-    session: u32,
-    claim: RawClaim,
-    class: u32,
-) -> u32 {
-    if !holds_state(state, are_zero) {
+    if !holds_state(state) {
         return ARGUMENT;
     }
     match accepting_place(state, session, claim, class) {
@@ -67,7 +43,7 @@ fn record_by(
 
 // ---- whether a slice holds a state
 
-fn holds_state(state: &[u8], are_zero: impl Fn(&[u8]) -> bool) -> bool {
+fn holds_state(state: &[u8]) -> bool {
     if state.len() != STATE_LENGTH {
         return false;
     }
@@ -86,6 +62,15 @@ fn holds_state(state: &[u8], are_zero: impl Fn(&[u8]) -> bool) -> bool {
             .all(|process| is_process(process) && is_owned(process, sessions, credentials))
         && are_zero(free)
         && all_apart(standing)
+}
+
+/// The plain way leaves at the first byte that is not zero, and so reads one at a time. Where few processes stand most of the time goes here.
+fn are_zero(bytes: &[u8]) -> bool {
+    if cfg!(feature = "without-exit") {
+        bytes.iter().fold(0, |all, &byte| all | byte) == 0
+    } else {
+        bytes.iter().all(|&byte| byte == 0)
+    }
 }
 
 fn is_credential(credential: &[u8]) -> bool {

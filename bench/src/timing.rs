@@ -13,21 +13,18 @@ const WARM_UP_ROUNDS: usize = 2;
 pub struct Measured {
     pub entry: f64,
     pub ordinary: f64,
-    pub without_exit: f64,
     pub structured: f64,
     pub entry_to_ordinary: f64,
-    pub entry_to_without_exit: f64,
     pub entry_to_structured: f64,
 }
 
 struct Round {
     entry: f64,
     ordinary: f64,
-    without_exit: f64,
     structured: f64,
 }
 
-/// Times the programs by turns.
+/// Times the three programs by turns.
 pub fn measure(input: &Input, rounds: usize) -> Measured {
     for _ in 0..WARM_UP_ROUNDS {
         round(input);
@@ -37,10 +34,8 @@ pub fn measure(input: &Input, rounds: usize) -> Measured {
     Measured {
         entry: median_of(|round| round.entry),
         ordinary: median_of(|round| round.ordinary),
-        without_exit: median_of(|round| round.without_exit),
         structured: median_of(|round| round.structured),
         entry_to_ordinary: median_of(|round| round.entry / round.ordinary),
-        entry_to_without_exit: median_of(|round| round.entry / round.without_exit),
         entry_to_structured: median_of(|round| round.entry / round.structured),
     }
 }
@@ -48,7 +43,6 @@ pub fn measure(input: &Input, rounds: usize) -> Measured {
 fn round(input: &Input) -> Round {
     let mut by_entry = input.state.clone();
     let mut by_ordinary = input.state.clone();
-    let mut without_exit = input.state.clone();
     let mut module = Module::from_bytes(&input.state);
     Round {
         entry: time(&input.calls, |call| {
@@ -56,9 +50,6 @@ fn round(input: &Input) -> Round {
         }),
         ordinary: time(&input.calls, |call| {
             ordinary::record(&mut by_ordinary, call.session, call.claim, call.class)
-        }),
-        without_exit: time(&input.calls, |call| {
-            ordinary::record_without_exit(&mut without_exit, call.session, call.claim, call.class)
         }),
         structured: time(&input.calls, |call| {
             module.record(call.session, call.claim, call.class)
