@@ -140,7 +140,7 @@ pub extern "C" fn slavotuk_open(state: &mut [u8], session: u32) -> u32
         return ARGUMENT as u32;
     }
     let st = state_read::read(state);
-    stored(state, calls::open_session(st, session_of(session)))
+    stored(state, outcomes::open_session(st, session_of(session)))
 }
 
 #[no_mangle]
@@ -151,7 +151,7 @@ pub extern "C" fn slavotuk_close(state: &mut [u8], session: u32) -> u32
         return ARGUMENT as u32;
     }
     let st = state_read::read(state);
-    stored(state, calls::close_session(st, session_of(session)))
+    stored(state, outcomes::close_session(st, session_of(session)))
 }
 
 #[no_mangle]
@@ -164,7 +164,7 @@ pub extern "C" fn slavotuk_select(state: &mut [u8], session: u32, version: u32) 
     let st = state_read::read(state);
     stored(
         state,
-        calls::select_version(st, session_of(session), byte_of(version)),
+        outcomes::select_version(st, session_of(session), byte_of(version)),
     )
 }
 
@@ -184,7 +184,7 @@ pub extern "C" fn slavotuk_start(
     let st = state_read::read(state);
     stored(
         state,
-        calls::start(
+        outcomes::start(
             st,
             session_of(session),
             credential_of(credential),
@@ -209,7 +209,7 @@ pub extern "C" fn slavotuk_continue(
     let st = state_read::read(state);
     stored(
         state,
-        calls::continue_saved(
+        outcomes::continue_saved(
             st,
             session_of(session),
             credential_of(credential),
@@ -235,7 +235,7 @@ pub extern "C" fn slavotuk_elevate(
     let st = state_read::read(state);
     stored(
         state,
-        calls::elevate(
+        outcomes::elevate(
             st,
             session_of(session),
             credential_of(credential),
@@ -253,7 +253,7 @@ pub extern "C" fn slavotuk_drop(state: &mut [u8], session: u32) -> u32
         return ARGUMENT as u32;
     }
     let st = state_read::read(state);
-    stored(state, calls::drop_elevation(st, session_of(session)))
+    stored(state, outcomes::drop_elevation(st, session_of(session)))
 }
 
 #[no_mangle]
@@ -273,7 +273,7 @@ pub extern "C" fn slavotuk_end(
     let st = state_read::read(state);
     stored(
         state,
-        calls::end(
+        outcomes::end(
             st,
             session_of(session),
             user_claim_of(credential, number, verdict),
@@ -324,7 +324,7 @@ pub extern "C" fn slavotuk_kill(
     let st = state_read::read(state);
     stored(
         state,
-        calls::kill(
+        outcomes::kill(
             st,
             session_of(session),
             claim_of(kind, credential, number, verdict),
@@ -352,7 +352,7 @@ pub extern "C" fn slavotuk_set_word(
     let st = state_read::read(state);
     stored(
         state,
-        calls::set_word(
+        outcomes::set_word(
             st,
             session_of(session),
             claim_of(kind, credential, number, verdict),
@@ -511,7 +511,7 @@ pub extern "C" fn slavotuk_fresh(state: &mut [u8], provisioned: &[u8], words: &[
     if !are_pairs(provisioned, words) {
         return ARGUMENT as u32;
     }
-    let next = calls::fresh(pairs_of(provisioned, words));
+    let next = outcomes::fresh(pairs_of(provisioned, words));
     state_write::write(state, next);
     DONE as u32
 }

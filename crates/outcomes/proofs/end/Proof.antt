@@ -1,0 +1,44 @@
+use Rattle.calls.specs.Calls.{number}
+use Rattle.calls.specs.Calls.{refusal}
+use Rattle.calls.proofs.Rules.{rules}
+use Rattle.outcomes.proofs.end.Statement.{statement}
+use Rattle.outcomes.proofs.end.Tie as tie
+
+end-number-requires : tie.Need-end-number-requires
+end-number-requires c κs = search rules
+
+refused-claim-requires : tie.Need-refused-claim-requires
+refused-claim-requires c κs = search rules
+
+returns : tie.Need-returns
+unfolding refusal
+returns c = search rules
+
+active-place-requires : tie.Need-active-place-requires
+active-place-requires c κs = search rules
+
+counted-user-requires : tie.Need-counted-user-requires
+unfolding number
+counted-user-requires c κs = search rules
+
+ended-requires : tie.Need-ended-requires
+ended-requires c κs = search rules
+
+accepted-requires : tie.Need-accepted-requires
+accepted-requires c κs = search rules
+
+returns-2 : tie.Need-returns-2
+returns-2 c = search rules
+
+pub end-spec : {M : Type 1} → statement M
+end-spec =
+    tie.close
+    (tie.spec
+    end-number-requires
+    refused-claim-requires
+    returns
+    active-place-requires
+    counted-user-requires
+    ended-requires
+    accepted-requires
+    returns-2)

@@ -1,0 +1,38 @@
+use Rattle.calls.specs.Calls.{number}
+use Rattle.calls.proofs.Rules.{rules}
+use Rattle.outcomes.proofs.list.Statement.{statement}
+use Rattle.outcomes.proofs.list.Tie as tie
+
+list-number-requires : tie.Need-list-number-requires
+list-number-requires c κs = search rules
+
+refused-claim-requires : tie.Need-refused-claim-requires
+refused-claim-requires c κs = search rules
+
+returns : tie.Need-returns
+returns c = search rules
+
+counted-requires : tie.Need-counted-requires
+unfolding number
+counted-requires c κs = search rules
+
+accepted-requires : tie.Need-accepted-requires
+accepted-requires c κs = search rules
+
+message-length-requires : tie.Need-message-length-requires
+message-length-requires c κs = search rules
+
+returns-2 : tie.Need-returns-2
+returns-2 c = search rules
+
+pub list-spec : {M : Type 1} → statement M
+list-spec =
+    tie.close
+    (tie.spec
+    list-number-requires
+    refused-claim-requires
+    returns
+    counted-requires
+    accepted-requires
+    message-length-requires
+    returns-2)
