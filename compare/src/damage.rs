@@ -6,7 +6,7 @@ use crate::generate::Generator;
 use crate::random::Random;
 use crate::report::{Report, Singles};
 use crate::sequence::{run, Plan};
-use slavotuk_model::layout::{self, COUNT_AT, STATE_LENGTH};
+use slavotuk_model::layout::{self, STATE_LENGTH};
 use slavotuk_model::module::{Kind, CREDENTIALS, PLACES};
 use slavotuk_model::Module;
 
@@ -51,7 +51,7 @@ fn states(random: &mut Random) -> Vec<(String, Vec<u8>)> {
     let mut states = vec![
         ("all zero".to_string(), vec![0; STATE_LENGTH]),
         ("fresh".to_string(), layout::write(&fresh)),
-        ("example of docs/STATE.md".to_string(), example()),
+        ("example of docs/STATE.md".to_string(), layout::example()),
     ];
     let reached = (0..DRAWN).filter_map(|_| deep_state(random.next()));
     for (at, module) in reached.take(DEEP_STATES).enumerate() {
@@ -59,21 +59,6 @@ fn states(random: &mut Random) -> Vec<(String, Vec<u8>)> {
         states.push((name, layout::write(&module)));
     }
     states
-}
-
-/// Sessions 0 and 1 open, session 0 with a version; credentials 0 and 1; three processes with the names P, Q and R.
-fn example() -> Vec<u8> {
-    let mut bytes = vec![0; STATE_LENGTH];
-    bytes[..14].copy_from_slice(&[2, 1, 0, 0, 1, 0x0f, 0, 0, 0, 1, 0x10, 0, 0, 0]);
-    bytes[COUNT_AT] = 3;
-    bytes[45..50].copy_from_slice(&[0, 0, 0, 3, 0]);
-    bytes[66..98].fill(0x11);
-    bytes[98..103].copy_from_slice(&[1, 2, 0, 0x2c, 1]);
-    bytes[119..151].fill(0x22);
-    bytes[151..156].copy_from_slice(&[1, 1, 0, 0, 0]);
-    bytes[172..203].fill(0x11);
-    bytes[203] = 0x12;
-    bytes
 }
 
 /// The state that the seed's sequence ends in, if it has twelve processes of all three types.

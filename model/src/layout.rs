@@ -165,24 +165,24 @@ fn may_stand_together(one: &Process, other: &Process) -> bool {
     !rivals && !same_name(&one.name, &other.name)
 }
 
+/// The example of docs/STATE.md: sessions 0 and 1 open, session 0 with a version; credentials 0 and 1; three processes with the names P, Q and R.
+pub fn example() -> Vec<u8> {
+    let mut bytes = vec![0; STATE_LENGTH];
+    bytes[..14].copy_from_slice(&[2, 1, 0, 0, 1, 0x0f, 0, 0, 0, 1, 0x10, 0, 0, 0]);
+    bytes[COUNT_AT] = 3;
+    bytes[45..50].copy_from_slice(&[0, 0, 0, 3, 0]);
+    bytes[66..98].fill(0x11);
+    bytes[98..103].copy_from_slice(&[1, 2, 0, 0x2c, 1]);
+    bytes[119..151].fill(0x22);
+    bytes[151..156].copy_from_slice(&[1, 1, 0, 0, 0]);
+    bytes[172..203].fill(0x11);
+    bytes[203] = 0x12;
+    bytes
+}
+
 #[cfg(test)]
 mod tests {
     use super::*;
-
-    /// The example of docs/STATE.md.
-    fn example() -> Vec<u8> {
-        let mut bytes = vec![0; STATE_LENGTH];
-        bytes[..14].copy_from_slice(&[2, 1, 0, 0, 1, 0x0f, 0, 0, 0, 1, 0x10, 0, 0, 0]);
-        bytes[COUNT_AT] = 3;
-        bytes[45..50].copy_from_slice(&[0, 0, 0, 3, 0]);
-        bytes[66..98].fill(0x11);
-        bytes[98..103].copy_from_slice(&[1, 2, 0, 0x2c, 1]);
-        bytes[119..151].fill(0x22);
-        bytes[151..156].copy_from_slice(&[1, 1, 0, 0, 0]);
-        bytes[172..203].fill(0x11);
-        bytes[203] = 0x12;
-        bytes
-    }
 
     #[test]
     fn the_example_is_read_and_written() {

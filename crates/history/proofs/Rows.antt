@@ -9,7 +9,7 @@ use native.Mathlib.Omega.{arith}
 use lib.ListN.{length, getD, set, length-set}
 use Rattle.lists.specs.Lists.{any, firstIndex, reject, select, removeAt}
 use Rattle.lists.proofs.Tests.{split, below, clash}
-use Rattle.lists.proofs.Lists.{first-passes}
+use Rattle.lists.proofs.Lists.{first-passes, first-inside}
 use Rattle.lists.specs.Each.{Each, each-nil, each-cons, Pairs, pairs-nil, pairs-cons}
 
 module _ {A : Type 0} where
@@ -17,12 +17,6 @@ module _ {A : Type 0} where
   pub record Stands (f : A → Bool) (l : List A) (d : A) (i : ℕ) : Type 0 where
     pub inside : i < length l
     pub passes : f (getD l i d) ≡ true
-
-  first-inside : (f : A → Bool) (l : List A) → any f l ≡ true → firstIndex f l < length l
-  unfolding any firstIndex
-  first-inside f [] h = clash h refl
-  first-inside f (x ∷ xs) h =
-      split (f x) (λ e. rw e (omega arith)) (λ e. rw e (omega (arith, first-inside f xs (rw e at h))))
 
   -- what a search finds
   pub found : (f : A → Bool) (l : List A) (d : A) → any f l ≡ true → Stands f l d (firstIndex f l)

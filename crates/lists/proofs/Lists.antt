@@ -8,7 +8,7 @@ use native.Mathlib.Omega.{arith}
 use lib.ListN.{length, getD, take, length-take, length-drop, drop-of-length-le, length-map, length-append, length-replicate}
 use lib.Seq.{take-all, take-at}
 use Rattle.lists.specs.Lists.{any, firstIndex, reject, select, removeAt, padded}
-use Rattle.lists.proofs.Tests.{split}
+use Rattle.lists.proofs.Tests.{split, below, clash}
 
 module _ {A : Type 0} where
   -- ---- firstIndex: at most the length; what stands there passes; nothing before it does
@@ -40,6 +40,9 @@ module _ {A : Type 0} where
   any-past f [] h = refl
   any-past f (x ∷ xs) h =
       split (f x) (λ e. absurd (omega (arith, rw e at h))) (λ e. rw e (any-past f xs (omega (arith, rw e at h))))
+
+  pub first-inside : (f : A → Bool) (l : List A) → any f l ≡ true → firstIndex f l < length l
+  first-inside f l h = below (firstIndex f l) (length l) (λ k. k) (λ past. clash h (any-past f l past))
 
   -- ---- removeAt
   pub length-remove : (at : ℕ) (l : List A) → at < length l → suc (length (removeAt at l)) ≡ length l

@@ -8,8 +8,7 @@ use native.Mathlib.Omega.{arith}
 use lib.ListN.{length}
 use Rattle.lists.specs.Bytes.{Bytes}
 use Rattle.lists.specs.Lists.{firstIndex}
-use Rattle.lists.proofs.Lists.{any-past}
-use Rattle.lists.proofs.Tests.{below, clash}
+use Rattle.lists.proofs.Lists.{first-inside}
 use Rattle.names.specs.declared.Session.{Session}
 use Rattle.table.specs.Table.{standing, isActive}
 use Rattle.table.specs.declared.Active.{Active}
@@ -34,8 +33,7 @@ user-stands st s u z = clear-unless 6 tt _ (clear-first _ _ (clear-rest _ _ (cle
 
 inside : (st : State) (which : Active) → hasActive st which ≡ true → activePlace st which < length (standing (st .table))
 unfolding hasActive activePlace
-inside st which h =
-    below (activePlace st which) (length (standing (st .table))) (λ k. k) (λ past. clash h (any-past (isActive which) (standing (st .table)) past))
+inside st which h = first-inside (isActive which) (standing (st .table)) h
 
 pub counted-held : (b : List ℕ) → Bytes b → holdsState b ≡ true → (s : Session) (claim : Claim) → admitted (stateOf b) s claim ≡ 0
     → countedIn b s claim ≡ stateBytes (counted (stateOf b) s claim)
