@@ -41,6 +41,14 @@
 extern "C" {
 #endif
 
+/* The library's version. One that changes a call or the state's bytes has another major number. */
+#define SLAVOTUK_VERSION_MAJOR 1
+#define SLAVOTUK_VERSION_MINOR 0
+#define SLAVOTUK_VERSION_PATCH 0
+
+/* The same as one number, in which a later version is larger. */
+#define SLAVOTUK_VERSION_NUMBER (SLAVOTUK_VERSION_MAJOR * 65536 + SLAVOTUK_VERSION_MINOR * 256 + SLAVOTUK_VERSION_PATCH)
+
 /* What a call can answer. */
 enum slavotuk_number {
     SLAVOTUK_DONE = 0,           /* accepted */
@@ -111,6 +119,13 @@ enum slavotuk_number {
  */
 uint32_t slavotuk_fresh(uint8_t *state, size_t state_length, const uint8_t *provisioned, size_t provisioned_length,
                         const uint32_t *words, size_t words_length);
+
+/*
+ * Asks whether a slice holds a state. It is only read, so read-only memory serves.
+ *
+ * Answers: SLAVOTUK_ARGUMENT where it holds none, and nothing else.
+ */
+uint32_t slavotuk_holds(const uint8_t *state, size_t state_length);
 
 /*
  * Opens a session, without a version.
@@ -291,6 +306,11 @@ uint32_t slavotuk_read_count(const uint8_t *message, size_t message_length, uint
  */
 uint32_t slavotuk_read_row(const uint8_t *message, size_t message_length, size_t at, uint16_t *credential, uint8_t *kind,
                            uint8_t *name, size_t name_length);
+
+/* ---- the library */
+
+/* The version of the library that is linked, as SLAVOTUK_VERSION_NUMBER has that of this header. */
+uint32_t slavotuk_version(void);
 
 #ifdef __cplusplus
 }

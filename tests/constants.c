@@ -80,6 +80,24 @@ static void make_module(void)
     EXPECT(slavotuk_fresh(MODULE, provisioned, SLAVOTUK_CREDENTIALS, words, SLAVOTUK_CREDENTIALS), SLAVOTUK_DONE);
 }
 
+/* The module is a state; one byte more or less of it, or no byte, is none. */
+static void check_holds(void)
+{
+    uint8_t *longer = allocate(SLAVOTUK_STATE_SIZE + 1);
+    memcpy(longer, state, SLAVOTUK_STATE_SIZE);
+    longer[SLAVOTUK_STATE_SIZE] = 0;
+    EXPECT(slavotuk_holds(MODULE), SLAVOTUK_DONE);
+    EXPECT(slavotuk_holds(longer, SLAVOTUK_STATE_SIZE + 1), SLAVOTUK_ARGUMENT);
+    EXPECT(slavotuk_holds(longer + 1, SLAVOTUK_STATE_SIZE), SLAVOTUK_ARGUMENT);
+    EXPECT(slavotuk_holds(longer, SLAVOTUK_STATE_SIZE - 1), SLAVOTUK_ARGUMENT);
+    free(longer);
+}
+
+static void check_version(void)
+{
+    EXPECT(slavotuk_version(), SLAVOTUK_VERSION_NUMBER);
+}
+
 static void check_sessions(void)
 {
     EXPECT(slavotuk_open(MODULE, SLAVOTUK_SESSIONS), SLAVOTUK_ARGUMENT);
@@ -202,6 +220,8 @@ int main(void)
     listing = allocate(SLAVOTUK_LISTING_SIZE);
     check_fresh();
     make_module();
+    check_holds();
+    check_version();
     check_sessions();
     check_starts();
     check_records();

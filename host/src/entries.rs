@@ -13,6 +13,8 @@ mod declared {
             words: *const u32,
             words_length: usize,
         ) -> u32;
+        pub fn slavotuk_holds(state: *const u8, state_length: usize) -> u32;
+        pub fn slavotuk_version() -> u32;
         pub fn slavotuk_open(state: *mut u8, state_length: usize, session: u32) -> u32;
         pub fn slavotuk_close(state: *mut u8, state_length: usize, session: u32) -> u32;
         pub fn slavotuk_drop(state: *mut u8, state_length: usize, session: u32) -> u32;
@@ -156,6 +158,16 @@ pub fn fresh(state: &mut [u8], provisioned: &[u8], words: &[u32]) -> u32 {
             words.len(),
         )
     }
+}
+
+/// Asks whether a slice holds a state: 0 where it does, 1 where not.
+pub fn holds(state: &[u8]) -> u32 {
+    unsafe { declared::slavotuk_holds(state.as_ptr(), state.len()) }
+}
+
+/// The version of the archive: major * 65536 + minor * 256 + patch.
+pub fn version() -> u32 {
+    unsafe { declared::slavotuk_version() }
 }
 
 /// Opens a session.

@@ -57,8 +57,8 @@ impl Module {
     /// bytes[680] = 1;
     /// assert_eq!(Module::from_bytes(bytes), Err(Refusal::Argument));
     /// ```
-    pub fn from_bytes(mut bytes: [u8; STATE_LENGTH]) -> Result<Module, Refusal> {
-        test_state(&mut bytes)?;
+    pub fn from_bytes(bytes: [u8; STATE_LENGTH]) -> Result<Module, Refusal> {
+        answered(entries::holds(&bytes))?;
         Ok(Module { state: bytes })
     }
 
@@ -83,7 +83,7 @@ impl<'a> Module<&'a mut [u8]> {
     /// # Ok::<(), Refusal>(())
     /// ```
     pub fn lent(state: &'a mut [u8]) -> Result<Self, Refusal> {
-        test_state(state)?;
+        answered(entries::holds(state))?;
         Ok(Module { state })
     }
 
@@ -110,15 +110,6 @@ fn make_fresh(state: &mut [u8], grants: &[Grants; Credential::COUNT]) -> Result<
     let provisioned = grants.map(|grant| grant.is_provisioned().into());
     let words = grants.map(Grants::word);
     answered(entries::fresh(state, &provisioned, &words))
-}
-
-/// Asks whether a slice holds a state. A select of version 0 is never accepted, so it changes nothing; it is refused for its argument exactly where the slice
-/// holds none, as session 0 is in its range.
-fn test_state(state: &mut [u8]) -> Result<(), Refusal> {
-    match answered(entries::select(state, 0, 0)) {
-        Err(Refusal::Argument) => Err(Refusal::Argument),
-        _ => Ok(()),
-    }
 }
 
 impl<S: AsRef<[u8]>> Module<S> {

@@ -119,6 +119,21 @@ fn a_test_of_a_state_changes_nothing() {
     }
 }
 
+#[test]
+fn the_archives_version_is_the_packages() {
+    let part = |text: &str| -> u32 { text.parse().unwrap() };
+    let [major, minor, patch] = [
+        env!("CARGO_PKG_VERSION_MAJOR"),
+        env!("CARGO_PKG_VERSION_MINOR"),
+        env!("CARGO_PKG_VERSION_PATCH"),
+    ]
+    .map(part);
+    assert_eq!(
+        slavotuk::entries::version(),
+        major * 65536 + minor * 256 + patch
+    );
+}
+
 fn some_calls<S: AsMut<[u8]>>(module: &mut Module<S>) -> Result<(), Refusal> {
     module.open(session(1))?;
     module.select(session(1), VERSION_1_0)?;

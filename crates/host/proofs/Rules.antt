@@ -47,9 +47,10 @@ use Rattle.codec.specs.Codec.{every}
 use Rattle.claims.specs.Module.{unprovisioned}
 use Rattle.claims.specs.declared.Grants.{Grants}
 use Rattle.host.specs.Fresh.{pairsOf, arePairs, canFresh, FreshEntry}
-use Rattle.host.specs.Entry.{sessionOf, classOf, credentialOf, wantedOf, isFlag, userClaimOf, claimOf, isClaimed, entryNumber, entryBytes, Entry}
+use Rattle.host.specs.Entry.{sessionOf, classOf, credentialOf, wantedOf, isFlag, userClaimOf, claimOf, isClaimed, holdsNumber, entryNumber, entryBytes, Entry}
 use Rattle.host.specs.Messages.{entryResponse, entryLength, ListEntry, Given, rowEntryNumber, RowEntry}
 use Rattle.host.specs.Stored.{Stored}
+use Rattle.host.specs.Version.{versionNumber, libraryVersion}
 
 -- ---- arguments
 module _ (n : ℕ) where
@@ -425,4 +426,18 @@ fine-fits e = rw e
 pub fine-both : {x a b c d : Bool} → x ≡ a && b → a ≡ c → b ≡ d → x ≡ c && d
 fine-both e f g = e ∙ rw (f, g)
 
-pub ruleset rules = (needs, byte-in, byte-out, session-is, class-is, credential-in, credential-out, wanted-every, wanted-only, flag-is, user-claim-is, claim-elevated, claim-user, claimed-elevated, claimed-user, claimed-none, both-true, both-false, stored-done, stored-refused, entry-refused, entry-called, entry-recorded, same-open, same-close, same-select, same-drop, same-start, same-continue, same-elevate, same-end, same-record, same-kill, same-set-word, fine-fits, fine-both, list-refused, list-called, given-refused, given-done, request-number, request-credential, count-number, count-count, row-refused, row-nowhere, row-done, flags-begin, flags-on, flags-fail, flags-all, pairs-flags, pairs-words, pairs-are, pairs-begin, pairs-on, pairs-all, eight-flags, eight-words, fresh-long, fresh-refused, fresh-made)
+-- ---- whether a slice holds a state; the library's version
+module _ (bytes : List ℕ) {h : Bool} (e : h ≡ holdsState bytes) where
+  pub holds-done : h ≡ true → 0 ≡ holdsNumber bytes
+  unfolding holdsNumber _unless_
+  holds-done t = rw (sym e ∙ t)
+
+  pub holds-none : h ≡ false → 1 ≡ holdsNumber bytes
+  unfolding holdsNumber _unless_
+  holds-none t = rw (sym e ∙ t)
+
+pub version-is : 65536 ≡ libraryVersion
+unfolding libraryVersion versionNumber
+version-is = refl
+
+pub ruleset rules = (needs, byte-in, byte-out, session-is, class-is, credential-in, credential-out, wanted-every, wanted-only, flag-is, user-claim-is, claim-elevated, claim-user, claimed-elevated, claimed-user, claimed-none, both-true, both-false, stored-done, stored-refused, entry-refused, entry-called, entry-recorded, same-open, same-close, same-select, same-drop, same-start, same-continue, same-elevate, same-end, same-record, same-kill, same-set-word, fine-fits, fine-both, list-refused, list-called, given-refused, given-done, request-number, request-credential, count-number, count-count, row-refused, row-nowhere, row-done, flags-begin, flags-on, flags-fail, flags-all, pairs-flags, pairs-words, pairs-are, pairs-begin, pairs-on, pairs-all, eight-flags, eight-words, fresh-long, fresh-refused, fresh-made, holds-done, holds-none, version-is)

@@ -39,6 +39,10 @@ use Rattle.host.proofs.slavotuk_read_row.Kinds as read-row-kinds
 use Rattle.host.proofs.slavotuk_read_row.Reads as read-row-reads
 use Rattle.host.proofs.slavotuk_fresh.Kinds as fresh-kinds
 use Rattle.host.proofs.slavotuk_fresh.Reads as fresh-reads
+use Rattle.host.proofs.slavotuk_holds.Kinds as holds-kinds
+use Rattle.host.proofs.slavotuk_holds.Reads as holds-reads
+use Rattle.host.proofs.slavotuk_version.Kinds as version-kinds
+use Rattle.host.proofs.slavotuk_version.Reads as version-reads
 
 pub open-once : OneAnswer 1 open-kinds.ps open-kinds.r open-reads.Post
 open-once κs a x y s t p q = p .number-is ∙ sym (q .number-is)
@@ -153,3 +157,9 @@ fresh-once κs a x y s t p q = p .number-is ∙ sym (q .number-is)
 
 pub fresh-bytes : OneContent 3 fresh-kinds.ps fresh-kinds.r fresh-reads.Post (λ κs s. now (s .0))
 fresh-bytes κs a x y s t p q = p .bytes-are ∙ sym (q .bytes-are)
+
+pub holds-once : OneAnswer 1 holds-kinds.ps holds-kinds.r holds-reads.Post
+holds-once κs a x y s t p q = p ∙ sym q
+
+pub version-once : OneAnswer 0 version-kinds.ps version-kinds.r version-reads.Post
+version-once κs a x y s t p q = p ∙ sym q

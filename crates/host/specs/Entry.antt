@@ -49,6 +49,10 @@ claimOf kind credential number verdict = cond (flagOf kind) Elevated (ByUser (us
 unfoldable pub isClaimed : ℕ → ℕ → Bool
 isClaimed kind verdict = isFlag kind && (flagOf kind || isFlag verdict)
 
+-- ---- whether a slice holds a state, asked by itself: "a slice that holds no state" is 1
+unfoldable pub holdsNumber : List ℕ → ℕ
+holdsNumber bytes = No.argument unless holdsState bytes
+
 -- ---- the answer, and the state's bytes afterwards. `fine` says that the arguments that are no part of a call are in order: flags, lengths
 
 -- "a slice that holds no state" is 1

@@ -2,3 +2,4 @@ pub mod Entry
 pub mod Fresh
 pub mod Messages
 pub mod Stored
+pub mod Version

@@ -8,10 +8,11 @@ ghost use Rattle.calls.specs.Calls.{Open, Close, Select, Start, Continue, Eleva
 ghost use Rattle.layout.specs.Layout.{byteOf, holdsState};
 ghost use Rattle.wire.specs.Bytes.{over};
 ghost use Rattle.wire.specs.Wire.{request, readRequest, requestRoom, readCount};
-ghost use Rattle.host.specs.Entry.{sessionOf, classOf, credentialOf, wantedOf, isFlag, flagOf, userClaimOf, claimOf, isClaimed, Entry};
+ghost use Rattle.host.specs.Entry.{sessionOf, classOf, credentialOf, wantedOf, isFlag, flagOf, userClaimOf, claimOf, isClaimed, holdsNumber, Entry};
 ghost use Rattle.host.specs.Fresh.{pairsOf, arePairs, FreshEntry};
 ghost use Rattle.host.specs.Messages.{Given, ListEntry, RowEntry};
 ghost use Rattle.host.specs.Stored.{Stored};
+ghost use Rattle.host.specs.Version.{libraryVersion};
 use calls::Outcome;
 use calls::Wanted;
 use claims::ARGUMENT;
@@ -514,4 +515,26 @@ pub extern "C" fn slavotuk_fresh(state: &mut [u8], provisioned: &[u8], words: &[
     let next = outcomes::fresh(pairs_of(provisioned, words));
     state_write::write(state, next);
     DONE as u32
+}
+
+// ---- about a slice, and about the library
+
+#[no_mangle]
+pub extern "C" fn slavotuk_holds(state: &[u8]) -> u32
+    ensures { λ r. ⌜ r ≡ holdsNumber (now (state .entry)) ⌝ }
+{
+    if state_test::holds(state) {
+        return DONE as u32;
+    }
+    ARGUMENT as u32
+}
+
+// major * 65536 + minor * 256 + patch: include/slavotuk.h and host/Cargo.toml have the same version
+const LIBRARY_VERSION: u32 = 0x010000;
+
+#[no_mangle]
+pub extern "C" fn slavotuk_version() -> u32
+    ensures { λ r. ⌜ r ≡ libraryVersion ⌝ }
+{
+    LIBRARY_VERSION
 }
