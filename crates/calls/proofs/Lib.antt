@@ -1,4 +1,7 @@
 pub mod Laws
 pub mod Rules
+pub mod Sequences
 pub mod Worked
+pub mod Orders
+pub mod Conditions
 pub mod Unique

@@ -1,0 +1,97 @@
+-- What worked sequences are written in: document 01's names and credentials, and steps, each a call and the number that it has to be answered.
+-- Assumes nothing.
+use Prim.Native.Nat.{ℕ}
+use mathlib.Core.Path.{_≡_}
+use mathlib.Core.Bool.{true, false}
+use mathlib.Core.List.{List, [], _∷_, _++_, map}
+use lib.ListN.{replicate}
+use Rattle.lists.specs.Lists.{any, firstIndex, reject, select, join, removeAt, padded}
+use Rattle.lists.specs.Bytes.{bytesOf}
+use Rattle.names.specs.Names.{sameBytes, sameName}
+use Rattle.names.specs.declared.Credential.{Credential}
+use Rattle.names.specs.declared.Name.{Name}
+use Rattle.names.specs.declared.Session.{Session}
+use Rattle.table.specs.Table.{standing, size, tableOf, processAt, isActive, isActiveIn, isAmong, isNamed, appended, replaced, removed, withoutSession}
+use Rattle.claims.specs.Numbers.{_when_, _unless_, _▸_}
+use Rattle.claims.specs.Module.{isHandle, phaseOf, isClosed, isChosen, isCredential, provisioned, wordOf, wordGrants, granted, hasActive, activePlace, activeProcess}
+use Rattle.claims.specs.Claim.{phaseNumber, entered, isClaim, elevatedNumber, isSpent, turnNumber, userNumber, claimNumber, admitted, elevatedCredential, claimant}
+use Rattle.claims.specs.declared.Claim.{Claim}
+use Rattle.claims.specs.declared.Claim.the-variants.{ByUser}
+use Rattle.claims.specs.declared.Class.{Class}
+use Rattle.claims.specs.declared.Grants.{Grants}
+use Rattle.claims.specs.declared.State.{State}
+use Rattle.claims.specs.declared.UserClaim.{UserClaim}
+use Rattle.calls.specs.Listing.{rowsOf, messageLength, listing}
+use Rattle.calls.specs.Calls.{Call, isDevice, isVersion, isWanted, isFull, hasNamed, namedPlace, lacksSaving, isOwn, mayList, isShort, reach, number, counted, ended, effect, refusal, outcome, taken, fresh}
+use Rattle.calls.specs.Run.{step, run, numbers}
+
+-- "P is 16 zero bytes then 32 of 0x11; Q is 16 zero bytes then 32 of 0x22; R is P with its last byte 0x12."
+abbrev pub P : Name
+P = record { bytes = replicate 16 0 ++ replicate 32 0x11 }
+
+abbrev pub Q : Name
+Q = record { bytes = replicate 16 0 ++ replicate 32 0x22 }
+
+abbrev pub R : Name
+R = record { bytes = replicate 16 0 ++ (replicate 31 0x11 ++ (0x12 ∷ [])) }
+
+-- "Credentials 0 (word 15) and 1 (word 16) are provisioned."
+abbrev pub pairs : List Grants
+pairs =
+    record { provisioned = true; word = 15 }
+    ∷ record { provisioned = true; word = 16 }
+    ∷ replicate 6 (record { provisioned = false; word = 0 })
+
+-- 47 zero bytes, then n
+abbrev pub name : ℕ → Name
+name n = record { bytes = replicate 47 0 ++ (n ∷ []) }
+
+abbrev pub session : ℕ → Session
+session n = record { 0 = n }
+
+abbrev pub credential : ℕ → Credential
+credential n = record { 0 = n }
+
+abbrev pub class : ℕ → Class
+class n = record { 0 = n }
+
+-- a user claim of a credential with a number, the verdict a yes or a no
+abbrev pub userYes : ℕ → ℕ → UserClaim
+userYes c n = record { credential = credential c; number = n; verdict = true }
+
+abbrev pub userNo : ℕ → ℕ → UserClaim
+userNo c n = record { credential = credential c; number = n; verdict = false }
+
+abbrev pub yes′ : ℕ → ℕ → Claim
+yes′ c n = ByUser (userYes c n)
+
+abbrev pub no′ : ℕ → ℕ → Claim
+no′ c n = ByUser (userNo c n)
+
+-- a call, and the number that it has to be answered
+pub record Step : Type 0 where
+  pub call : Call
+  pub answer : ℕ
+
+infix 5 _⇒_
+abbrev pub _⇒_ : Call → ℕ → Step
+call ⇒ n = record { call = call; answer = n }
+
+abbrev pub callsOf : List Step → List Call
+callsOf = map (λ (s : Step). s .call)
+
+abbrev answersOf : List Step → List ℕ
+answersOf = map (λ (s : Step). s .answer)
+
+-- the calls, made one after another from a state on, are answered these numbers
+abbrev pub Answered : State → List Step → Type 0
+Answered st steps = numbers st (callsOf steps) ≡ answersOf steps
+
+-- the state after them
+abbrev pub after : State → List Step → State
+after st steps = run st (callsOf steps)
+
+-- all that a worked sequence computes with: who says `unfolding computed` has it open
+unfoldable pub computed : Type 1
+unfolding any firstIndex reject select join removeAt padded bytesOf sameBytes sameName standing size tableOf processAt isActive isActiveIn isAmong isNamed appended replaced removed withoutSession _when_ _unless_ _▸_ isHandle phaseOf isClosed isChosen isCredential provisioned wordOf wordGrants granted hasActive activePlace activeProcess phaseNumber entered isClaim elevatedNumber isSpent turnNumber userNumber claimNumber admitted elevatedCredential claimant rowsOf messageLength listing isDevice isVersion isWanted isFull hasNamed namedPlace lacksSaving isOwn mayList isShort reach number counted ended effect refusal outcome taken fresh step run numbers
+computed = Type 0
