@@ -1,5 +1,6 @@
 pub mod Laws
 pub mod Rules
+pub mod Facts
 pub mod Sequences
 pub mod Worked
 pub mod Orders

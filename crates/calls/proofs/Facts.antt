@@ -1,0 +1,258 @@
+-- Facts that a reader of document 01 looks for. Each is for all states, those too that no calls come to.
+-- Assumes nothing.
+use Prim.Native.Nat.{ℕ, zero, suc, _≤_}
+use mathlib.Core.Path.{_≡_, refl, sym, ap, _∙_}
+use mathlib.Core.Bool.{Bool, true, false, _||_}
+use mathlib.Core.List.{List, [], _∷_}
+use native.Mathlib.Omega.{arith}
+use borrow.Author.Tests.{eqb-true}
+use lib.Dec.{T, eqb, leb, leb→le}
+use lib.ListN.{getD, set}
+use Rattle.lists.specs.Lists.{any}
+use Rattle.lists.proofs.Tests.{split, clash}
+use Rattle.names.specs.Names.{sameName}
+use Rattle.names.specs.declared.Credential.{Credential}
+use Rattle.names.specs.declared.Name.{Name}
+use Rattle.names.specs.declared.Session.{Session}
+use Rattle.table.specs.Table.{standing, isOf, isAmong, isNamed}
+use Rattle.table.specs.declared.Active.the-variants.{UserOf, ElevationIn}
+use Rattle.table.specs.declared.Among.the-variants.{All, Of}
+use Rattle.table.specs.declared.Process.{Process}
+use Rattle.claims.specs.Numbers as No
+use Rattle.claims.specs.Numbers.{_when_, _unless_, _▸_}
+use Rattle.claims.specs.Module.{isHandle, closedSession, phaseOf, isClosed, isChosen, provisioned, granted, hasActive, activeProcess}
+use Rattle.claims.specs.Claim.{phaseNumber, entered, elevatedNumber, isSpent, turnNumber, userNumber, claimNumber, admitted, claimant}
+use Rattle.claims.specs.declared.Claim.{Claim}
+use Rattle.claims.specs.declared.Claim.the-variants.{Elevated, ByUser}
+use Rattle.claims.specs.declared.Phase.{Phase}
+use Rattle.claims.specs.declared.Phase.the-variants.{Chosen}
+use Rattle.claims.specs.declared.SessionState.{SessionState}
+use Rattle.claims.specs.declared.State.{State}
+use Rattle.claims.specs.declared.UserClaim.{UserClaim}
+use Rattle.claims.proofs.Laws.{unless-false, clear-first, clear-rest, clear-when, clear-unless}
+use Rattle.calls.specs.declared.Answer.the-variants.{Done, RefusedClaim}
+use Rattle.calls.specs.declared.Outcome.{Outcome}
+use Rattle.calls.specs.Calls.{Call, Open, Close, Select, Start, Continue, Elevate, Drop, End, Record, List′, Kill, SetWord, killOthers, isVersion, hasNamed, reach, number, effect, answerNumber, refusal, outcome}
+use Rattle.calls.specs.Run.{step}
+use Rattle.calls.proofs.Laws.{outcome-done, outcome-refused, answer-number}
+
+-- ---- a number is 0 to 15, so a refusal's is 1 to 15
+
+-- `T (leb n 15)` computes, for each of the numbers
+small-when : (n : ℕ) (b : Bool) → T (leb n 15) → (n when b) ≤ 15
+unfolding _when_
+small-when n true h = leb→le n 15 h
+small-when n false h = omega arith
+
+small-unless : (n : ℕ) (b : Bool) → T (leb n 15) → (n unless b) ≤ 15
+unfolding _unless_
+small-unless n true h = omega arith
+small-unless n false h = leb→le n 15 h
+
+small-then : (n m : ℕ) → n ≤ 15 → m ≤ 15 → (n ▸ m) ≤ 15
+unfolding _▸_
+small-then n m h k = split (eqb n 0) (λ e. rw e k) (λ e. rw e h)
+
+ruleset small = (small-when, small-unless, small-then)
+
+small-entered : (st : State) (s : Session) → entered st s ≤ 15
+unfolding entered phaseNumber
+small-entered st s = search small
+
+small-turn : (next : ℕ) (u : UserClaim) → turnNumber next u ≤ 15
+unfolding turnNumber
+small-turn next u = search small
+
+small-claim : (st : State) (s : Session) (claim : Claim) → claimNumber st s claim ≤ 15
+unfolding claimNumber elevatedNumber userNumber
+small-claim st s Elevated = search small
+small-claim st s (ByUser u) = search (small, small-turn)
+
+small-admitted : (st : State) (s : Session) (claim : Claim) → admitted st s claim ≤ 15
+unfolding admitted
+small-admitted st s claim = search (small, small-entered, small-claim)
+
+ruleset smalls = (small, small-entered, small-admitted)
+
+pub number-small : (st : State) (call : Call) → number st call ≤ 15
+unfolding number
+number-small st (Open s) = search smalls
+number-small st (Close s) = search smalls
+number-small st (Select s byte) = search smalls
+number-small st (Start s c name) = search smalls depth 12
+number-small st (Continue s c name) = search smalls depth 12
+number-small st (Elevate s c name verdict) = search smalls depth 12
+number-small st (Drop s) = search smalls
+number-small st (End s u keep) = search smalls
+number-small st (Record s claim class) = search smalls
+number-small st (List′ s claim wanted room) = search smalls depth 12
+number-small st (Kill s claim name) = search smalls
+number-small st (SetWord s claim c word) = search smalls depth 12
+
+-- "Numbers a call can answer": no other number is ever answered
+pub refusal-small : (st : State) (call : Call) → (number st call ≡ 0 → ⊥) → (1 ≤ answerNumber (outcome st call .answer)) × (answerNumber (outcome st call .answer) ≤ 15)
+refusal-small st call h =
+    let e : answerNumber (outcome st call .answer) ≡ number st call = answer-number st call in
+    let k : number st call ≤ 15 = number-small st call in
+    (omega (arith, e, h), omega (arith, e, k))
+
+-- ---- "Choosing 0x10 a second time is done and changes nothing"
+
+-- a list in which an element is set to what it is there
+set-same : (l : List SessionState) (i : ℕ) → getD l i closedSession .phase ≡ Chosen → set l i (record { phase = Chosen }) ≡ l
+set-same [] i e = refl
+set-same (x ∷ xs) zero e = ap (λ (p : Phase). record { phase = p } ∷ xs) (sym e)
+set-same (x ∷ xs) (suc i) e = ap (λ (l : List SessionState). x ∷ l) (set-same xs i e)
+
+-- in every state whose session has version 1.0
+module _ (st : State) (s : Session) (h : isHandle s ≡ true) (e : phaseOf st s ≡ Chosen) where
+  select-number : number st (Select s 0x10) ≡ 0
+  unfolding number _when_ _unless_ _▸_ isClosed isVersion
+  select-number = rw (h, e)
+
+  select-same : effect st (Select s 0x10) ≡ st
+  unfolding effect phaseOf
+  select-same = ap (λ (l : List SessionState). record { sessions = l; credentials = st .credentials; table = st .table }) (set-same (st .sessions) (s .0) e)
+
+  pub select-again : outcome st (Select s 0x10) ≡ record { state = st; answer = Done }
+  select-again = outcome-done st (Select s 0x10) select-number ∙ ap (λ (x : State). record { state = x; answer = Done }) select-same
+
+-- so a select after one that was done
+set-there : (l : List SessionState) (i : ℕ) (x : SessionState) → isClosed (getD l i closedSession .phase) ≡ false → getD (set l i x) i closedSession ≡ x
+unfolding isClosed
+set-there [] i x e = clash refl e
+set-there (y ∷ ys) zero x e = refl
+set-there (y ∷ ys) (suc i) x e = set-there ys i x e
+
+module _ (st : State) (s : Session) (byte : ℕ) (e : number st (Select s byte) ≡ 0) where
+  is-handle : isHandle s ≡ true
+  unfolding number
+  is-handle = clear-unless No.argument tt _ (clear-first _ _ e)
+
+  is-open : isClosed (phaseOf st s) ≡ false
+  unfolding number
+  is-open = clear-when No.session tt _ (clear-first _ _ (clear-rest _ _ e))
+
+  now-chosen : phaseOf (step st (Select s byte)) s ≡ Chosen
+  unfolding step effect phaseOf
+  now-chosen =
+      ap (λ (o : Outcome). phaseOf (o .state) s) (outcome-done st (Select s byte) e)
+      ∙ ap (λ (x : SessionState). x .phase) (set-there (st .sessions) (s .0) (record { phase = Chosen }) is-open)
+
+  pub select-twice : outcome (step st (Select s byte)) (Select s 0x10) ≡ record { state = step st (Select s byte); answer = Done }
+  select-twice = select-again (step st (Select s byte)) s is-handle now-chosen
+
+-- ---- "A stranger's name and an unknown one get the same answer."
+
+-- a kill of a name that the claim does not reach
+module _ (st : State) (s : Session) (claim : Claim) (name : Name) (h : hasNamed st name (reach st (claimant st s claim)) ≡ false) where
+  unreached : number st (Kill s claim name) ≡ admitted st s claim ▸ 6
+  unfolding number
+  unreached = ap (λ (n : ℕ). admitted st s claim ▸ n) (unless-false 6 h)
+
+  refused : outcome st (Kill s claim name) ≡ record { state = st; answer = RefusedClaim (admitted st s claim ▸ 6) claim }
+  unfolding refusal
+  refused = outcome-refused st (Kill s claim name) (λ e. some (clear-rest (admitted st s claim) 6 (sym unreached ∙ e))) ∙ rw unreached
+    where
+      six : ℕ
+      six = 6
+
+      some : six ≡ 0 → ⊥
+      some e = omega arith
+
+module _ (st : State) (s : Session) (claim : Claim) (c : Credential) (mine : claimant st s claim ≡ c) (lacks : granted st c killOthers ≡ false) where
+  own : reach st (claimant st s claim) ≡ Of c
+  unfolding reach
+  own = rw (mine, lacks)
+
+  -- what no process has, none of the credential's has
+  none-own : (name : Name) (l : List Process) → any (isNamed name All) l ≡ false → any (isNamed name (Of c)) l ≡ false
+  unfolding any isNamed isAmong
+  none-own name [] e = refl
+  none-own name (p ∷ l) e =
+      split (sameName (p .name) name)
+      (λ h. clash (ap (λ (b : Bool). b || any (isNamed name All) l) h) e)
+      (λ h. let k : any (isNamed name (Of c)) l ≡ false = none-own name l (rw h at e) in split (isOf c p) (λ q. rw (q, h, k)) (λ q. rw (q, k)))
+
+  -- the claim's credential lacks class 1. No process of its own has the one name, whoever else's has it; no process at all has the other
+  pub stranger-as-unknown : (strangers unknown : Name) → hasNamed st strangers (Of c) ≡ false → hasNamed st unknown All ≡ false → outcome st (Kill s claim strangers) ≡ outcome st (Kill s claim unknown)
+  unfolding hasNamed
+  stranger-as-unknown strangers unknown h k =
+      refused st s claim strangers (rw own h) ∙ sym (refused st s claim unknown (rw own (none-own unknown (standing (st .table)) k)))
+
+-- ---- "A true verdict alone never opens anything; a false one always shuts wherever a verdict is asked for."
+
+-- what an accepted elevation needs, and what a user claim needs that passes its check: a yes, and all of this beside it
+pub record ElevationNeeds (st : State) (s : Session) (c : Credential) (verdict : Bool) : Type 0 where
+  pub chosen : isChosen (phaseOf st s) ≡ true
+  pub owner : provisioned st c ≡ true
+  pub yes : verdict ≡ true
+
+pub record ClaimNeeds (st : State) (s : Session) (u : UserClaim) : Type 0 where
+  pub chosen : isChosen (phaseOf st s) ≡ true
+  pub owner : provisioned st (u .credential) ≡ true
+  pub active : hasActive st (UserOf s (u .credential)) ≡ true
+  pub unspent : isSpent (activeProcess st (UserOf s (u .credential)) .next) ≡ false
+  pub turn : u .number ≡ activeProcess st (UserOf s (u .credential)) .next
+  pub yes : u .verdict ≡ true
+
+abbrev pub Needs : State → Session → Claim → Type 0
+Needs st s Elevated = hasActive st (ElevationIn s) ≡ true
+Needs st s (ByUser u) = ClaimNeeds st s u
+
+-- the calls that ask for a verdict, or for the elevation that one has opened
+abbrev pub VerdictNeeds : State → Call → Type 0
+VerdictNeeds st (Open s) = Unit {0}
+VerdictNeeds st (Close s) = Unit {0}
+VerdictNeeds st (Select s byte) = Unit {0}
+VerdictNeeds st (Start s c name) = Unit {0}
+VerdictNeeds st (Continue s c name) = Unit {0}
+VerdictNeeds st (Elevate s c name verdict) = ElevationNeeds st s c verdict
+VerdictNeeds st (Drop s) = Unit {0}
+VerdictNeeds st (End s u keep) = Needs st s (ByUser u)
+VerdictNeeds st (Record s claim class) = Needs st s claim
+VerdictNeeds st (List′ s claim wanted room) = Needs st s claim
+VerdictNeeds st (Kill s claim name) = Needs st s claim
+VerdictNeeds st (SetWord s claim c word) = Needs st s claim
+
+module _ (st : State) where
+  is-chosen : (s : Session) → entered st s ≡ 0 → isChosen (phaseOf st s) ≡ true
+  unfolding entered phaseNumber
+  is-chosen s e = clear-unless No.noVersion tt _ (clear-rest _ _ (clear-rest _ _ e))
+
+  needs : (s : Session) (claim : Claim) → admitted st s claim ≡ 0 → Needs st s claim
+  unfolding admitted claimNumber elevatedNumber userNumber turnNumber
+  needs s Elevated e = clear-unless No.noProcess tt _ (clear-rest _ _ (clear-rest _ _ e))
+  needs s (ByUser u) e =
+      let user = clear-rest _ _ (clear-rest _ _ e) in
+      let turn = clear-rest _ _ (clear-rest _ _ user) in
+      record {
+        chosen = is-chosen s (clear-first _ _ (clear-rest _ _ e));
+        owner = clear-unless No.credential tt _ (clear-first _ _ user);
+        active = clear-unless No.noProcess tt _ (clear-first _ _ (clear-rest _ _ user));
+        unspent = clear-when No.spent tt _ (clear-first _ _ turn);
+        turn = eqb-true _ _ (clear-unless No.outOfTurn tt _ (clear-first _ _ (clear-rest _ _ turn)));
+        yes = clear-unless No.verdict tt _ (clear-rest _ _ (clear-rest _ _ turn));
+      }
+
+  -- an accepted call had a yes, and never that alone
+  pub verdict-needs : (call : Call) → number st call ≡ 0 → VerdictNeeds st call
+  unfolding number
+  verdict-needs (Open s) e = tt
+  verdict-needs (Close s) e = tt
+  verdict-needs (Select s byte) e = tt
+  verdict-needs (Start s c name) e = tt
+  verdict-needs (Continue s c name) e = tt
+  verdict-needs (Elevate s c name verdict) e =
+      let rest = clear-rest _ _ (clear-rest _ _ e) in
+      record {
+        chosen = is-chosen s (clear-first _ _ (clear-rest _ _ e));
+        owner = clear-unless No.credential tt _ (clear-first _ _ rest);
+        yes = clear-unless No.verdict tt _ (clear-first _ _ (clear-rest _ _ rest));
+      }
+  verdict-needs (Drop s) e = tt
+  verdict-needs (End s u keep) e = needs s (ByUser u) (clear-first _ _ e)
+  verdict-needs (Record s claim class) e = needs s claim (clear-first _ _ (clear-rest _ _ e))
+  verdict-needs (List′ s claim wanted room) e = needs s claim (clear-first _ _ (clear-rest _ _ e))
+  verdict-needs (Kill s claim name) e = needs s claim (clear-first _ _ e)
+  verdict-needs (SetWord s claim c word) e = needs s claim (clear-first _ _ (clear-rest _ _ e))
