@@ -1,51 +1,92 @@
-.PHONY: help run lib test soak faults bench tools clean
+.PHONY: help run lib own install test soak faults bench tools clean
 
 SHELL := bash
 .SHELLFLAGS := -o pipefail -c
 
-LIB := build/lib
+# what the hosts run on, and what `make lib` and `make install` are for
+MACHINE := $(shell uname -m)
+ARCH := $(MACHINE)
+ifneq ($(filter-out x86_64 aarch64,$(ARCH)),)
+$(error ARCH is $(ARCH), and the module is compiled for x86_64 and aarch64)
+endif
+
+PREFIX ?= /usr/local
+LIBDIR := $(PREFIX)/lib
+INCLUDEDIR := $(PREFIX)/include
+
 SOURCES := crates.txt $(shell find crates -path '*/must-fail' -prune -o -type f -print)
 CARGO := cargo run --quiet --release --package
 
+# the header has the version; the soname changes with its first number
+part = $(shell sed -n 's/^.define SLAVOTUK_VERSION_$(1) //p' include/slavotuk.h)
+MAJOR := $(call part,MAJOR)
+VERSION := $(MAJOR).$(call part,MINOR).$(call part,PATCH)
+SONAME := libslavotuk.so.$(MAJOR)
+SHARED := libslavotuk.so.$(VERSION)
+
+# an archive for each kind of machine in a folder of its own. A shared object is linked by $(CC): for this machine, and for
+# another one where CC is given
+LIB := build/lib-$(ARCH)
+OWN := build/lib-$(MACHINE)
+WITH_SHARED := $(or $(filter $(MACHINE),$(ARCH)),$(filter-out default,$(origin CC)))
+lib-files = $(1)/libslavotuk.a $(1)/slavotuk.h $(if $(2),$(1)/$(SHARED))
+
 help:
 	@echo "make run      proves and builds what the console needs, and starts it"
-	@echo "make lib      proves the module, and puts the archives and slavotuk.h into $(LIB)"
+	@echo "make lib      proves the module, and puts the archive, the shared object and slavotuk.h into $(LIB)"
+	@echo "              ARCH=x86_64 or ARCH=aarch64: the archive for that machine; with CC, its compiler, the shared object too"
+	@echo "make install  the same into PREFIX ($(PREFIX)) with a file for pkg-config; DESTDIR goes before it"
 	@echo "make test     the proofs, the wrong builds and the hosts' tests; its last line is 'N passed, 0 failed'"
 	@echo "make soak     the compiled module against the model, until it is stopped; make soak TIME=600 for so many seconds"
 	@echo "make faults   breaks the model in some fifty ways and asks that the comparison tells"
 	@echo "make bench    the record entry against ordinary Rust"
 	@echo "make clean    removes what these have built"
 
-run: lib
+# with line editing where rlwrap is there and somebody types
+run: own
 	@echo "building the console"
-	@$(CARGO) slavotuk-console
+	@$$([ -t 0 ] && command -v rlwrap) $(CARGO) slavotuk-console
 
-lib: tools $(LIB)/libslavotuk.a $(LIB)/libslavotuk.so $(LIB)/slavotuk.h
+lib: tools $(call lib-files,$(LIB),$(WITH_SHARED))
 
-$(LIB)/libslavotuk.a: $(SOURCES)
-	@echo "proving the module and compiling it: some three minutes where nothing is proved yet"
-	@mkdir -p $(LIB)
-	@rt staticlib host 2>&1 | tee build/proofs.log | grep --line-buffered '^rt: ' || { cat build/proofs.log; exit 1; }
-	cp target/staticlib/libhost.a $@
+# for this machine: the hosts link nothing else
+own: tools $(call lib-files,$(OWN),yes)
+
+build/lib-%/libslavotuk.a: $(SOURCES) arch/archive
+	@arch/archive $* $@
 
 # all of the archive, with the entries alone to be seen from outside
-$(LIB)/libslavotuk.so: $(LIB)/libslavotuk.a include/slavotuk.map
-	$(CC) -shared -o $@ -Wl,-soname,libslavotuk.so -Wl,--version-script=include/slavotuk.map -Wl,--whole-archive $< -Wl,--no-whole-archive
+build/lib-%/$(SHARED): build/lib-%/libslavotuk.a include/slavotuk.map
+	$(CC) -shared -o $@ -Wl,-soname,$(SONAME) -Wl,--version-script=include/slavotuk.map -Wl,--whole-archive $< -Wl,--no-whole-archive
+	ln -sf $(SHARED) $(@D)/$(SONAME)
+	ln -sf $(SONAME) $(@D)/libslavotuk.so
 
-$(LIB)/slavotuk.h: include/slavotuk.h
-	@mkdir -p $(LIB)
+build/lib-%/slavotuk.h: include/slavotuk.h
+	@mkdir -p $(@D)
 	cp $< $@
+
+install: lib
+	install -d $(DESTDIR)$(LIBDIR)/pkgconfig $(DESTDIR)$(INCLUDEDIR)
+	install -m 644 $(LIB)/libslavotuk.a $(DESTDIR)$(LIBDIR)
+	install -m 644 $(LIB)/slavotuk.h $(DESTDIR)$(INCLUDEDIR)
+ifneq ($(WITH_SHARED),)
+	install -m 755 $(LIB)/$(SHARED) $(DESTDIR)$(LIBDIR)
+	ln -sf $(SHARED) $(DESTDIR)$(LIBDIR)/$(SONAME)
+	ln -sf $(SONAME) $(DESTDIR)$(LIBDIR)/libslavotuk.so
+endif
+	sed -e 's|@LIBDIR@|$(LIBDIR)|' -e 's|@INCLUDEDIR@|$(INCLUDEDIR)|' -e 's|@VERSION@|$(VERSION)|' include/slavotuk.pc.in \
+		>$(DESTDIR)$(LIBDIR)/pkgconfig/slavotuk.pc
 
 test: tools
 	@tests/gate
 
-soak: lib
+soak: own
 	@$(CARGO) slavotuk-compare -- soak $(if $(TIME),--seconds $(TIME),--forever)
 
-faults: lib
+faults: own
 	@tests/faults
 
-bench: lib
+bench: own
 	@$(CARGO) slavotuk-bench
 
 # what the hosts need beside the Rattle kit

@@ -1,33 +1,37 @@
 /*
  * Slavotuk, the management login module of machines that banks rent, for programs in C and C++.
  *
- * What holds of every function here:
+ * What holds of every function here, but for slavotuk_version and slavotuk_number_name:
  *
- * - It answers with one of the sixteen numbers below: that of the first test that holds, SLAVOTUK_DONE where none does.
- *   Each comment gives the tests in their order.
- * - A slice is two parameters, a pointer and a size_t with the count of its elements. Pointers are not null, are valid for
- *   their length, and what they point to does not overlap.
- * - A refusal, that is every answer but SLAVOTUK_DONE, leaves the state and every buffer as they were. What is handed out
- *   through a pointer is written where the answer is SLAVOTUK_DONE, and stays as it was otherwise. The one exception is the
- *   length of slavotuk_list, which a refusal sets to 0.
+ * - It answers with a number: SLAVOTUK_DONE, or that of the first test that holds, a refusal. Each comment gives the tests in
+ *   their order, under "Refused", and leaves SLAVOTUK_REFUSED_ out. A later library may refuse with a number that is not listed
+ *   here: take every number but SLAVOTUK_DONE for a refusal.
+ * - A slice is two parameters, a pointer and a size_t with the count of its elements. A pointer is valid for its length; with
+ *   length 0 it may be null. What a call writes to overlaps with nothing else that it is lent. A pointer through which a number
+ *   is handed out is not null.
+ * - A refusal leaves the state and every buffer as they were. What is handed out through a pointer is written where the
+ *   answer is SLAVOTUK_DONE, and stays as it was otherwise. The one exception is the length of slavotuk_list, which a refusal
+ *   sets to 0.
  * - state is a slice of SLAVOTUK_STATE_SIZE bytes that slavotuk_fresh has filled and that only these functions write;
- *   docs/STATE.md draws it. Nothing is kept between calls but what stands there, so threads with states of their own may
- *   call at the same time.
- * - SLAVOTUK_ARGUMENT, wherever a comment lists it, is the answer to a session over 3, a credential over 7, a flag (kind,
- *   verdict, keep, provisioned) other than 0 or 1, a name not of SLAVOTUK_NAME_SIZE bytes, and a slice that holds no state.
- *   A comment adds what else gets it there.
+ *   docs/STATE.md draws it.
+ * - Nothing is kept between calls but what stands there, nothing is locked, and nothing is allocated: threads, and a signal
+ *   handler, may call at the same time on states of their own; a state that they share, or that lies in memory shared between
+ *   programs, takes one call at a time, which is for the host to see to.
+ * - ARGUMENT, wherever it is listed, is for a session over 3, a credential over 7, a flag (kind, verdict, keep, provisioned)
+ *   other than 0 or 1, a name not of SLAVOTUK_NAME_SIZE bytes, and a slice that holds no state. A comment adds what else it is
+ *   for.
  * - Sessions, credentials, classes, versions and flags are 32 bits wide, so that a wrong value arrives as one. A claim's
  *   number has 16 bits: C narrows a wider value before the call.
  *
  * A protected call carries a claim of four parameters: kind, credential, number and verdict, the key unit's on the signature.
- * Of an elevated claim the credential, number and verdict are ignored, whatever they hold. The claim is tested so:
+ * Of an elevated claim the credential, number and verdict are ignored, whatever they hold. The claim's tests, in their order:
  *
- *   elevated  SLAVOTUK_NO_PROCESS unless the session has an active elevation, whose credential is then the claim's
- *   user      SLAVOTUK_CREDENTIAL where it is not provisioned
- *             SLAVOTUK_NO_PROCESS unless it has an active user process in the session
- *             SLAVOTUK_SPENT where that process's next number is 65535
- *             SLAVOTUK_OUT_OF_TURN where the number is not the next
- *             SLAVOTUK_VERDICT where the verdict is 0
+ *   elevated  NO_PROCESS unless the session has an active elevation, whose credential is then the claim's
+ *   user      CREDENTIAL where it is not provisioned
+ *             NO_PROCESS unless it has an active user process in the session
+ *             SPENT where that process's next number is 65535
+ *             OUT_OF_TURN where the number is not the next
+ *             VERDICT where the verdict is 0
  *
  * A call that is done under a user claim adds one to that process's next number; a refused call adds nothing.
  */
@@ -37,11 +41,18 @@
 #include <stddef.h>
 #include <stdint.h>
 
+/* On what a call writes to, where it is lent something else too: they may not overlap. C++ has no word for it. */
+#ifdef __cplusplus
+#define SLAVOTUK_RESTRICT
+#else
+#define SLAVOTUK_RESTRICT restrict
+#endif
+
 #ifdef __cplusplus
 extern "C" {
 #endif
 
-/* The library's version. One that changes a call or the state's bytes has another major number. */
+/* The library's version. Where a call or the state's bytes change, the major number does, and with it the soname. */
 #define SLAVOTUK_VERSION_MAJOR 1
 #define SLAVOTUK_VERSION_MINOR 0
 #define SLAVOTUK_VERSION_PATCH 0
@@ -51,23 +62,47 @@ extern "C" {
 
 /* What a call can answer. */
 enum slavotuk_number {
-    SLAVOTUK_DONE = 0,           /* accepted */
-    SLAVOTUK_ARGUMENT = 1,       /* a value out of its range, or a slice that holds no state */
-    SLAVOTUK_SESSION = 2,        /* closed; for open: already open */
-    SLAVOTUK_NO_VERSION = 3,     /* the session has no version yet */
-    SLAVOTUK_VERSION = 4,        /* a version other than SLAVOTUK_VERSION_1_0 */
-    SLAVOTUK_CREDENTIAL = 5,     /* not provisioned */
-    SLAVOTUK_NO_PROCESS = 6,     /* none of the stated kind */
-    SLAVOTUK_ALREADY_ACTIVE = 7, /* such a process is active already */
-    SLAVOTUK_VERDICT = 8,        /* the key unit said no */
-    SLAVOTUK_OUT_OF_TURN = 9,    /* the number is not the next */
-    SLAVOTUK_NOT_GRANTED = 10,   /* the class bit is clear in the grant word */
-    SLAVOTUK_FULL = 11,          /* SLAVOTUK_PROCESSES processes stand */
-    SLAVOTUK_NAME_TAKEN = 12,    /* equals a name in the table */
-    SLAVOTUK_SPENT = 13,         /* the next number is 65535 */
-    SLAVOTUK_MESSAGE = 14,       /* the bytes don't fit the message's layout */
-    SLAVOTUK_ROOM = 15           /* the buffer is too short */
+    SLAVOTUK_DONE = 0,                   /* accepted */
+    SLAVOTUK_REFUSED_ARGUMENT = 1,       /* a value out of its range, or a slice that holds no state */
+    SLAVOTUK_REFUSED_SESSION = 2,        /* closed; for open: already open */
+    SLAVOTUK_REFUSED_NO_VERSION = 3,     /* the session has no version yet */
+    SLAVOTUK_REFUSED_VERSION = 4,        /* a version other than SLAVOTUK_VERSION_1_0 */
+    SLAVOTUK_REFUSED_CREDENTIAL = 5,     /* not provisioned */
+    SLAVOTUK_REFUSED_NO_PROCESS = 6,     /* none of the stated kind */
+    SLAVOTUK_REFUSED_ALREADY_ACTIVE = 7, /* such a process is active already */
+    SLAVOTUK_REFUSED_VERDICT = 8,        /* the key unit said no */
+    SLAVOTUK_REFUSED_OUT_OF_TURN = 9,    /* the number is not the next */
+    SLAVOTUK_REFUSED_NOT_GRANTED = 10,   /* the class bit is clear in the grant word */
+    SLAVOTUK_REFUSED_FULL = 11,          /* SLAVOTUK_PROCESSES processes stand */
+    SLAVOTUK_REFUSED_NAME_TAKEN = 12,    /* equals a name in the table */
+    SLAVOTUK_REFUSED_SPENT = 13,         /* the next number is 65535 */
+    SLAVOTUK_REFUSED_MESSAGE = 14,       /* the bytes don't fit the message's layout */
+    SLAVOTUK_REFUSED_ROOM = 15           /* the buffer is too short */
 };
+
+/* A number's name in document 01; "unknown" for a number that this header does not have. */
+static inline const char *slavotuk_number_name(uint32_t number)
+{
+    switch (number) {
+    case SLAVOTUK_DONE: return "done";
+    case SLAVOTUK_REFUSED_ARGUMENT: return "argument";
+    case SLAVOTUK_REFUSED_SESSION: return "session";
+    case SLAVOTUK_REFUSED_NO_VERSION: return "no version";
+    case SLAVOTUK_REFUSED_VERSION: return "version";
+    case SLAVOTUK_REFUSED_CREDENTIAL: return "credential";
+    case SLAVOTUK_REFUSED_NO_PROCESS: return "no process";
+    case SLAVOTUK_REFUSED_ALREADY_ACTIVE: return "already active";
+    case SLAVOTUK_REFUSED_VERDICT: return "verdict";
+    case SLAVOTUK_REFUSED_OUT_OF_TURN: return "out of turn";
+    case SLAVOTUK_REFUSED_NOT_GRANTED: return "not granted";
+    case SLAVOTUK_REFUSED_FULL: return "full";
+    case SLAVOTUK_REFUSED_NAME_TAKEN: return "name taken";
+    case SLAVOTUK_REFUSED_SPENT: return "spent";
+    case SLAVOTUK_REFUSED_MESSAGE: return "message";
+    case SLAVOTUK_REFUSED_ROOM: return "room";
+    default: return "unknown";
+    }
+}
 
 /* What the module holds. */
 #define SLAVOTUK_SESSIONS 4
@@ -84,7 +119,7 @@ enum slavotuk_number {
 /* Bytes of the longest listing: a response of this size always has the room. */
 #define SLAVOTUK_LISTING_SIZE (SLAVOTUK_HEADER_SIZE + SLAVOTUK_ROW_SIZE * SLAVOTUK_PROCESSES)
 
-/* Version 1.0 as its byte, the only one that can be selected. */
+/* Version 1.0 of the protocol as its byte, the only one that a session can select. */
 #define SLAVOTUK_VERSION_1_0 0x10
 
 /* Kinds of a claim. */
@@ -107,6 +142,11 @@ enum slavotuk_number {
 /* The wanted credential of a listing of all processes. */
 #define SLAVOTUK_WANTED_ALL 65535
 
+/* ---- the library */
+
+/* The version of the library that is linked, as SLAVOTUK_VERSION_NUMBER has that of this header. */
+uint32_t slavotuk_version(void);
+
 /* ---- the module and its sessions */
 
 /*
@@ -115,29 +155,29 @@ enum slavotuk_number {
  *   provisioned  SLAVOTUK_CREDENTIALS flags, one for each credential
  *   words        as many grant words; that of a credential that is not provisioned is taken as zero
  *
- * Answers: SLAVOTUK_ARGUMENT, for a slice of another length or a flag other than 0 or 1 and for nothing else.
+ * Refused: ARGUMENT, for a slice of another length or a flag other than 0 or 1 and for nothing else.
  */
-uint32_t slavotuk_fresh(uint8_t *state, size_t state_length, const uint8_t *provisioned, size_t provisioned_length,
-                        const uint32_t *words, size_t words_length);
+uint32_t slavotuk_fresh(uint8_t *SLAVOTUK_RESTRICT state, size_t state_length, const uint8_t *provisioned,
+                        size_t provisioned_length, const uint32_t *words, size_t words_length);
 
 /*
  * Asks whether a slice holds a state. It is only read, so read-only memory serves.
  *
- * Answers: SLAVOTUK_ARGUMENT where it holds none, and nothing else.
+ * Refused: ARGUMENT where it holds none, and for nothing else.
  */
 uint32_t slavotuk_holds(const uint8_t *state, size_t state_length);
 
 /*
  * Opens a session, without a version.
  *
- * Answers: SLAVOTUK_ARGUMENT; SLAVOTUK_SESSION where it is open already.
+ * Refused: ARGUMENT; SESSION where it is open already.
  */
 uint32_t slavotuk_open(uint8_t *state, size_t state_length, uint32_t session);
 
 /*
  * Closes a session and removes its active processes; saved ones stay.
  *
- * Answers: SLAVOTUK_ARGUMENT; SLAVOTUK_SESSION where it is closed already.
+ * Refused: ARGUMENT; SESSION where it is closed already.
  */
 uint32_t slavotuk_close(uint8_t *state, size_t state_length, uint32_t session);
 
@@ -146,7 +186,7 @@ uint32_t slavotuk_close(uint8_t *state, size_t state_length, uint32_t session);
  *
  *   version  SLAVOTUK_VERSION_1_0
  *
- * Answers: SLAVOTUK_ARGUMENT; SLAVOTUK_SESSION where it is closed; SLAVOTUK_VERSION for every other version.
+ * Refused: ARGUMENT; SESSION where it is closed; VERSION for every other version.
  */
 uint32_t slavotuk_select(uint8_t *state, size_t state_length, uint32_t session, uint32_t version);
 
@@ -157,23 +197,22 @@ uint32_t slavotuk_select(uint8_t *state, size_t state_length, uint32_t session, 
  *
  *   name  what the hash unit worked out for this process
  *
- * Answers: SLAVOTUK_ARGUMENT; SLAVOTUK_SESSION; SLAVOTUK_NO_VERSION; SLAVOTUK_CREDENTIAL; SLAVOTUK_ALREADY_ACTIVE where the
- * credential has an active user process in the session; SLAVOTUK_NAME_TAKEN; SLAVOTUK_FULL.
+ * Refused: ARGUMENT; SESSION; NO_VERSION; CREDENTIAL; ALREADY_ACTIVE where the credential has an active user process in the
+ * session; NAME_TAKEN; FULL.
  */
-uint32_t slavotuk_start(uint8_t *state, size_t state_length, uint32_t session, uint32_t credential, const uint8_t *name,
-                        size_t name_length);
+uint32_t slavotuk_start(uint8_t *SLAVOTUK_RESTRICT state, size_t state_length, uint32_t session, uint32_t credential,
+                        const uint8_t *name, size_t name_length);
 
 /*
  * Makes a saved process of a credential active in a session, in its old place and with its old next number.
  *
  *   name  the name it was started with
  *
- * Answers: SLAVOTUK_ARGUMENT; SLAVOTUK_SESSION; SLAVOTUK_NO_VERSION; SLAVOTUK_CREDENTIAL; SLAVOTUK_NO_PROCESS unless a saved
- * process has that credential and that name; SLAVOTUK_ALREADY_ACTIVE where the credential has an active user process in the
- * session.
+ * Refused: ARGUMENT; SESSION; NO_VERSION; CREDENTIAL; NO_PROCESS unless a saved process has that credential and that name;
+ * ALREADY_ACTIVE where the credential has an active user process in the session.
  */
-uint32_t slavotuk_continue(uint8_t *state, size_t state_length, uint32_t session, uint32_t credential, const uint8_t *name,
-                           size_t name_length);
+uint32_t slavotuk_continue(uint8_t *SLAVOTUK_RESTRICT state, size_t state_length, uint32_t session, uint32_t credential,
+                           const uint8_t *name, size_t name_length);
 
 /*
  * Starts an elevation of a session for a credential, last in the table.
@@ -181,16 +220,16 @@ uint32_t slavotuk_continue(uint8_t *state, size_t state_length, uint32_t session
  *   name     what the hash unit worked out for this process
  *   verdict  the key unit's: 1 yes, 0 no
  *
- * Answers: SLAVOTUK_ARGUMENT; SLAVOTUK_SESSION; SLAVOTUK_NO_VERSION; SLAVOTUK_CREDENTIAL; SLAVOTUK_VERDICT;
- * SLAVOTUK_ALREADY_ACTIVE where the session has an elevation; SLAVOTUK_NAME_TAKEN; SLAVOTUK_FULL.
+ * Refused: ARGUMENT; SESSION; NO_VERSION; CREDENTIAL; VERDICT; ALREADY_ACTIVE where the session has an elevation; NAME_TAKEN;
+ * FULL.
  */
-uint32_t slavotuk_elevate(uint8_t *state, size_t state_length, uint32_t session, uint32_t credential, const uint8_t *name,
-                          size_t name_length, uint32_t verdict);
+uint32_t slavotuk_elevate(uint8_t *SLAVOTUK_RESTRICT state, size_t state_length, uint32_t session, uint32_t credential,
+                          const uint8_t *name, size_t name_length, uint32_t verdict);
 
 /*
  * Removes a session's elevation; the session stays open.
  *
- * Answers: SLAVOTUK_ARGUMENT; SLAVOTUK_SESSION; SLAVOTUK_NO_VERSION; SLAVOTUK_NO_PROCESS where it has none.
+ * Refused: ARGUMENT; SESSION; NO_VERSION; NO_PROCESS where it has none.
  */
 uint32_t slavotuk_drop(uint8_t *state, size_t state_length, uint32_t session);
 
@@ -199,9 +238,8 @@ uint32_t slavotuk_drop(uint8_t *state, size_t state_length, uint32_t session);
  *
  *   keep  1 saves the process, 0 removes it
  *
- * Answers: SLAVOTUK_ARGUMENT; SLAVOTUK_SESSION; SLAVOTUK_NO_VERSION; the claim's SLAVOTUK_CREDENTIAL, SLAVOTUK_NO_PROCESS,
- * SLAVOTUK_SPENT, SLAVOTUK_OUT_OF_TURN, SLAVOTUK_VERDICT; SLAVOTUK_NOT_GRANTED where keep is 1 and SLAVOTUK_CLASS_SAVE_OWN is
- * not granted.
+ * Refused: ARGUMENT; SESSION; NO_VERSION; the claim's tests; NOT_GRANTED where keep is 1 and SLAVOTUK_CLASS_SAVE_OWN is not
+ * granted.
  */
 uint32_t slavotuk_end(uint8_t *state, size_t state_length, uint32_t session, uint32_t credential, uint16_t number,
                       uint32_t verdict, uint32_t keep);
@@ -213,9 +251,8 @@ uint32_t slavotuk_end(uint8_t *state, size_t state_length, uint32_t session, uin
  *
  *   device_class  the operation's class, SLAVOTUK_CLASS_DEVICE_FIRST to SLAVOTUK_CLASS_DEVICE_LAST
  *
- * Answers: SLAVOTUK_ARGUMENT, for a class out of that range too; SLAVOTUK_SESSION; SLAVOTUK_NO_VERSION; the claim's
- * SLAVOTUK_NO_PROCESS where it is elevated, or SLAVOTUK_CREDENTIAL, SLAVOTUK_NO_PROCESS, SLAVOTUK_SPENT, SLAVOTUK_OUT_OF_TURN,
- * SLAVOTUK_VERDICT; SLAVOTUK_NOT_GRANTED where the claim's credential lacks the class.
+ * Refused: ARGUMENT, for a class out of that range too; SESSION; NO_VERSION; the claim's tests; NOT_GRANTED where the claim's
+ * credential lacks the class.
  */
 uint32_t slavotuk_record(uint8_t *state, size_t state_length, uint32_t session, uint32_t kind, uint32_t credential,
                          uint16_t number, uint32_t verdict, uint32_t device_class);
@@ -228,25 +265,21 @@ uint32_t slavotuk_record(uint8_t *state, size_t state_length, uint32_t session, 
  *   response  the buffer; SLAVOTUK_LISTING_SIZE bytes are always enough
  *   length    handed out: the message's length, 0 on a refusal
  *
- * Answers: SLAVOTUK_ARGUMENT, for every other value of wanted too; SLAVOTUK_SESSION; SLAVOTUK_NO_VERSION; the claim's
- * SLAVOTUK_NO_PROCESS where it is elevated, or SLAVOTUK_CREDENTIAL, SLAVOTUK_NO_PROCESS, SLAVOTUK_SPENT, SLAVOTUK_OUT_OF_TURN,
- * SLAVOTUK_VERDICT; SLAVOTUK_NOT_GRANTED where wanted is not the claim's credential, which lacks SLAVOTUK_CLASS_LIST_OTHERS;
- * SLAVOTUK_ROOM.
+ * Refused: ARGUMENT, for every other value of wanted too; SESSION; NO_VERSION; the claim's tests; NOT_GRANTED where wanted is
+ * not the claim's credential, which lacks SLAVOTUK_CLASS_LIST_OTHERS; ROOM.
  */
-uint32_t slavotuk_list(uint8_t *state, size_t state_length, uint32_t session, uint32_t kind, uint32_t credential,
-                       uint16_t number, uint32_t verdict, uint32_t wanted, uint8_t *response, size_t response_length,
-                       size_t *length);
+uint32_t slavotuk_list(uint8_t *SLAVOTUK_RESTRICT state, size_t state_length, uint32_t session, uint32_t kind,
+                       uint32_t credential, uint16_t number, uint32_t verdict, uint32_t wanted,
+                       uint8_t *SLAVOTUK_RESTRICT response, size_t response_length, size_t *SLAVOTUK_RESTRICT length);
 
 /*
  * Removes the process of that name, of whichever type. A claim may kill its own credential's processes, and all where
  * SLAVOTUK_CLASS_KILL_OTHERS is granted.
  *
- * Answers: SLAVOTUK_ARGUMENT; SLAVOTUK_SESSION; SLAVOTUK_NO_VERSION; the claim's SLAVOTUK_NO_PROCESS where it is elevated, or
- * SLAVOTUK_CREDENTIAL, SLAVOTUK_NO_PROCESS, SLAVOTUK_SPENT, SLAVOTUK_OUT_OF_TURN, SLAVOTUK_VERDICT; SLAVOTUK_NO_PROCESS where
- * no process that the claim may kill has the name.
+ * Refused: ARGUMENT; SESSION; NO_VERSION; the claim's tests; NO_PROCESS where no process that the claim may kill has the name.
  */
-uint32_t slavotuk_kill(uint8_t *state, size_t state_length, uint32_t session, uint32_t kind, uint32_t credential,
-                       uint16_t number, uint32_t verdict, const uint8_t *name, size_t name_length);
+uint32_t slavotuk_kill(uint8_t *SLAVOTUK_RESTRICT state, size_t state_length, uint32_t session, uint32_t kind,
+                       uint32_t credential, uint16_t number, uint32_t verdict, const uint8_t *name, size_t name_length);
 
 /*
  * Sets a credential's grant word.
@@ -254,9 +287,8 @@ uint32_t slavotuk_kill(uint8_t *state, size_t state_length, uint32_t session, ui
  *   target  the credential whose word is set
  *   word    the new word; every value is taken
  *
- * Answers: SLAVOTUK_ARGUMENT; SLAVOTUK_SESSION; SLAVOTUK_NO_VERSION; the claim's SLAVOTUK_NO_PROCESS where it is elevated, or
- * SLAVOTUK_CREDENTIAL, SLAVOTUK_NO_PROCESS, SLAVOTUK_SPENT, SLAVOTUK_OUT_OF_TURN, SLAVOTUK_VERDICT; SLAVOTUK_NOT_GRANTED where
- * the claim's credential lacks SLAVOTUK_CLASS_SET_WORDS; SLAVOTUK_CREDENTIAL where the target is not provisioned.
+ * Refused: ARGUMENT; SESSION; NO_VERSION; the claim's tests; NOT_GRANTED where the claim's credential lacks
+ * SLAVOTUK_CLASS_SET_WORDS; CREDENTIAL where the target is not provisioned.
  */
 uint32_t slavotuk_set_word(uint8_t *state, size_t state_length, uint32_t session, uint32_t kind, uint32_t credential,
                            uint16_t number, uint32_t verdict, uint32_t target, uint32_t word);
@@ -268,16 +300,16 @@ uint32_t slavotuk_set_word(uint8_t *state, size_t state_length, uint32_t session
  *
  *   credential  handed out: the wanted credential
  *
- * Answers: SLAVOTUK_MESSAGE for a wrong code or a length other than SLAVOTUK_REQUEST_SIZE.
+ * Refused: MESSAGE for a wrong code or a length other than SLAVOTUK_REQUEST_SIZE.
  */
-uint32_t slavotuk_read_request(const uint8_t *message, size_t message_length, uint16_t *credential);
+uint32_t slavotuk_read_request(const uint8_t *message, size_t message_length, uint16_t *SLAVOTUK_RESTRICT credential);
 
 /*
  * Writes GET_AUTH_PROCESSES to the first SLAVOTUK_REQUEST_SIZE bytes of the buffer. Later bytes are not touched.
  *
  *   credential  the wanted credential, or SLAVOTUK_WANTED_ALL; every value is written as it stands
  *
- * Answers: SLAVOTUK_ROOM for a shorter buffer.
+ * Refused: ROOM for a shorter buffer.
  */
 uint32_t slavotuk_write_request(uint8_t *buffer, size_t buffer_length, uint16_t credential);
 
@@ -287,10 +319,10 @@ uint32_t slavotuk_write_request(uint8_t *buffer, size_t buffer_length, uint16_t 
  *   message  the whole message and no byte more
  *   count    handed out
  *
- * Answers: SLAVOTUK_MESSAGE for a wrong code, a length under SLAVOTUK_HEADER_SIZE or other than the count asks for, or a type
- * over SLAVOTUK_TYPE_SAVED_USER in any row.
+ * Refused: MESSAGE for a wrong code, a length under SLAVOTUK_HEADER_SIZE or other than the count asks for, or a type over
+ * SLAVOTUK_TYPE_SAVED_USER in any row.
  */
-uint32_t slavotuk_read_count(const uint8_t *message, size_t message_length, uint16_t *count);
+uint32_t slavotuk_read_count(const uint8_t *message, size_t message_length, uint16_t *SLAVOTUK_RESTRICT count);
 
 /*
  * Reads one row of AUTH_PROCESSES.
@@ -301,16 +333,10 @@ uint32_t slavotuk_read_count(const uint8_t *message, size_t message_length, uint
  *   kind        handed out: the type of the process
  *   name        handed out, into a slice of SLAVOTUK_NAME_SIZE bytes
  *
- * Answers: SLAVOTUK_MESSAGE as slavotuk_read_count does; SLAVOTUK_ARGUMENT for a place at or past the count, or a name's slice
- * of another length.
+ * Refused: MESSAGE as slavotuk_read_count does; ARGUMENT for a place at or past the count, or a name's slice of another length.
  */
-uint32_t slavotuk_read_row(const uint8_t *message, size_t message_length, size_t at, uint16_t *credential, uint8_t *kind,
-                           uint8_t *name, size_t name_length);
-
-/* ---- the library */
-
-/* The version of the library that is linked, as SLAVOTUK_VERSION_NUMBER has that of this header. */
-uint32_t slavotuk_version(void);
+uint32_t slavotuk_read_row(const uint8_t *message, size_t message_length, size_t at, uint16_t *SLAVOTUK_RESTRICT credential,
+                           uint8_t *SLAVOTUK_RESTRICT kind, uint8_t *SLAVOTUK_RESTRICT name, size_t name_length);
 
 #ifdef __cplusplus
 }

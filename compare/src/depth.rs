@@ -120,7 +120,7 @@ impl Depth {
     fn note_continue(&mut self, trail: &mut Trail, session: u32, name: &[u8]) {
         self.continued += 1;
         let saved_in = trail.saved_in.get(name);
-        self.continued_elsewhere += u64::from(saved_in.map_or(false, |saved| *saved != session));
+        self.continued_elsewhere += u64::from(saved_in.is_some_and(|saved| *saved != session));
     }
 
     /// Adds what another run counted.

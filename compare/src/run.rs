@@ -124,7 +124,7 @@ fn explain(title: &str, (seed, failure): (u64, Failure)) -> String {
 pub fn soak(time: Option<Duration>, seed: u64) -> ExitCode {
     const ROUND: usize = 200;
     let begun = Instant::now();
-    let is_over = || time.map_or(false, |time| begun.elapsed() >= time);
+    let is_over = || time.is_some_and(|time| begun.elapsed() >= time);
     let mut said = begun;
     let mut random = Random::new(seed);
     let (mut depth, mut damaged) = (Depth::default(), 0);

@@ -13,16 +13,6 @@ enum { EXIT_USAGE = 2 };
 
 enum { SESSION = 0, VERDICT_YES = 1 };
 
-static const char *name_of_number(uint32_t number)
-{
-    static const char *const names[] = {
-        "done",       "argument",       "session", "no version",  "version",     "credential",
-        "no process", "already active", "verdict", "out of turn", "not granted", "full",
-        "name taken", "spent",          "message", "room",
-    };
-    return number <= SLAVOTUK_ROOM ? names[number] : "unknown";
-}
-
 static const char *name_of_type(uint8_t type)
 {
     static const char *const names[] = {"active user", "active elevation", "saved user"};
@@ -32,10 +22,10 @@ static const char *name_of_type(uint8_t type)
 /* Prints an answer, and ends the program where it is not the expected one. */
 static void expect(const char *step, uint32_t answer, uint32_t expected)
 {
-    printf("%-36s %2u %s\n", step, (unsigned)answer, name_of_number(answer));
+    printf("%-36s %2u %s\n", step, (unsigned)answer, slavotuk_number_name(answer));
     if (answer != expected) {
         fprintf(stderr, "host: %s: expected %u %s, the answer is %u %s\n", step, (unsigned)expected,
-                name_of_number(expected), (unsigned)answer, name_of_number(answer));
+                slavotuk_number_name(expected), (unsigned)answer, slavotuk_number_name(answer));
         exit(EXIT_FAILURE);
     }
 }
@@ -86,7 +76,7 @@ static void send_records(uint8_t state[SLAVOTUK_STATE_SIZE])
     expect("the same record again",
            slavotuk_record(state, SLAVOTUK_STATE_SIZE, SESSION, SLAVOTUK_CLAIM_USER, 1, 0, VERDICT_YES,
                            SLAVOTUK_CLASS_DEVICE_FIRST),
-           SLAVOTUK_OUT_OF_TURN);
+           SLAVOTUK_REFUSED_OUT_OF_TURN);
 }
 
 /* The console's request, as it goes over the wire and arrives: the wanted credential. */

@@ -1,0 +1,133 @@
+/*
+ * A program of the time before the library had a version: it declares the seventeen entries as they stood then, with its own
+ * names for the numbers, and includes no header of ours. It goes through document 01's steps 1 to 11 and a step for each other
+ * entry. Linked to today's library it gets the answers that it got then. Exit code: 0 where it does, else 1.
+ */
+#include <stddef.h>
+#include <stdint.h>
+#include <stdio.h>
+#include <string.h>
+
+uint32_t slavotuk_fresh(uint8_t *state, size_t state_length, const uint8_t *provisioned, size_t provisioned_length,
+                        const uint32_t *words, size_t words_length);
+uint32_t slavotuk_open(uint8_t *state, size_t state_length, uint32_t session);
+uint32_t slavotuk_close(uint8_t *state, size_t state_length, uint32_t session);
+uint32_t slavotuk_select(uint8_t *state, size_t state_length, uint32_t session, uint32_t version);
+uint32_t slavotuk_start(uint8_t *state, size_t state_length, uint32_t session, uint32_t credential, const uint8_t *name,
+                        size_t name_length);
+uint32_t slavotuk_continue(uint8_t *state, size_t state_length, uint32_t session, uint32_t credential, const uint8_t *name,
+                           size_t name_length);
+uint32_t slavotuk_elevate(uint8_t *state, size_t state_length, uint32_t session, uint32_t credential, const uint8_t *name,
+                          size_t name_length, uint32_t verdict);
+uint32_t slavotuk_drop(uint8_t *state, size_t state_length, uint32_t session);
+uint32_t slavotuk_end(uint8_t *state, size_t state_length, uint32_t session, uint32_t credential, uint16_t number,
+                      uint32_t verdict, uint32_t keep);
+uint32_t slavotuk_record(uint8_t *state, size_t state_length, uint32_t session, uint32_t kind, uint32_t credential,
+                         uint16_t number, uint32_t verdict, uint32_t device_class);
+uint32_t slavotuk_list(uint8_t *state, size_t state_length, uint32_t session, uint32_t kind, uint32_t credential,
+                       uint16_t number, uint32_t verdict, uint32_t wanted, uint8_t *response, size_t response_length,
+                       size_t *length);
+uint32_t slavotuk_kill(uint8_t *state, size_t state_length, uint32_t session, uint32_t kind, uint32_t credential,
+                       uint16_t number, uint32_t verdict, const uint8_t *name, size_t name_length);
+uint32_t slavotuk_set_word(uint8_t *state, size_t state_length, uint32_t session, uint32_t kind, uint32_t credential,
+                           uint16_t number, uint32_t verdict, uint32_t target, uint32_t word);
+uint32_t slavotuk_read_request(const uint8_t *message, size_t message_length, uint16_t *credential);
+uint32_t slavotuk_write_request(uint8_t *buffer, size_t buffer_length, uint16_t credential);
+uint32_t slavotuk_read_count(const uint8_t *message, size_t message_length, uint16_t *count);
+uint32_t slavotuk_read_row(const uint8_t *message, size_t message_length, size_t at, uint16_t *credential, uint8_t *kind,
+                           uint8_t *name, size_t name_length);
+
+#define EXPECT(value, expected) expect(__LINE__, #value, (unsigned long)(value), (unsigned long)(expected))
+#define MODULE state, sizeof state
+#define USER(credential, number) 0, credential, number, 1
+
+static int differences = 0;
+static uint8_t state[681];
+static uint8_t p[48], q[48], r[48];
+
+static void expect(int line, const char *text, unsigned long value, unsigned long expected)
+{
+    if (value != expected) {
+        printf("earlier.c:%d: %s is %lu, not %lu\n", line, text, value, expected);
+        differences++;
+    }
+}
+
+static void make_names(void)
+{
+    memset(p + 16, 0x11, 32);
+    memset(q + 16, 0x22, 32);
+    memcpy(r, p, sizeof r);
+    r[47] = 0x12;
+}
+
+static void steps_1_to_9(void)
+{
+    const uint8_t provisioned[8] = {1, 1};
+    const uint32_t words[8] = {15, 16};
+    EXPECT(slavotuk_fresh(MODULE, provisioned, 8, words, 8), 0);
+    EXPECT(slavotuk_open(MODULE, 4), 1);
+    EXPECT(slavotuk_open(MODULE, 0), 0);
+    EXPECT(slavotuk_open(MODULE, 0), 2);
+    EXPECT(slavotuk_start(MODULE, 0, 0, p, 48), 3);
+    EXPECT(slavotuk_select(MODULE, 0, 0x20), 4);
+    EXPECT(slavotuk_select(MODULE, 0, 0x10), 0);
+    EXPECT(slavotuk_start(MODULE, 0, 2, p, 48), 5);
+    EXPECT(slavotuk_start(MODULE, 0, 0, p, 48), 0);
+    EXPECT(slavotuk_start(MODULE, 0, 1, p, 48), 12);
+    EXPECT(slavotuk_start(MODULE, 0, 1, r, 48), 0);
+    EXPECT(slavotuk_start(MODULE, 0, 1, p, 48), 7);
+    EXPECT(slavotuk_record(MODULE, 0, USER(1, 0), 4), 0);
+    EXPECT(slavotuk_record(MODULE, 0, USER(1, 0), 4), 9);
+    EXPECT(slavotuk_record(MODULE, 0, 0, 1, 1, 0, 4), 8);
+    EXPECT(slavotuk_record(MODULE, 0, USER(1, 1), 5), 10);
+    EXPECT(slavotuk_record(MODULE, 0, USER(1, 1), 4), 0);
+    EXPECT(slavotuk_record(MODULE, 0, USER(1, 2), 3), 1);
+    EXPECT(slavotuk_kill(MODULE, 0, USER(1, 2), p, 48), 6);
+    EXPECT(slavotuk_kill(MODULE, 0, USER(0, 0), r, 48), 0);
+    EXPECT(slavotuk_record(MODULE, 0, USER(1, 2), 4), 6);
+}
+
+static void steps_10_and_11(void)
+{
+    uint8_t response[55], name[48], type = 9;
+    size_t length = 7;
+    uint16_t count = 9, credential = 9;
+    EXPECT(slavotuk_list(MODULE, 0, USER(0, 1), 65535, response, 54, &length), 15);
+    EXPECT(length, 0);
+    EXPECT(slavotuk_list(MODULE, 0, USER(0, 1), 65535, response, 55, &length), 0);
+    EXPECT(length, 55);
+    EXPECT(slavotuk_read_count(response, length, &count), 0);
+    EXPECT(count, 1);
+    EXPECT(slavotuk_read_row(response, length, 0, &credential, &type, name, 48), 0);
+    EXPECT(credential + type + memcmp(name, p, 48), 0);
+    EXPECT(slavotuk_end(MODULE, 0, 0, 2, 1, 1), 0);
+    EXPECT(slavotuk_open(MODULE, 1), 0);
+    EXPECT(slavotuk_select(MODULE, 1, 0x10), 0);
+    EXPECT(slavotuk_continue(MODULE, 1, 0, q, 48), 6);
+    EXPECT(slavotuk_continue(MODULE, 1, 0, p, 48), 0);
+    EXPECT(state[48], 3);
+}
+
+static void the_other_entries(void)
+{
+    uint8_t request[4];
+    uint16_t wanted = 9;
+    EXPECT(slavotuk_set_word(MODULE, 1, USER(0, 3), 1, 0x80000010), 0);
+    EXPECT(slavotuk_elevate(MODULE, 1, 1, q, 48, 1), 0);
+    EXPECT(slavotuk_record(MODULE, 1, 1, 99, 99, 99, 31), 0);
+    EXPECT(slavotuk_drop(MODULE, 1), 0);
+    EXPECT(slavotuk_close(MODULE, 1), 0);
+    EXPECT(slavotuk_write_request(request, 4, 65535), 0);
+    EXPECT(slavotuk_read_request(request, 4, &wanted), 0);
+    EXPECT(wanted, 65535);
+}
+
+int main(void)
+{
+    make_names();
+    steps_1_to_9();
+    steps_10_and_11();
+    the_other_entries();
+    return differences != 0;
+}

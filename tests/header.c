@@ -1,0 +1,293 @@
+/*
+ * Does the header say what the archive does? Each constant is tried at its bound and one past it, each of the sixteen numbers
+ * is met, and every slice is handed in as null with length 0. Slices are allocated with just their length, so that valgrind sees a byte read or written past them.
+ * Also compiled as C++. Exit code: 0 where all agree, else 1.
+ */
+#include <stdint.h>
+#include <stdio.h>
+#include <stdlib.h>
+#include <string.h>
+
+#include "slavotuk.h"
+
+#define USER(credential, number) SLAVOTUK_CLAIM_USER, credential, number, 1
+#define ELEVATED SLAVOTUK_CLAIM_ELEVATED, 99, 99, 99
+#define MODULE state, SLAVOTUK_STATE_SIZE
+#define NAMED(last) named(last), SLAVOTUK_NAME_SIZE
+
+#define EXPECT(value, expected) expect(__LINE__, #value, (unsigned long)(value), (unsigned long)(expected))
+
+static int disagreements = 0;
+static uint8_t *state;
+static uint8_t *name;
+static uint8_t *listing;
+
+static void expect(int line, const char *text, unsigned long value, unsigned long expected)
+{
+    if (value != expected) {
+        printf("header.c:%d: %s is %lu, not %lu\n", line, text, value, expected);
+        disagreements++;
+    }
+}
+
+static uint8_t *allocate(size_t length)
+{
+    uint8_t *bytes = (uint8_t *)malloc(length);
+    if (bytes == NULL) {
+        fputs("header: no memory\n", stderr);
+        exit(EXIT_FAILURE);
+    }
+    return bytes;
+}
+
+/* The one name, with this last byte. */
+static const uint8_t *named(unsigned last)
+{
+    memset(name, 0, SLAVOTUK_NAME_SIZE);
+    name[SLAVOTUK_NAME_SIZE - 1] = (uint8_t)last;
+    return name;
+}
+
+/* Tries a fresh module in a slice of its own of this length, of this many credentials. */
+static uint32_t fresh_of(size_t state_length, size_t credentials)
+{
+    uint8_t provisioned[SLAVOTUK_CREDENTIALS + 1] = {0};
+    uint32_t words[SLAVOTUK_CREDENTIALS + 1] = {0};
+    uint8_t *bytes = allocate(state_length);
+    uint32_t number = slavotuk_fresh(bytes, state_length, provisioned, credentials, words, credentials);
+    free(bytes);
+    return number;
+}
+
+static void check_fresh(void)
+{
+    EXPECT(fresh_of(SLAVOTUK_STATE_SIZE - 1, SLAVOTUK_CREDENTIALS), SLAVOTUK_REFUSED_ARGUMENT);
+    EXPECT(fresh_of(SLAVOTUK_STATE_SIZE, SLAVOTUK_CREDENTIALS), SLAVOTUK_DONE);
+    EXPECT(fresh_of(SLAVOTUK_STATE_SIZE + 1, SLAVOTUK_CREDENTIALS), SLAVOTUK_REFUSED_ARGUMENT);
+    EXPECT(fresh_of(SLAVOTUK_STATE_SIZE, SLAVOTUK_CREDENTIALS - 1), SLAVOTUK_REFUSED_ARGUMENT);
+    EXPECT(fresh_of(SLAVOTUK_STATE_SIZE, SLAVOTUK_CREDENTIALS + 1), SLAVOTUK_REFUSED_ARGUMENT);
+}
+
+/* Credentials 0 to 3 have the module's class of that number alone, 4 the first device class, 5 the last; 7 is not provisioned. */
+static void make_module(void)
+{
+    const uint8_t provisioned[SLAVOTUK_CREDENTIALS] = {1, 1, 1, 1, 1, 1, 1, 0};
+    const uint32_t words[SLAVOTUK_CREDENTIALS] = {
+        UINT32_C(1) << SLAVOTUK_CLASS_LIST_OTHERS,  UINT32_C(1) << SLAVOTUK_CLASS_KILL_OTHERS,
+        UINT32_C(1) << SLAVOTUK_CLASS_SAVE_OWN,     UINT32_C(1) << SLAVOTUK_CLASS_SET_WORDS,
+        UINT32_C(1) << SLAVOTUK_CLASS_DEVICE_FIRST, UINT32_C(1) << SLAVOTUK_CLASS_DEVICE_LAST,
+    };
+    EXPECT(slavotuk_fresh(MODULE, provisioned, SLAVOTUK_CREDENTIALS, words, SLAVOTUK_CREDENTIALS), SLAVOTUK_DONE);
+}
+
+/* What lies in read-only memory: a write would end the program. All zero is a fresh module without credentials. */
+static const uint8_t read_only[SLAVOTUK_STATE_SIZE] = {0};
+
+/* The module is a state; a byte more or less of it is none. */
+static void check_holds(void)
+{
+    EXPECT(slavotuk_holds(read_only, SLAVOTUK_STATE_SIZE), SLAVOTUK_DONE);
+    uint8_t *longer = allocate(SLAVOTUK_STATE_SIZE + 1);
+    memcpy(longer, state, SLAVOTUK_STATE_SIZE);
+    longer[SLAVOTUK_STATE_SIZE] = 0;
+    EXPECT(slavotuk_holds(MODULE), SLAVOTUK_DONE);
+    EXPECT(slavotuk_holds(longer, SLAVOTUK_STATE_SIZE + 1), SLAVOTUK_REFUSED_ARGUMENT);
+    EXPECT(slavotuk_holds(longer + 1, SLAVOTUK_STATE_SIZE), SLAVOTUK_REFUSED_ARGUMENT);
+    EXPECT(slavotuk_holds(longer, SLAVOTUK_STATE_SIZE - 1), SLAVOTUK_REFUSED_ARGUMENT);
+    free(longer);
+}
+
+static void check_version(void)
+{
+    EXPECT(slavotuk_version(), SLAVOTUK_VERSION_NUMBER);
+}
+
+static void check_names(void)
+{
+    EXPECT(strcmp(slavotuk_number_name(SLAVOTUK_DONE), "done"), 0);
+    EXPECT(strcmp(slavotuk_number_name(SLAVOTUK_REFUSED_OUT_OF_TURN), "out of turn"), 0);
+    EXPECT(strcmp(slavotuk_number_name(SLAVOTUK_REFUSED_ROOM), "room"), 0);
+    EXPECT(strcmp(slavotuk_number_name(SLAVOTUK_REFUSED_ROOM + 1), "unknown"), 0);
+    EXPECT(strcmp(slavotuk_number_name(UINT32_MAX), "unknown"), 0);
+}
+
+/* Each slice that a call is lent, as null with length 0: the number that its length gets, and nothing is touched. */
+static void check_nulls(void)
+{
+    uint8_t flags[SLAVOTUK_CREDENTIALS] = {0};
+    uint32_t words[SLAVOTUK_CREDENTIALS] = {0};
+    size_t length = 1;
+    uint16_t number = 1;
+    uint8_t type = 1;
+    const uint8_t one_row[SLAVOTUK_HEADER_SIZE + SLAVOTUK_ROW_SIZE] = {0x0e, 0, 1};
+    EXPECT(slavotuk_fresh(NULL, 0, flags, sizeof flags, words, SLAVOTUK_CREDENTIALS), SLAVOTUK_REFUSED_ARGUMENT);
+    EXPECT(slavotuk_fresh(MODULE, NULL, 0, words, SLAVOTUK_CREDENTIALS), SLAVOTUK_REFUSED_ARGUMENT);
+    EXPECT(slavotuk_fresh(MODULE, flags, sizeof flags, NULL, 0), SLAVOTUK_REFUSED_ARGUMENT);
+    EXPECT(slavotuk_holds(NULL, 0), SLAVOTUK_REFUSED_ARGUMENT);
+    EXPECT(slavotuk_open(NULL, 0, 0), SLAVOTUK_REFUSED_ARGUMENT);
+    EXPECT(slavotuk_close(NULL, 0, 0), SLAVOTUK_REFUSED_ARGUMENT);
+    EXPECT(slavotuk_select(NULL, 0, 0, SLAVOTUK_VERSION_1_0), SLAVOTUK_REFUSED_ARGUMENT);
+    EXPECT(slavotuk_drop(NULL, 0, 0), SLAVOTUK_REFUSED_ARGUMENT);
+    EXPECT(slavotuk_start(NULL, 0, 0, 0, NAMED(0)), SLAVOTUK_REFUSED_ARGUMENT);
+    EXPECT(slavotuk_start(MODULE, 0, 0, NULL, 0), SLAVOTUK_REFUSED_ARGUMENT);
+    EXPECT(slavotuk_continue(NULL, 0, 0, 0, NAMED(0)), SLAVOTUK_REFUSED_ARGUMENT);
+    EXPECT(slavotuk_continue(MODULE, 0, 0, NULL, 0), SLAVOTUK_REFUSED_ARGUMENT);
+    EXPECT(slavotuk_elevate(NULL, 0, 0, 0, NAMED(0), 1), SLAVOTUK_REFUSED_ARGUMENT);
+    EXPECT(slavotuk_elevate(MODULE, 0, 0, NULL, 0, 1), SLAVOTUK_REFUSED_ARGUMENT);
+    EXPECT(slavotuk_end(NULL, 0, 0, 0, 0, 1, 0), SLAVOTUK_REFUSED_ARGUMENT);
+    EXPECT(slavotuk_record(NULL, 0, 0, USER(0, 0), SLAVOTUK_CLASS_DEVICE_FIRST), SLAVOTUK_REFUSED_ARGUMENT);
+    EXPECT(slavotuk_list(NULL, 0, 0, USER(0, 0), 0, listing, SLAVOTUK_LISTING_SIZE, &length), SLAVOTUK_REFUSED_ARGUMENT);
+    EXPECT(slavotuk_list(MODULE, 0, USER(0, 0), 0, NULL, 0, &length), SLAVOTUK_REFUSED_ROOM);
+    EXPECT(length, 0);
+    EXPECT(slavotuk_kill(NULL, 0, 0, USER(0, 0), NAMED(0)), SLAVOTUK_REFUSED_ARGUMENT);
+    EXPECT(slavotuk_kill(MODULE, 0, USER(0, 0), NULL, 0), SLAVOTUK_REFUSED_ARGUMENT);
+    EXPECT(slavotuk_set_word(NULL, 0, 0, USER(0, 0), 0, 0), SLAVOTUK_REFUSED_ARGUMENT);
+    EXPECT(slavotuk_read_request(NULL, 0, &number), SLAVOTUK_REFUSED_MESSAGE);
+    EXPECT(slavotuk_write_request(NULL, 0, 0), SLAVOTUK_REFUSED_ROOM);
+    EXPECT(slavotuk_read_count(NULL, 0, &number), SLAVOTUK_REFUSED_MESSAGE);
+    EXPECT(slavotuk_read_row(NULL, 0, 0, &number, &type, name, SLAVOTUK_NAME_SIZE), SLAVOTUK_REFUSED_MESSAGE);
+    EXPECT(slavotuk_read_row(one_row, sizeof one_row, 0, &number, &type, NULL, 0), SLAVOTUK_REFUSED_ARGUMENT);
+    EXPECT(number, 1);
+    EXPECT(type, 1);
+}
+
+static void check_sessions(void)
+{
+    EXPECT(slavotuk_open(MODULE, SLAVOTUK_SESSIONS), SLAVOTUK_REFUSED_ARGUMENT);
+    EXPECT(slavotuk_open(MODULE, SLAVOTUK_SESSIONS - 1), SLAVOTUK_DONE);
+    EXPECT(slavotuk_close(MODULE, SLAVOTUK_SESSIONS - 1), SLAVOTUK_DONE);
+    EXPECT(slavotuk_close(MODULE, SLAVOTUK_SESSIONS - 1), SLAVOTUK_REFUSED_SESSION);
+    for (uint32_t session = 0; session < 2; session++) {
+        EXPECT(slavotuk_open(MODULE, session), SLAVOTUK_DONE);
+        EXPECT(slavotuk_drop(MODULE, session), SLAVOTUK_REFUSED_NO_VERSION);
+        EXPECT(slavotuk_select(MODULE, session, SLAVOTUK_VERSION_1_0 + 1), SLAVOTUK_REFUSED_VERSION);
+        EXPECT(slavotuk_select(MODULE, session, SLAVOTUK_VERSION_1_0), SLAVOTUK_DONE);
+    }
+}
+
+/* Session 0 gets a user process for each credential that is provisioned. */
+static void check_starts(void)
+{
+    EXPECT(slavotuk_start(MODULE, 0, SLAVOTUK_CREDENTIALS, NAMED(0)), SLAVOTUK_REFUSED_ARGUMENT);
+    EXPECT(slavotuk_start(MODULE, 0, SLAVOTUK_CREDENTIALS - 1, NAMED(0)), SLAVOTUK_REFUSED_CREDENTIAL);
+    EXPECT(slavotuk_start(MODULE, 0, 0, named(0), SLAVOTUK_NAME_SIZE - 1), SLAVOTUK_REFUSED_ARGUMENT);
+    for (uint32_t credential = 0; credential < SLAVOTUK_CREDENTIALS - 1; credential++) {
+        EXPECT(slavotuk_start(MODULE, 0, credential, NAMED(credential)), SLAVOTUK_DONE);
+    }
+    EXPECT(slavotuk_start(MODULE, 0, 0, NAMED(90)), SLAVOTUK_REFUSED_ALREADY_ACTIVE);
+    EXPECT(slavotuk_start(MODULE, 1, 0, NAMED(1)), SLAVOTUK_REFUSED_NAME_TAKEN);
+}
+
+/* The device classes: credential 4 has the first, credential 5 the last. */
+static void check_records(void)
+{
+    EXPECT(slavotuk_record(MODULE, 0, USER(4, 0), SLAVOTUK_CLASS_DEVICE_FIRST - 1), SLAVOTUK_REFUSED_ARGUMENT);
+    EXPECT(slavotuk_record(MODULE, 0, USER(4, 0), SLAVOTUK_CLASS_DEVICE_FIRST), SLAVOTUK_DONE);
+    EXPECT(slavotuk_record(MODULE, 0, USER(4, 0), SLAVOTUK_CLASS_DEVICE_FIRST), SLAVOTUK_REFUSED_OUT_OF_TURN);
+    EXPECT(slavotuk_record(MODULE, 0, USER(4, 1), SLAVOTUK_CLASS_DEVICE_LAST), SLAVOTUK_REFUSED_NOT_GRANTED);
+    EXPECT(slavotuk_record(MODULE, 0, USER(5, 0), SLAVOTUK_CLASS_DEVICE_LAST), SLAVOTUK_DONE);
+    EXPECT(slavotuk_record(MODULE, 0, USER(5, 1), SLAVOTUK_CLASS_DEVICE_LAST + 1), SLAVOTUK_REFUSED_ARGUMENT);
+    EXPECT(slavotuk_record(MODULE, 0, ELEVATED, SLAVOTUK_CLASS_DEVICE_FIRST), SLAVOTUK_REFUSED_NO_PROCESS);
+    EXPECT(slavotuk_elevate(MODULE, 0, 4, NAMED(7), 0), SLAVOTUK_REFUSED_VERDICT);
+    EXPECT(slavotuk_elevate(MODULE, 0, 4, NAMED(7), 1), SLAVOTUK_DONE);
+    EXPECT(slavotuk_record(MODULE, 0, ELEVATED, SLAVOTUK_CLASS_DEVICE_FIRST), SLAVOTUK_DONE);
+    EXPECT(slavotuk_record(MODULE, 0, SLAVOTUK_CLAIM_ELEVATED + 1, 4, 1, 1, SLAVOTUK_CLASS_DEVICE_FIRST),
+           SLAVOTUK_REFUSED_ARGUMENT);
+}
+
+/* The module's own classes: each is granted to one credential, and another one is refused what it allows. */
+static void check_own_classes(void)
+{
+    size_t length = 0;
+    EXPECT(slavotuk_list(MODULE, 0, USER(3, 0), 0, listing, SLAVOTUK_LISTING_SIZE, &length), SLAVOTUK_REFUSED_NOT_GRANTED);
+    EXPECT(slavotuk_list(MODULE, 0, USER(0, 0), 3, listing, SLAVOTUK_LISTING_SIZE, &length), SLAVOTUK_DONE);
+    EXPECT(slavotuk_kill(MODULE, 0, USER(3, 0), NAMED(6)), SLAVOTUK_REFUSED_NO_PROCESS);
+    EXPECT(slavotuk_kill(MODULE, 0, USER(1, 0), NAMED(6)), SLAVOTUK_DONE);
+    EXPECT(slavotuk_end(MODULE, 0, 3, 0, 1, 1), SLAVOTUK_REFUSED_NOT_GRANTED);
+    EXPECT(slavotuk_end(MODULE, 0, 2, 0, 1, 1), SLAVOTUK_DONE);
+    EXPECT(slavotuk_set_word(MODULE, 0, USER(0, 1), 6, 0), SLAVOTUK_REFUSED_NOT_GRANTED);
+    EXPECT(slavotuk_set_word(MODULE, 0, USER(3, 0), 6, 0), SLAVOTUK_DONE);
+}
+
+/* Seven processes stand: five users, the elevation, the saved one. Five more fill the table. */
+static void check_full(void)
+{
+    for (uint32_t credential = 0; credential < 5; credential++) {
+        EXPECT(slavotuk_start(MODULE, 1, credential, NAMED(20 + credential)), SLAVOTUK_DONE);
+    }
+    EXPECT(slavotuk_start(MODULE, 1, 5, NAMED(30)), SLAVOTUK_REFUSED_FULL);
+}
+
+static uint8_t type_at(size_t length, size_t at)
+{
+    uint16_t credential = 0;
+    uint8_t type = 0xff;
+    uint8_t read[SLAVOTUK_NAME_SIZE];
+    EXPECT(slavotuk_read_row(listing, length, at, &credential, &type, read, sizeof read), SLAVOTUK_DONE);
+    return type;
+}
+
+static void check_listing(void)
+{
+    size_t length = 0;
+    uint16_t count = 0;
+    EXPECT(slavotuk_list(MODULE, 0, USER(0, 1), SLAVOTUK_WANTED_ALL - 1, listing, SLAVOTUK_LISTING_SIZE, &length),
+           SLAVOTUK_REFUSED_ARGUMENT);
+    EXPECT(slavotuk_list(MODULE, 0, USER(0, 1), SLAVOTUK_WANTED_ALL, listing, SLAVOTUK_LISTING_SIZE - 1, &length),
+           SLAVOTUK_REFUSED_ROOM);
+    EXPECT(slavotuk_list(MODULE, 0, USER(0, 1), SLAVOTUK_WANTED_ALL, listing, SLAVOTUK_LISTING_SIZE, &length),
+           SLAVOTUK_DONE);
+    EXPECT(length, SLAVOTUK_LISTING_SIZE);
+    EXPECT(slavotuk_read_count(listing, length, &count), SLAVOTUK_DONE);
+    EXPECT(count, SLAVOTUK_PROCESSES);
+    EXPECT(type_at(length, 0), SLAVOTUK_TYPE_ACTIVE_USER);
+    EXPECT(type_at(length, 2), SLAVOTUK_TYPE_SAVED_USER);
+    EXPECT(type_at(length, 6), SLAVOTUK_TYPE_ACTIVE_ELEVATION);
+    EXPECT(slavotuk_list(MODULE, 0, USER(0, 2), 7, listing, SLAVOTUK_HEADER_SIZE - 1, &length), SLAVOTUK_REFUSED_ROOM);
+    EXPECT(slavotuk_list(MODULE, 0, USER(0, 2), 7, listing, SLAVOTUK_HEADER_SIZE, &length), SLAVOTUK_DONE);
+    EXPECT(length, SLAVOTUK_HEADER_SIZE);
+}
+
+static void check_request(void)
+{
+    uint8_t *request = allocate(SLAVOTUK_REQUEST_SIZE);
+    uint16_t wanted = 0;
+    EXPECT(slavotuk_write_request(request, SLAVOTUK_REQUEST_SIZE - 1, SLAVOTUK_WANTED_ALL), SLAVOTUK_REFUSED_ROOM);
+    EXPECT(slavotuk_write_request(request, SLAVOTUK_REQUEST_SIZE, SLAVOTUK_WANTED_ALL), SLAVOTUK_DONE);
+    EXPECT(slavotuk_read_request(request, SLAVOTUK_REQUEST_SIZE - 1, &wanted), SLAVOTUK_REFUSED_MESSAGE);
+    EXPECT(slavotuk_read_request(request, SLAVOTUK_REQUEST_SIZE, &wanted), SLAVOTUK_DONE);
+    EXPECT(wanted, SLAVOTUK_WANTED_ALL);
+    free(request);
+}
+
+/* The next number of the first process, written where docs/STATE.md has it, as 65535 records would leave it. */
+static void check_spent(void)
+{
+    memset(state + 48, 0xff, 2);
+    EXPECT(slavotuk_end(MODULE, 0, 0, 65535, 1, 0), SLAVOTUK_REFUSED_SPENT);
+}
+
+int main(void)
+{
+    state = allocate(SLAVOTUK_STATE_SIZE);
+    name = allocate(SLAVOTUK_NAME_SIZE);
+    listing = allocate(SLAVOTUK_LISTING_SIZE);
+    check_fresh();
+    make_module();
+    check_holds();
+    check_version();
+    check_names();
+    check_sessions();
+    check_starts();
+    check_nulls();
+    check_records();
+    check_own_classes();
+    check_full();
+    check_listing();
+    check_request();
+    check_spent();
+    free(state);
+    free(name);
+    free(listing);
+    return disagreements == 0 ? EXIT_SUCCESS : EXIT_FAILURE;
+}

@@ -1,0 +1,155 @@
+/*
+ * How much stack an entry takes: each is called on a stack of its own that was painted before, and what is no longer paint
+ * afterwards was used. Prints a line for each entry, the most over the calls below: accepted and refused, with an empty table
+ * and with a full one. With an argument, a count of bytes, the exit code is 1 where an entry takes more.
+ */
+#define _XOPEN_SOURCE 700
+#include <stdint.h>
+#include <stdio.h>
+#include <stdlib.h>
+#include <string.h>
+#include <ucontext.h>
+
+#include "slavotuk.h"
+
+enum { STACK = 256 * 1024, PAINT = 0xa5 };
+
+#define MODULE state, SLAVOTUK_STATE_SIZE
+#define USER(credential, number) SLAVOTUK_CLAIM_USER, credential, number, 1
+
+static uint8_t stack[STACK];
+static uint8_t *top;
+static ucontext_t outside, inside;
+static void (*called)(void);
+
+static uint8_t state[SLAVOTUK_STATE_SIZE];
+static uint8_t name[SLAVOTUK_NAME_SIZE];
+static uint8_t listing[SLAVOTUK_LISTING_SIZE];
+static uint8_t request[SLAVOTUK_REQUEST_SIZE];
+static size_t length;
+static uint16_t number;
+static uint8_t type;
+
+/* Where the entry's use of the stack begins: below this function's own. */
+static void enter(void)
+{
+    uint8_t here;
+    top = &here;
+    called();
+}
+
+static size_t use_of(void (*call)(void))
+{
+    size_t lowest = 0;
+    memset(stack, PAINT, STACK);
+    called = call;
+    getcontext(&inside);
+    inside.uc_stack.ss_sp = stack;
+    inside.uc_stack.ss_size = STACK;
+    inside.uc_link = &outside;
+    makecontext(&inside, enter, 0);
+    swapcontext(&outside, &inside);
+    while (stack + lowest < top && stack[lowest] == PAINT) {
+        lowest++;
+    }
+    return (size_t)(top - (stack + lowest));
+}
+
+static void fresh(void)
+{
+    const uint8_t provisioned[SLAVOTUK_CREDENTIALS] = {1, 1, 1, 1, 1, 1, 1, 1};
+    const uint32_t words[SLAVOTUK_CREDENTIALS] = {UINT32_MAX, UINT32_MAX, UINT32_MAX, UINT32_MAX};
+    slavotuk_fresh(MODULE, provisioned, SLAVOTUK_CREDENTIALS, words, SLAVOTUK_CREDENTIALS);
+}
+static void holds(void) { slavotuk_holds(MODULE); }
+static void open0(void) { slavotuk_open(MODULE, 0); }
+static void close0(void) { slavotuk_close(MODULE, 0); }
+static void select0(void) { slavotuk_select(MODULE, 0, SLAVOTUK_VERSION_1_0); }
+static void start0(void) { slavotuk_start(MODULE, 0, 1, name, sizeof name); }
+static void continue0(void) { slavotuk_continue(MODULE, 0, 1, name, sizeof name); }
+static void elevate0(void) { slavotuk_elevate(MODULE, 0, 1, name, sizeof name, 1); }
+static void drop0(void) { slavotuk_drop(MODULE, 0); }
+static void end0(void) { slavotuk_end(MODULE, 0, 1, 0, 1, 1); }
+static void record0(void) { slavotuk_record(MODULE, 0, USER(0, 0), SLAVOTUK_CLASS_DEVICE_FIRST); }
+static void list0(void) { slavotuk_list(MODULE, 0, USER(0, 0), SLAVOTUK_WANTED_ALL, listing, sizeof listing, &length); }
+static void kill0(void) { slavotuk_kill(MODULE, 0, USER(0, 0), name, sizeof name); }
+static void set_word0(void) { slavotuk_set_word(MODULE, 0, USER(0, 0), 1, 0); }
+static void write_request0(void) { slavotuk_write_request(request, sizeof request, SLAVOTUK_WANTED_ALL); }
+static void read_request0(void) { slavotuk_read_request(request, sizeof request, &number); }
+static void read_count0(void) { slavotuk_read_count(listing, length, &number); }
+static void read_row0(void) { slavotuk_read_row(listing, length, 0, &number, &type, name, sizeof name); }
+static void version0(void) { slavotuk_version(); }
+
+/* What is called to come to a state, from which an entry is then measured. */
+static void nothing(void) {}
+static void without_version(void) { fresh(); open0(); }
+static void opened(void) { without_version(); select0(); }
+
+static void named(unsigned last) { name[SLAVOTUK_NAME_SIZE - 1] = (uint8_t)last; }
+
+/* So many processes: credential 0 saves all but its last, which has next number 0. The name is that of none. */
+static void standing(unsigned count)
+{
+    opened();
+    for (unsigned at = 0; at < count; at++) {
+        named(at);
+        slavotuk_start(MODULE, 0, 0, name, sizeof name);
+        if (at + 1 < count) {
+            slavotuk_end(MODULE, 0, 0, 0, 1, 1);
+        }
+    }
+    named(99);
+}
+static void one(void) { standing(1); }
+static void nearly_full(void) { standing(SLAVOTUK_PROCESSES - 1); }
+static void full(void) { standing(SLAVOTUK_PROCESSES); }
+static void killable(void) { full(); named(0); }
+static void elevated(void) { nearly_full(); elevate0(); }
+static void ending(void) { nearly_full(); start0(); }
+static void saved(void) { ending(); end0(); }
+static void listed(void) { full(); list0(); write_request0(); }
+
+static const struct {
+    const char *entry;
+    void (*call)(void);
+    void (*before[4])(void);
+} measured[] = {
+    {"slavotuk_fresh", fresh, {nothing, full}},
+    {"slavotuk_holds", holds, {nothing, fresh, full}},
+    {"slavotuk_open", open0, {nothing, fresh, full}},
+    {"slavotuk_close", close0, {nothing, opened, full}},
+    {"slavotuk_select", select0, {nothing, without_version, full}},
+    {"slavotuk_start", start0, {nothing, opened, nearly_full, full}},
+    {"slavotuk_continue", continue0, {nothing, opened, saved, full}},
+    {"slavotuk_elevate", elevate0, {nothing, opened, nearly_full, full}},
+    {"slavotuk_drop", drop0, {nothing, opened, elevated, full}},
+    {"slavotuk_end", end0, {nothing, opened, ending, full}},
+    {"slavotuk_record", record0, {nothing, opened, one, full}},
+    {"slavotuk_list", list0, {nothing, opened, one, full}},
+    {"slavotuk_kill", kill0, {nothing, opened, full, killable}},
+    {"slavotuk_set_word", set_word0, {nothing, opened, one, full}},
+    {"slavotuk_read_request", read_request0, {nothing, listed}},
+    {"slavotuk_write_request", write_request0, {nothing}},
+    {"slavotuk_read_count", read_count0, {nothing, listed}},
+    {"slavotuk_read_row", read_row0, {nothing, listed}},
+    {"slavotuk_version", version0, {nothing}},
+};
+
+int main(int count, char **words)
+{
+    const unsigned long allowed = count > 1 ? strtoul(words[1], NULL, 10) : STACK;
+    int within = 1;
+    for (size_t at = 0; at < sizeof measured / sizeof *measured; at++) {
+        size_t most = 0;
+        for (size_t of = 0; of < 4 && measured[at].before[of] != NULL; of++) {
+            size_t use;
+            memset(state, 0xff, sizeof state);
+            measured[at].before[of]();
+            use = use_of(measured[at].call);
+            most = use > most ? use : most;
+        }
+        printf("%-24s %6lu\n", measured[at].entry, (unsigned long)most);
+        within = within && most <= allowed;
+    }
+    return within ? EXIT_SUCCESS : EXIT_FAILURE;
+}
