@@ -91,7 +91,7 @@ impl Console {
             }
             Command::List(list) => self.list(list, line, out)?,
             Command::Records(records) => self.records(records, line, out)?,
-            Command::Show { whole } => draw::module(&self.module(), whole, out)?,
+            Command::Show { whole } => draw::module(&self.module()?, whole, out)?,
             Command::Request(wanted) => request(wanted, out)?,
             Command::Read(message) => read(&message, out)?,
             Command::Save(file) => {
@@ -114,8 +114,10 @@ impl Console {
         Ok(Next::Line)
     }
 
-    fn module(&self) -> Module {
-        Module::from_bytes(self.state).expect("only the module's calls have written the state")
+    /// The module as it can be looked at. Only its calls have written the state, so there is one.
+    fn module(&self) -> Result<Module, String> {
+        Module::from_bytes(self.state)
+            .map_err(|refusal| format!("the state is none: {}", draw::answer(refusal.number())))
     }
 
     fn begin_history(&mut self, line: &str, out: &mut impl Write) -> io::Result<()> {

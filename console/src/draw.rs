@@ -10,10 +10,11 @@ use std::io::{self, Write};
 
 /// A number and its name, as every call is answered.
 pub fn answer(number: u32) -> String {
-    match slavotuk::Refusal::try_from(number) {
-        Ok(refusal) => format!("{number} {refusal}"),
-        Err(_) => format!("{number} done"),
-    }
+    let name = match slavotuk::answered(number) {
+        Ok(()) => "done",
+        Err(refusal) => refusal.name(),
+    };
+    format!("{number} {name}")
 }
 
 /// The sessions, the credentials and the process table.
@@ -217,6 +218,14 @@ pub fn listing(listing: &Listing, out: &mut impl Write) -> io::Result<()> {
 #[cfg(test)]
 mod tests {
     use super::*;
+
+    #[test]
+    fn only_0_is_done() {
+        assert_eq!(answer(0), "0 done");
+        assert_eq!(answer(15), "15 room");
+        assert_eq!(answer(16), "16 unknown");
+        assert_eq!(answer(u32::MAX), "4294967295 unknown");
+    }
 
     fn shortened_all(names: &[[u8; NAME_LENGTH]]) -> Vec<String> {
         let names: Vec<&[u8; NAME_LENGTH]> = names.iter().collect();

@@ -242,7 +242,8 @@ pub fn overview(out: &mut impl Write) -> io::Result<()> {
     writeln!(
         out,
         "'help COMMAND' says more, and so do 'help number', 'help claim' and 'help name'.\n\
-         Blank lines and lines that begin with # are skipped."
+         Blank lines and lines that begin with # are skipped. For line editing at a\n\
+         terminal install rlwrap; 'make run' uses it where it is there."
     )
 }
 

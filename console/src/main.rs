@@ -21,7 +21,7 @@ const GREETING: &str =
     "Slavotuk: a fresh module, credentials 0 (word 15) and 1 (word 16); try help.";
 
 const USAGE: &str = "\
-usage: slavotuk-console [--help]
+usage: slavotuk-console [--help | --version]
 
 Reads calls from standard input, one on a line, and answers each with document
 01's number and its name. At a terminal it prompts; other input is a script.
@@ -37,6 +37,7 @@ fn main() -> ExitCode {
     match arguments.as_slice() {
         [] => converse(),
         [one] if one == "--help" || one == "-h" => usage(),
+        [one] if one == "--version" || one == "-V" => version(),
         [one, ..] => {
             complain(&format!(
                 "slavotuk-console: no argument {one:?}; --help says more"
@@ -51,6 +52,18 @@ fn usage() -> ExitCode {
     let written = out
         .write_all(USAGE.as_bytes())
         .and_then(|()| help::overview(&mut out));
+    exit_code(written, true)
+}
+
+/// The console's version, and that of the archive it is linked to.
+fn version() -> ExitCode {
+    let library = slavotuk::entries::version();
+    let (major, minor, patch) = (library >> 16, library >> 8 & 0xff, library & 0xff);
+    let ours = env!("CARGO_PKG_VERSION");
+    let written = writeln!(
+        io::stdout(),
+        "slavotuk-console {ours}, library {major}.{minor}.{patch}"
+    );
     exit_code(written, true)
 }
 

@@ -226,7 +226,18 @@ fn help_names_every_command() {
 }
 
 #[test]
-fn arguments_other_than_help_are_bad() {
+fn the_version_is_said() {
+    for version in ["--version", "-V"] {
+        let output = console().arg(version).output().unwrap();
+        assert!(output.status.success());
+        let version = env!("CARGO_PKG_VERSION");
+        let said = format!("slavotuk-console {version}, library {version}\n");
+        assert_eq!(String::from_utf8(output.stdout).unwrap(), said);
+    }
+}
+
+#[test]
+fn other_arguments_are_bad() {
     for help in ["--help", "-h"] {
         let output = console().arg(help).output().unwrap();
         assert_eq!(output.status.code(), Some(0));

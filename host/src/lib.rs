@@ -15,7 +15,7 @@
 //! let mut grants = [Grants::UNPROVISIONED; 8];
 //! grants[0] = Grants::of_word(15);
 //! grants[1] = Grants::of_word(16);
-//! let mut module = Module::fresh(&grants);
+//! let mut module = Module::fresh(&grants)?;
 //!
 //! let session = Session::try_from(0)?;
 //! let (manager, operator) = (Credential::try_from(0)?, Credential::try_from(1)?);
@@ -52,7 +52,7 @@
 //! |---|---|
 //! | [`Module`] | the calls, and what the state holds: [`Phase`], [`Grants`], [`Process`] |
 //! | [`Session`], [`Credential`], [`Class`], [`Name`], [`Claim`], [`Wanted`] | what a call is handed |
-//! | [`Refusal`] | document 01's numbers 1 to 15 |
+//! | [`Refusal`], [`answered`] | document 01's numbers 1 to 15, and those of later archives |
 //! | [`Listing`], [`read_request`], [`write_request`] | the listing messages, for consoles too |
 //! | [`entries`] | the archive's entries as they are, with numbers and byte slices |
 
@@ -72,7 +72,7 @@ pub use listing::{
     REQUEST_LENGTH,
 };
 pub use module::{Module, STATE_LENGTH, VERSION_1_0};
-pub use numbers::{NoRefusal, Refusal};
+pub use numbers::{answered, Refusal, UnknownNumber};
 pub use values::{
     Claim, Class, Credential, Grants, Kind, Name, Session, UserClaim, Wanted, NAME_LENGTH,
 };

@@ -1,7 +1,6 @@
 //! The listing messages, GET_AUTH_PROCESSES and AUTH_PROCESSES, as docs/WIRE.md draws them.
 
-use crate::numbers::answered;
-use crate::{entries, Credential, Kind, Name, Refusal, Wanted, NAME_LENGTH, PLACES};
+use crate::{answered, entries, Credential, Kind, Name, Refusal, Wanted, NAME_LENGTH, PLACES};
 use std::fmt;
 
 /// How many bytes a request has.
@@ -176,7 +175,11 @@ fn row_of(bytes: &[u8]) -> Row {
     name.copy_from_slice(&bytes[3..]);
     Row {
         credential: WireCredential(u16::from_le_bytes([bytes[0], bytes[1]])),
-        kind: Kind::new(bytes[2]).expect("each row's type was tested"),
+        kind: match bytes[2] {
+            0 => Kind::ActiveUser,
+            1 => Kind::ActiveElevation,
+            _ => Kind::SavedUser,
+        },
         name: Name(name),
     }
 }

@@ -1,9 +1,8 @@
 //! The module: its state and its calls.
 
 use crate::entries::{self, RawClaim};
-use crate::numbers::answered;
 use crate::{
-    Claim, Class, Credential, Grants, Listing, Name, Refusal, Session, UserClaim, Wanted,
+    answered, Claim, Class, Credential, Grants, Listing, Name, Refusal, Session, UserClaim, Wanted,
     WireCredential,
 };
 
@@ -22,7 +21,7 @@ pub const VERSION_1_0: u8 = 0x10;
 ///
 /// let mut grants = [Grants::UNPROVISIONED; 8];
 /// grants[0] = Grants::of_word(15);
-/// let mut module = Module::fresh(&grants);
+/// let mut module = Module::fresh(&grants)?;
 ///
 /// let session = Session::new(0).unwrap();
 /// let credential = Credential::new(0).unwrap();
@@ -39,11 +38,11 @@ pub struct Module<S = [u8; STATE_LENGTH]> {
 }
 
 impl Module {
-    /// A fresh module of eight credentials: every session closed, no process.
-    pub fn fresh(grants: &[Grants; Credential::COUNT]) -> Module {
+    /// A fresh module of eight credentials: every session closed, no process. It is never refused by an archive whose state has [`STATE_LENGTH`] bytes.
+    pub fn fresh(grants: &[Grants; Credential::COUNT]) -> Result<Module, Refusal> {
         let mut state = [0; STATE_LENGTH];
-        make_fresh(&mut state, grants).expect("the length is a state's and the flags are 0 or 1");
-        Module { state }
+        make_fresh(&mut state, grants)?;
+        Ok(Module { state })
     }
 
     /// A module that owns these bytes; [`Refusal::Argument`] where they hold no state.
@@ -51,11 +50,12 @@ impl Module {
     /// ```
     /// use slavotuk::{Grants, Module, Refusal};
     ///
-    /// let module = Module::fresh(&[Grants::UNPROVISIONED; 8]);
+    /// let module = Module::fresh(&[Grants::UNPROVISIONED; 8])?;
     /// let mut bytes = module.clone().into_bytes();
     /// assert_eq!(Module::from_bytes(bytes), Ok(module));
     /// bytes[680] = 1;
     /// assert_eq!(Module::from_bytes(bytes), Err(Refusal::Argument));
+    /// # Ok::<(), Refusal>(())
     /// ```
     pub fn from_bytes(bytes: [u8; STATE_LENGTH]) -> Result<Module, Refusal> {
         answered(entries::holds(&bytes))?;
@@ -74,7 +74,7 @@ impl<'a> Module<&'a mut [u8]> {
     /// ```
     /// use slavotuk::{Grants, Module, Refusal, Session};
     ///
-    /// let mut flash = Module::fresh(&[Grants::UNPROVISIONED; 8]).into_bytes();
+    /// let mut flash = Module::fresh(&[Grants::UNPROVISIONED; 8])?.into_bytes();
     /// let mut module = Module::lent(&mut flash)?;
     /// module.open(Session::new(3).unwrap())?;
     /// assert_eq!(flash[3], 1);
@@ -241,7 +241,7 @@ impl<S: AsMut<[u8]>> Module<S> {
             buffer,
             &mut length,
         ))?;
-        Listing::read(&buffer[..length])
+        Listing::read(buffer.get(..length).unwrap_or_default())
     }
 
     /// Removes the process of that name. A process that the claim may not kill is answered as one that isn't there. Refusals: session, no version, the

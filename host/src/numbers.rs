@@ -1,136 +1,119 @@
 //! The numbers a call can answer, but for 0, done.
 
 use std::fmt;
+use std::num::NonZeroU32;
 
-/// Why a call was refused: document 01's numbers 1 to 15. A refusal leaves the state and the lent buffer as they were.
-///
-/// ```
-/// use slavotuk::Refusal;
-///
-/// assert_eq!(Refusal::OutOfTurn.number(), 9);
-/// assert_eq!(Refusal::OutOfTurn.to_string(), "out of turn");
-/// assert_eq!(Refusal::try_from(9), Ok(Refusal::OutOfTurn));
-/// assert_eq!(Refusal::try_from(0), Err(slavotuk::NoRefusal(0)));
-/// ```
-#[derive(Clone, Copy, Debug, PartialEq, Eq, PartialOrd, Ord, Hash)]
-pub enum Refusal {
-    /// A value out of its range, or a slice that holds no state.
-    Argument = 1,
-    /// The session is closed, or for open: already open.
-    Session = 2,
-    /// The session has no version.
-    NoVersion = 3,
-    /// A version byte other than 0x10.
-    Version = 4,
-    /// The credential is not provisioned.
-    Credential = 5,
-    /// There is no process of the stated kind.
-    NoProcess = 6,
-    /// The session has such a process.
-    AlreadyActive = 7,
-    /// The key unit said no.
-    Verdict = 8,
-    /// The number is not the next.
-    OutOfTurn = 9,
-    /// The class's bit is clear.
-    NotGranted = 10,
-    /// Twelve processes stand.
-    Full = 11,
-    /// The name equals one in the table.
-    NameTaken = 12,
-    /// The next number is 65,535.
-    Spent = 13,
-    /// The bytes don't fit the layout.
-    Message = 14,
-    /// The response buffer is too short.
-    Room = 15,
-}
-
-impl Refusal {
-    /// All of them, in the order of their numbers.
-    pub const ALL: [Refusal; 15] = [
-        Refusal::Argument,
-        Refusal::Session,
-        Refusal::NoVersion,
-        Refusal::Version,
-        Refusal::Credential,
-        Refusal::NoProcess,
-        Refusal::AlreadyActive,
-        Refusal::Verdict,
-        Refusal::OutOfTurn,
-        Refusal::NotGranted,
-        Refusal::Full,
-        Refusal::NameTaken,
-        Refusal::Spent,
-        Refusal::Message,
-        Refusal::Room,
-    ];
-
-    /// Document 01's number, 1 to 15.
-    pub const fn number(self) -> u32 {
-        self as u32
-    }
-
-    /// Document 01's name.
-    pub const fn name(self) -> &'static str {
-        match self {
-            Refusal::Argument => "argument",
-            Refusal::Session => "session",
-            Refusal::NoVersion => "no version",
-            Refusal::Version => "version",
-            Refusal::Credential => "credential",
-            Refusal::NoProcess => "no process",
-            Refusal::AlreadyActive => "already active",
-            Refusal::Verdict => "verdict",
-            Refusal::OutOfTurn => "out of turn",
-            Refusal::NotGranted => "not granted",
-            Refusal::Full => "full",
-            Refusal::NameTaken => "name taken",
-            Refusal::Spent => "spent",
-            Refusal::Message => "message",
-            Refusal::Room => "room",
+/// Defines the refusals: each has its number, its name in document 01, and what it says.
+macro_rules! refusals {
+    ($($(#[$doc:meta])* $refusal:ident = $number:literal, $name:literal;)+) => {
+        /// Why a call was refused: document 01's numbers, from 1 on. A refusal leaves the state and the lent buffer as they were.
+        ///
+        /// A later archive can refuse with numbers that this list does not have: they are refusals like the others, and keep their number.
+        ///
+        /// ```
+        /// use slavotuk::{answered, Refusal};
+        ///
+        /// assert_eq!(Refusal::OutOfTurn.number(), 9);
+        /// assert_eq!(Refusal::OutOfTurn.to_string(), "out of turn");
+        /// assert_eq!(answered(0), Ok(()));
+        /// assert_eq!(answered(9), Err(Refusal::OutOfTurn));
+        ///
+        /// let refusal = answered(4711).unwrap_err();
+        /// assert_eq!((refusal.number(), refusal.name()), (4711, "unknown"));
+        /// assert_eq!(refusal.to_string(), "unknown number 4711");
+        /// ```
+        #[derive(Clone, Copy, Debug, PartialEq, Eq, PartialOrd, Ord, Hash)]
+        #[non_exhaustive]
+        pub enum Refusal {
+            $($(#[$doc])* $refusal,)+
+            /// A number that is none of the others.
+            Unknown(UnknownNumber),
         }
-    }
+
+        impl Refusal {
+            /// Those with a name, in the order of their numbers.
+            pub const KNOWN: &'static [Refusal] = &[$(Refusal::$refusal),+];
+
+            /// Its number, which is never 0.
+            pub const fn number(self) -> u32 {
+                match self {
+                    $(Refusal::$refusal => $number,)+
+                    Refusal::Unknown(UnknownNumber(number)) => number.get(),
+                }
+            }
+
+            /// Document 01's name; "unknown" where there is none.
+            pub const fn name(self) -> &'static str {
+                match self {
+                    $(Refusal::$refusal => $name,)+
+                    Refusal::Unknown(_) => "unknown",
+                }
+            }
+        }
+
+        impl From<NonZeroU32> for Refusal {
+            fn from(number: NonZeroU32) -> Refusal {
+                match number.get() {
+                    $($number => Refusal::$refusal,)+
+                    _ => Refusal::Unknown(UnknownNumber(number)),
+                }
+            }
+        }
+    };
 }
+
+refusals! {
+    /// A value out of its range, or a slice that holds no state.
+    Argument = 1, "argument";
+    /// The session is closed, or for open: already open.
+    Session = 2, "session";
+    /// The session has no version.
+    NoVersion = 3, "no version";
+    /// A version byte other than 0x10.
+    Version = 4, "version";
+    /// The credential is not provisioned.
+    Credential = 5, "credential";
+    /// There is no process of the stated kind.
+    NoProcess = 6, "no process";
+    /// The session has such a process.
+    AlreadyActive = 7, "already active";
+    /// The key unit said no.
+    Verdict = 8, "verdict";
+    /// The number is not the next.
+    OutOfTurn = 9, "out of turn";
+    /// The class's bit is clear.
+    NotGranted = 10, "not granted";
+    /// Twelve processes stand.
+    Full = 11, "full";
+    /// The name equals one in the table.
+    NameTaken = 12, "name taken";
+    /// The next number is 65,535.
+    Spent = 13, "spent";
+    /// The bytes don't fit the layout.
+    Message = 14, "message";
+    /// The response buffer is too short.
+    Room = 15, "room";
+}
+
+/// The number of a [`Refusal::Unknown`]. It can't be made, so that no refusal has two forms.
+#[derive(Clone, Copy, Debug, PartialEq, Eq, PartialOrd, Ord, Hash)]
+pub struct UnknownNumber(NonZeroU32);
 
 impl fmt::Display for Refusal {
     fn fmt(&self, f: &mut fmt::Formatter<'_>) -> fmt::Result {
-        f.pad(self.name())
+        match self {
+            Refusal::Unknown(UnknownNumber(number)) => f.pad(&format!("unknown number {number}")),
+            known => f.pad(known.name()),
+        }
     }
 }
 
 impl std::error::Error for Refusal {}
 
-/// A number that no refusal has: 0, which is done, or one over 15.
-#[derive(Clone, Copy, Debug, PartialEq, Eq, Hash)]
-pub struct NoRefusal(
-    /// The number.
-    pub u32,
-);
-
-impl fmt::Display for NoRefusal {
-    fn fmt(&self, f: &mut fmt::Formatter<'_>) -> fmt::Result {
-        write!(f, "no refusal has the number {}", self.0)
+/// What an entry's number says: 0 is done, and every other one is a refusal.
+pub fn answered(number: u32) -> Result<(), Refusal> {
+    match NonZeroU32::new(number) {
+        None => Ok(()),
+        Some(number) => Err(number.into()),
     }
-}
-
-impl std::error::Error for NoRefusal {}
-
-impl TryFrom<u32> for Refusal {
-    type Error = NoRefusal;
-
-    fn try_from(number: u32) -> Result<Refusal, NoRefusal> {
-        Refusal::ALL
-            .into_iter()
-            .find(|refusal| refusal.number() == number)
-            .ok_or(NoRefusal(number))
-    }
-}
-
-/// What an entry's number says. The module is proved to answer with no number over 15; an archive that did would be another module's.
-pub(crate) fn answered(number: u32) -> Result<(), Refusal> {
-    if number == 0 {
-        return Ok(());
-    }
-    Err(Refusal::try_from(number).expect("the archive is this module's"))
 }

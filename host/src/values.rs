@@ -77,7 +77,7 @@ small_number!(
     /// ```compile_fail,E0308
     /// use slavotuk::{Credential, Grants, Module};
     ///
-    /// let mut module = Module::fresh(&[Grants::UNPROVISIONED; 8]);
+    /// let mut module = Module::fresh(&[Grants::UNPROVISIONED; 8]).unwrap();
     /// let credential = Credential::new(0).unwrap();
     /// let _ = module.open(credential);
     /// ```
@@ -208,7 +208,7 @@ pub struct UserClaim {
 /// use slavotuk::{Claim, Grants, Module, Refusal, Session};
 ///
 /// let session = Session::new(0).unwrap();
-/// let mut module = Module::fresh(&[Grants::UNPROVISIONED; 8]);
+/// let mut module = Module::fresh(&[Grants::UNPROVISIONED; 8])?;
 /// module.open(session)?;
 /// module.select(session, slavotuk::VERSION_1_0)?;
 /// // the session has no elevation

@@ -18,7 +18,7 @@ const PLACE_LENGTH: usize = 5 + NAME_LENGTH;
 /// use slavotuk::{Grants, Module, Phase, Session};
 ///
 /// let session = Session::new(2).unwrap();
-/// let mut module = Module::fresh(&[Grants::UNPROVISIONED; 8]);
+/// let mut module = Module::fresh(&[Grants::UNPROVISIONED; 8])?;
 /// assert_eq!(module.phase(session), Phase::Closed);
 /// module.open(session)?;
 /// assert_eq!(module.phase(session), Phase::NoVersion);
@@ -72,7 +72,7 @@ pub enum Standing {
 /// use slavotuk::{Credential, Grants, Kind, Module, Name, Session, VERSION_1_0};
 ///
 /// let session = Session::new(1).unwrap();
-/// let mut module = Module::fresh(&[Grants::of_word(0); 8]);
+/// let mut module = Module::fresh(&[Grants::of_word(0); 8])?;
 /// module.open(session)?;
 /// module.select(session, VERSION_1_0)?;
 /// module.elevate(session, Credential::new(6).unwrap(), &Name([1; 48]), true)?;
@@ -184,9 +184,10 @@ impl<S: AsRef<[u8]>> Module<S> {
     ///
     /// let mut grants = [Grants::UNPROVISIONED; 8];
     /// grants[1] = Grants::of_word(16);
-    /// let module = Module::fresh(&grants);
+    /// let module = Module::fresh(&grants)?;
     /// assert_eq!(module.grants(Credential::new(1).unwrap()).classes().next(), Class::new(4));
     /// assert!(!module.grants(Credential::new(2).unwrap()).is_provisioned());
+    /// # Ok::<(), slavotuk::Refusal>(())
     /// ```
     pub fn grants(&self, credential: Credential) -> Grants {
         let at = CREDENTIALS_AT + CREDENTIAL_LENGTH * usize::from(credential.0);

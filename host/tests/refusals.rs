@@ -4,7 +4,7 @@ mod common;
 
 use common::*;
 use slavotuk::{
-    write_request, Claim, Class, Listing, Module, Name, NoRefusal, Refusal, UserClaim, Wanted,
+    answered, write_request, Claim, Class, Listing, Module, Name, Refusal, UserClaim, Wanted,
     FULL_LISTING_LENGTH,
 };
 
@@ -30,15 +30,28 @@ const NAMES: [&str; 15] = [
 #[test]
 fn numbers_and_names_are_document_01s() {
     for (number, name) in (1..).zip(NAMES) {
-        let refusal = Refusal::try_from(number).unwrap();
+        let refusal = answered(number).unwrap_err();
         assert_eq!(refusal.number(), number);
         assert_eq!(refusal.to_string(), name);
     }
-    assert_eq!(Refusal::ALL.map(Refusal::name), NAMES);
-    assert_eq!(Refusal::try_from(0), Err(NoRefusal(0)));
-    assert_eq!(Refusal::try_from(16), Err(NoRefusal(16)));
+    let known: Vec<&str> = Refusal::KNOWN
+        .iter()
+        .map(|refusal| refusal.name())
+        .collect();
+    assert_eq!(known, NAMES);
+    assert_eq!(answered(0), Ok(()));
     let error: Box<dyn std::error::Error> = Refusal::NoVersion.into();
     assert_eq!(error.to_string(), "no version");
+}
+
+#[test]
+fn a_number_without_a_name_is_a_refusal_too() {
+    for number in [16, 20, 255, 256, u32::MAX] {
+        let refusal = answered(number).unwrap_err();
+        assert_eq!((refusal.number(), refusal.name()), (number, "unknown"));
+        assert_eq!(refusal.to_string(), format!("unknown number {number}"));
+        assert!(Refusal::KNOWN.iter().all(|known| *known != refusal));
+    }
 }
 
 /// Asks for a refusal and looks that no byte of the state has changed.
@@ -70,7 +83,7 @@ fn argument() {
 
 #[test]
 fn session_and_version() {
-    let mut module = Module::fresh(&grants());
+    let mut module = Module::fresh(&grants()).unwrap();
     let s = session(0);
     refused(&mut module, 2, |m| m.close(s));
     refused(&mut module, 2, |m| m.select(s, 0x10));

@@ -110,7 +110,7 @@ fn other_lengths_are_refused_and_left() {
 #[test]
 fn a_test_of_a_state_changes_nothing() {
     for first in 0..3 {
-        let mut bytes = Module::fresh(&grants()).into_bytes();
+        let mut bytes = Module::fresh(&grants()).unwrap().into_bytes();
         bytes[0] = first;
         let before = bytes;
         assert_eq!(Module::lent(&mut bytes).unwrap().bytes(), before);
@@ -146,7 +146,7 @@ fn some_calls<S: AsMut<[u8]>>(module: &mut Module<S>) -> Result<(), Refusal> {
 
 #[test]
 fn owned_and_lent_states_become_the_same() {
-    let mut owned = Module::fresh(&grants());
+    let mut owned = Module::fresh(&grants()).unwrap();
     some_calls(&mut owned).unwrap();
 
     let mut slice = [0xff; STATE_LENGTH];

@@ -54,7 +54,7 @@ pub fn grants() -> [Grants; 8] {
 
 /// Document 01's module with these sessions open, each with version 1.0.
 pub fn opened(sessions: &[u8]) -> Module {
-    let mut module = Module::fresh(&grants());
+    let mut module = Module::fresh(&grants()).unwrap();
     for &number in sessions {
         module.open(session(number)).unwrap();
         module.select(session(number), VERSION_1_0).unwrap();
