@@ -19,6 +19,9 @@ pub outcome-refused : (st : State) (call : Call) → (number st call ≡ 0 → �
 unfolding outcome
 outcome-refused st call h = rw (ne-eqb (number st call) 0 h)
 
+pub refusal-leaves : (st : State) (call : Call) → (number st call ≡ 0 → ⊥) → outcome st call .state ≡ st
+refusal-leaves st call h = ap (λ (o : Outcome). o .state) (outcome-refused st call h)
+
 -- whatever the call, the answer has the number
 refusal-number : (call : Call) (n : ℕ) → answerNumber (refusal call n) ≡ n
 unfolding refusal

@@ -22,20 +22,17 @@ use Rattle.claims.specs.declared.Class.{Class}
 use Rattle.claims.specs.declared.State.{State}
 use Rattle.claims.specs.declared.UserClaim.{UserClaim}
 use Rattle.claims.proofs.Laws.{stop, pass, unless-true, unless-false}
-use Rattle.calls.specs.Calls.{Call, Open, Close, Select, Start, Continue, Elevate, Drop, End, Record, Kill, SetWord, number, effect, outcome, answerNumber, List′, listed, fresh}
+use Rattle.calls.specs.Calls.{Call, Open, Close, Select, Start, Continue, Elevate, Drop, End, Record, Kill, SetWord, number, outcome, answerNumber, List′, listed, fresh}
 use Rattle.calls.specs.declared.Answer.{Answer}
 use Rattle.calls.specs.declared.Listed.{Listed}
 use Rattle.calls.specs.declared.Outcome.{Outcome}
 use Rattle.calls.specs.declared.Wanted.{Wanted}
 use Rattle.calls.specs.declared.Wanted.the-variants.{Every, Only}
-use Rattle.calls.proofs.Laws.{outcome-done, answer-number}
-use Rattle.layout.specs.Layout.{stateOf, stateWritten, holdsState, byteOf}
+use Rattle.calls.proofs.Laws.{answer-number}
+use Rattle.layout.specs.Layout.{stateOf, stateBytes, stateWritten, holdsState, byteOf}
 use Rattle.layout.proofs.Laws.{holds-shape, state-written}
-use Rattle.lists.specs.Bytes.{Bytes}
-use Rattle.claims.specs.Claim.{admitted}
-use Rattle.claims.proofs.Laws.{clear-first, clear-rest}
-use Rattle.state_record.specs.Recorded.{Recorded}
-use Rattle.state_record.proofs.Laws.{counted-held}
+use Rattle.state_record.specs.Entry.{holdsNumber, isMade, Ready, Entry}
+use Rattle.state_record.proofs.Laws.{entry-none, entry-made, made-holds, refusal-bytes}
 use Rattle.wire.specs.Wire.{listedBytes, readRowAt}
 use Rattle.wire.specs.declared.CountRead.{CountRead}
 use Rattle.wire.specs.declared.RequestRead.{RequestRead}
@@ -47,9 +44,9 @@ use Rattle.codec.specs.Codec.{every}
 use Rattle.claims.specs.Module.{unprovisioned}
 use Rattle.claims.specs.declared.Grants.{Grants}
 use Rattle.host.specs.Fresh.{pairsOf, arePairs, canFresh, FreshEntry}
-use Rattle.host.specs.Entry.{sessionOf, classOf, credentialOf, wantedOf, isFlag, userClaimOf, claimOf, isClaimed, holdsNumber, entryNumber, entryBytes, Entry}
+use Rattle.host.specs.Arguments.{sessionOf, classOf, credentialOf, wantedOf, isFlag, userClaimOf, claimOf, isClaimed}
 use Rattle.host.specs.Messages.{entryResponse, entryLength, ListEntry, Given, rowEntryNumber, RowEntry}
-use Rattle.host.specs.Stored.{Stored}
+use Rattle.host.specs.Stored.{LeavesRefused, Stored}
 use Rattle.host.specs.Version.{versionNumber, libraryVersion}
 
 -- ---- arguments
@@ -128,17 +125,15 @@ module _ (a b : Bool) where
 
 -- ---- what an outcome leaves
 module _ (before : List ℕ) (o : Outcome) {a : Answer} {n : ℕ} (e : a ≡ o .answer) (q : n ≡ answerNumber a) where
+  number-stored : answerNumber (o .answer) ≡ n
+  number-stored = sym (q ∙ ap answerNumber e)
+
   pub stored-done : {after : List ℕ} {x : State} → n ≡ 0 → x ≡ o .state → after ≡ stateWritten before x → Stored before o 0 after
-  stored-done z s w =
-      let m : answerNumber (o .answer) ≡ n = sym (q ∙ ap answerNumber e) in
-      record { number-is = sym (m ∙ z); bytes-are = w ∙ rw (m, z, s) }
+  stored-done z s w = record { number-is = sym (number-stored ∙ z); bytes-are = w ∙ rw s }
 
-  pub stored-refused : (n ≡ 0 → ⊥) → Stored before o n before
-  stored-refused h =
-      let m : answerNumber (o .answer) ≡ n = sym (q ∙ ap answerNumber e) in
-      record { number-is = sym m; bytes-are = rw (m, ne-eqb n 0 h) }
+  pub stored-refused : LeavesRefused before o → (n ≡ 0 → ⊥) → Stored before o n before
+  stored-refused v h = record { number-is = sym number-stored; bytes-are = sym (v .same (λ z. h (sym number-stored ∙ z))) }
 
--- ---- an entry: refused for its arguments or for the slice, or as the call answers
 not-true : (h : Bool) → not h ≡ true → h ≡ false
 not-true true e = clash e refl
 not-true false e = refl
@@ -147,81 +142,74 @@ not-false : (h : Bool) → not h ≡ false → h ≡ true
 not-false true e = refl
 not-false false e = clash refl e
 
-module _ {tested : Bool} (fine : Bool) (f : tested ≡ fine) (before : List ℕ) (call : Call) {h : Bool} (e : h ≡ tested && holdsState before) where
-  pub entry-refused : not h ≡ true → Entry fine before call 1 before
-  unfolding entryNumber entryBytes _unless_ _▸_
-  entry-refused n =
-      let z : (fine && holdsState before) ≡ false = rw (← f) (sym e ∙ not-true h n) in
-      record { number-is = rw z; bytes-are = rw z }
+-- ---- a slice on which a call is made: a refusal's state stands there already
+module _ {tested h : Bool} {before : List ℕ} (e : Ready tested before h) (n : not h ≡ false) where
+  whole-length : length before ≡ 681
+  whole-length = holds-shape before (made-holds e n) .long
 
-  module _ (n : not h ≡ false) where
-    ready : (fine && holdsState before) ≡ true
-    ready = rw (← f) (sym e ∙ not-false h n)
-
-    number-of : entryNumber fine before call ≡ number (stateOf before) call
-    unfolding entryNumber _unless_ _▸_
-    number-of = rw ready
-
-    pub entry-called : {st : State} {other : Call} {o : Outcome} {r : ℕ} {after : List ℕ}
-        → st ≡ stateOf before → o ≡ outcome st other → other ≡ call → Stored before o r after → Entry fine before call r after
-    unfolding entryBytes
-    entry-called {st} {other} {o} {r} {after} s q w v =
-        let a : o ≡ outcome (stateOf before) call = rw (← s, ← w) q in
-        let m : answerNumber (o .answer) ≡ number (stateOf before) call = ap (λ (x : Outcome). answerNumber (x .answer)) a ∙ answer-number (stateOf before) call in
-        let long : length before ≡ 681 = holds-shape before (and-right fine (holdsState before) ready) .long in
-        record {
-          number-is = v .number-is ∙ m ∙ sym number-of;
-          bytes-are = v .bytes-are ∙ rw (m, number-of)
-              (split (eqb (number (stateOf before) call) 0)
-              (λ z. rw (z, state-written before (o .state) long, a, outcome-done (stateOf before) call (eqb-true (number (stateOf before) call) 0 z)))
-              (λ z. rw z));
-        }
-
--- ---- a record, which is counted where the state lies
-record-admitted : (st : State) (s : Session) (claim : Claim) (class : Class) → number st (Record s claim class) ≡ 0 → admitted st s claim ≡ 0
-unfolding number
-record-admitted st s claim class z = clear-first _ _ (clear-rest _ _ z)
-
-module _ {tested : Bool} (fine : Bool) (f : tested ≡ fine) (before : List ℕ) (s : Session) (claim : Claim) (class : Class) {h : Bool} (e : h ≡ tested && holdsState before) where
-  pub entry-recorded : not h ≡ false → Bytes before → {s₁ : Session} {claim₁ : Claim} {class₁ : Class} {r : ℕ} {after : List ℕ}
-      → s₁ ≡ s → claim₁ ≡ claim → class₁ ≡ class → Recorded before s₁ claim₁ class₁ r after → Entry fine before (Record s claim class) r after
-  unfolding entryBytes effect
-  entry-recorded n g a b c v =
-      let call : Call = Record s claim class in
-      let m : entryNumber fine before call ≡ number (stateOf before) call = number-of fine f before call e n in
-      let held : holdsState before ≡ true = and-right fine (holdsState before) (ready fine f before call e n) in
+  leaves : (call : Call) {o : Outcome} → o ≡ outcome (stateOf before) call → LeavesRefused before o
+  leaves call {o} q =
+      let m : answerNumber (o .answer) ≡ number (stateOf before) call = ap (λ (x : Outcome). answerNumber (x .answer)) q ∙ answer-number (stateOf before) call in
       record {
-        number-is = v .number-is ∙ rw (m, a, b, c);
-        bytes-are = v .bytes-are ∙ rw (m, a, b, c)
-            (split (eqb (number (stateOf before) call) 0)
-            (λ z. rw z (counted-held before g held s claim (record-admitted (stateOf before) s claim class (eqb-true (number (stateOf before) call) 0 z))))
-            (λ z. rw z));
+        same = λ k.
+            state-written before (o .state) whole-length
+            ∙ ap (λ (x : Outcome). stateBytes (x .state)) q
+            ∙ refusal-bytes e n call (λ w. k (m ∙ w));
       }
 
--- ---- the listing
-module _ {tested : Bool} (fine : Bool) (f : tested ≡ fine) (before : List ℕ) (s : Session) (claim : Claim) (wanted : Wanted) (old : List ℕ) {h : Bool} (e : h ≡ tested && holdsState before) where
-  pub list-refused : not h ≡ true → ListEntry fine before s claim wanted old 1 before old 0
-  unfolding entryResponse entryLength
-  list-refused n =
-      let call : Call = List′ s claim wanted (length old) in
-      let v : Entry fine before call 1 before = entry-refused fine f before call e n in
-      record { entry = v; response-is = rw (← v .number-is); length-is = rw (← v .number-is) }
+  pub call-leaves : (call : Call) {st : State} {o : Outcome} → st ≡ stateOf before → o ≡ outcome st call → LeavesRefused before o
+  call-leaves call s q = leaves call (rw s at q)
 
-  module _ (n : not h ≡ false) where
-    pub list-called : {st : State} {s₁ : Session} {claim₁ : Claim} {wanted₁ : Wanted} {l : Listed} {r : ℕ} {after new : List ℕ}
-        → st ≡ stateOf before → s₁ ≡ s → claim₁ ≡ claim → wanted₁ ≡ wanted
-        → (l ≡ listed st s₁ claim₁ wanted₁ (length old)) × (new ≡ listedBytes st s₁ claim₁ wanted₁ old)
-        → Stored before (l .outcome) r after → ListEntry fine before s claim wanted old r after new (l .length)
-    unfolding entryResponse entryLength listed listedBytes
-    list-called {st} {s₁} {claim₁} {wanted₁} {l} {r} {after} {new} a b c d (p, q) v =
-        let call : Call = List′ s claim wanted (length old) in
-        let m : entryNumber fine before call ≡ number (stateOf before) call = number-of fine f before call e n in
-        let g : l ≡ listed (stateOf before) s claim wanted (length old) = rw (← a, ← b, ← c, ← d) p in
-        record {
-          entry = entry-called fine f before call e n refl (ap (λ (x : Listed). x .outcome) g) refl v;
-          response-is = q ∙ rw (m, a, b, c, d);
-          length-is = ap (λ (x : Listed). x .length) g ∙ rw m;
-        }
+  pub list-leaves : (s : Session) (claim : Claim) (wanted : Wanted) (old : List ℕ) {st : State} {l : Listed} {new : List ℕ}
+      → st ≡ stateOf before → (l ≡ listed st s claim wanted (length old)) × (new ≡ listedBytes st s claim wanted old) → LeavesRefused before (l .outcome)
+  unfolding listed
+  list-leaves s claim wanted old a (p, q) = leaves (List′ s claim wanted (length old)) (ap (λ (x : Listed). x .outcome) p ∙ rw a)
+
+-- ---- an entry: refused for its arguments or for the slice, or as the call answers
+module _ {tested : Bool} (fine : Bool) (f : tested ≡ fine) (before : List ℕ) (call : Call) {h : Bool} (e : Ready tested before h) where
+  pub call-none : not h ≡ true → Entry fine before call 1 before
+  call-none n = entry-none fine before call (rw (← f) (sym (e .is) ∙ not-true h n))
+
+  pub call-made : {st : State} {other : Call} {o : Outcome} {r : ℕ} {after : List ℕ}
+      → not h ≡ false → st ≡ stateOf before → o ≡ outcome st other → other ≡ call → Stored before o r after → Entry fine before call r after
+  call-made {st} {other} {o} {r} {after} n s q w v =
+      let a : o ≡ outcome (stateOf before) call = rw (← s, ← w) q in
+      entry-made fine before call (rw (← f) (sym (e .is) ∙ not-false h n))
+      (v .number-is ∙ ap (λ (x : Outcome). answerNumber (x .answer)) a ∙ answer-number (stateOf before) call)
+      (v .bytes-are ∙ state-written before (o .state) (whole-length e n) ∙ ap (λ (x : Outcome). stateBytes (x .state)) a)
+
+-- ---- a record, which tests the slice itself
+module _ {tested : Bool} (fine : Bool) (f : tested ≡ fine) (before : List ℕ) where
+  pub record-unclaimed : (call : Call) → not tested ≡ true → Entry fine before call 1 before
+  unfolding isMade
+  record-unclaimed call n = entry-none fine before call (rw (← f, not-true tested n))
+
+  pub record-claimed : (s : Session) (claim : Claim) (class : Class) {s₁ : Session} {claim₁ : Claim} {class₁ : Class} {r : ℕ} {after : List ℕ}
+      → not tested ≡ false → s₁ ≡ s → claim₁ ≡ claim → class₁ ≡ class → Entry true before (Record s₁ claim₁ class₁) r after
+      → Entry fine before (Record s claim class) r after
+  record-claimed s claim class n a b c v = rw (← f, not-false tested n, ← a, ← b, ← c) v
+
+-- ---- the listing
+module _ {tested : Bool} (fine : Bool) (f : tested ≡ fine) (before : List ℕ) (s : Session) (claim : Claim) (wanted : Wanted) (old : List ℕ) {h : Bool} (e : Ready tested before h) where
+  pub list-none : not h ≡ true → ListEntry fine before s claim wanted old 1 before old 0
+  unfolding entryResponse entryLength
+  list-none n =
+      let z : isMade fine before ≡ false = rw (← f) (sym (e .is) ∙ not-true h n) in
+      record { entry = call-none fine f before (List′ s claim wanted (length old)) e n; response-is = rw z; length-is = rw z }
+
+  pub list-called : {st : State} {s₁ : Session} {claim₁ : Claim} {wanted₁ : Wanted} {l : Listed} {r : ℕ} {after new : List ℕ}
+      → not h ≡ false → st ≡ stateOf before → s₁ ≡ s → claim₁ ≡ claim → wanted₁ ≡ wanted
+      → (l ≡ listed st s₁ claim₁ wanted₁ (length old)) × (new ≡ listedBytes st s₁ claim₁ wanted₁ old)
+      → Stored before (l .outcome) r after → ListEntry fine before s claim wanted old r after new (l .length)
+  unfolding entryResponse entryLength listed
+  list-called {st} {s₁} {claim₁} {wanted₁} {l} {r} {after} {new} n a b c d (p, q) v =
+      let z : isMade fine before ≡ true = rw (← f) (sym (e .is) ∙ not-false h n) in
+      let g : l ≡ listed (stateOf before) s claim wanted (length old) = rw (← a, ← b, ← c, ← d) p in
+      record {
+        entry = call-made fine f before (List′ s claim wanted (length old)) e n refl (ap (λ (x : Listed). x .outcome) g) refl v;
+        response-is = q ∙ rw (z, a, b, c, d);
+        length-is = ap (λ (x : Listed). x .length) g ∙ rw z;
+      }
 
 -- ---- a value handed out
 pub given-refused : {a n : ℕ} (value before : ℕ) → a ≡ n → (a ≡ 0 → ⊥) → Given n value before a before
@@ -440,4 +428,4 @@ pub version-is : 65536 ≡ libraryVersion
 unfolding libraryVersion versionNumber
 version-is = refl
 
-pub ruleset rules = (needs, byte-in, byte-out, session-is, class-is, credential-in, credential-out, wanted-every, wanted-only, flag-is, user-claim-is, claim-elevated, claim-user, claimed-elevated, claimed-user, claimed-none, both-true, both-false, stored-done, stored-refused, entry-refused, entry-called, entry-recorded, same-open, same-close, same-select, same-drop, same-start, same-continue, same-elevate, same-end, same-record, same-kill, same-set-word, fine-fits, fine-both, list-refused, list-called, given-refused, given-done, request-number, request-credential, count-number, count-count, row-refused, row-nowhere, row-done, flags-begin, flags-on, flags-fail, flags-all, pairs-flags, pairs-words, pairs-are, pairs-begin, pairs-on, pairs-all, eight-flags, eight-words, fresh-long, fresh-refused, fresh-made, holds-done, holds-none, version-is)
+pub ruleset rules = (needs, byte-in, byte-out, session-is, class-is, credential-in, credential-out, wanted-every, wanted-only, flag-is, user-claim-is, claim-elevated, claim-user, claimed-elevated, claimed-user, claimed-none, both-true, both-false, stored-done, stored-refused, call-leaves, list-leaves, call-none, call-made, record-unclaimed, record-claimed, same-open, same-close, same-select, same-drop, same-start, same-continue, same-elevate, same-end, same-record, same-kill, same-set-word, fine-fits, fine-both, list-none, list-called, given-refused, given-done, request-number, request-credential, count-number, count-count, row-refused, row-nowhere, row-done, flags-begin, flags-on, flags-fail, flags-all, pairs-flags, pairs-words, pairs-are, pairs-begin, pairs-on, pairs-all, eight-flags, eight-words, fresh-long, fresh-refused, fresh-made, holds-done, holds-none, version-is)

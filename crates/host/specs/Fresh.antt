@@ -11,7 +11,7 @@ use Rattle.claims.specs.Numbers.{_unless_}
 use Rattle.claims.specs.declared.Grants.{Grants}
 use Rattle.calls.specs.Calls.{fresh}
 use Rattle.layout.specs.Layout.{stateLength, stateBytes}
-use Rattle.host.specs.Entry.{isFlag, flagOf}
+use Rattle.host.specs.Arguments.{isFlag, flagOf}
 
 unfoldable pub pairsOf : List ℕ → List ℕ → List Grants
 pairsOf [] words = []

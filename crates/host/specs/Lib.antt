@@ -1,4 +1,4 @@
-pub mod Entry
+pub mod Arguments
 pub mod Fresh
 pub mod Messages
 pub mod Stored

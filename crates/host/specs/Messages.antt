@@ -2,37 +2,31 @@
 use Prim.Native.Nat.{ℕ}
 use mathlib.Core.Path.{_≡_}
 use mathlib.Core.Bool.{Bool, cond}
-use mathlib.Core.List.{List, _++_}
+use mathlib.Core.List.{List}
 use lib.Dec.{eqb}
-use lib.ListN.{length, drop}
+use lib.ListN.{length}
 use Rattle.names.specs.Names.{typeNumber}
 use Rattle.names.specs.declared.Session.{Session}
 use Rattle.claims.specs.Numbers as No
 use Rattle.claims.specs.Numbers.{_unless_, _▸_}
 use Rattle.claims.specs.declared.Claim.{Claim}
-use Rattle.calls.specs.Calls.{List′}
-use Rattle.calls.specs.Listing.{rowsOf, messageLength, listing}
+use Rattle.calls.specs.Calls.{List′, listed}
 use Rattle.calls.specs.declared.Wanted.{Wanted}
 use Rattle.layout.specs.Layout.{stateOf}
-use Rattle.wire.specs.Wire.{readRowAt}
-use Rattle.host.specs.Entry.{entryNumber, Entry}
+use Rattle.wire.specs.Wire.{listedBytes, readRowAt}
+use Rattle.state_record.specs.Entry.{isMade, Entry}
 
 -- a value handed out through a parameter: where the number is another than 0, the parameter stays as it was
 pub record Given (number value before answer after : ℕ) : Type 0 where
   pub number-is : answer ≡ number
   pub value-is : after ≡ cond (eqb number No.done) value before
 
--- the list call. "A refusal leaves state and buffer as they were."
+-- the list call: what it leaves in the response and which length it returns; where no call is made, the response stays and the length is 0
 unfoldable pub entryResponse : Bool → List ℕ → Session → Claim → Wanted → List ℕ → List ℕ
-entryResponse fine before s claim wanted old =
-    cond (eqb (entryNumber fine before (List′ s claim wanted (length old))) No.done)
-    (listing (rowsOf (stateOf before) wanted) ++ drop (messageLength (length (rowsOf (stateOf before) wanted))) old)
-    old
+entryResponse fine before s claim wanted old = cond (isMade fine before) (listedBytes (stateOf before) s claim wanted old) old
 
--- "Returns the message's length; 0 on a refusal."
 unfoldable pub entryLength : Bool → List ℕ → Session → Claim → Wanted → ℕ → ℕ
-entryLength fine before s claim wanted room =
-    cond (eqb (entryNumber fine before (List′ s claim wanted room)) No.done) (messageLength (length (rowsOf (stateOf before) wanted))) 0
+entryLength fine before s claim wanted room = cond (isMade fine before) (listed (stateOf before) s claim wanted room .length) 0
 
 pub record ListEntry (fine : Bool) (before : List ℕ) (s : Session) (claim : Claim) (wanted : Wanted) (old : List ℕ) (answer : ℕ) (after new : List ℕ) (long : ℕ) : Type 0 where
   pub entry : Entry fine before (List′ s claim wanted (length old)) answer after

@@ -5,13 +5,14 @@ ghost use lib.ListN.{length};
 ghost use Rattle.codec.specs.Codec.{every};
 ghost use Rattle.names.specs.Names.{readName};
 ghost use Rattle.calls.specs.Calls.{Open, Close, Select, Start, Continue, Elevate, Drop, End, Record, Kill, SetWord};
-ghost use Rattle.layout.specs.Layout.{byteOf, holdsState};
+ghost use Rattle.layout.specs.Layout.{byteOf};
+ghost use Rattle.state_record.specs.Entry.{holdsNumber, Entry};
 ghost use Rattle.wire.specs.Bytes.{over};
 ghost use Rattle.wire.specs.Wire.{request, readRequest, requestRoom, readCount};
-ghost use Rattle.host.specs.Entry.{sessionOf, classOf, credentialOf, wantedOf, isFlag, flagOf, userClaimOf, claimOf, isClaimed, holdsNumber, Entry};
+ghost use Rattle.host.specs.Arguments.{sessionOf, classOf, credentialOf, wantedOf, isFlag, flagOf, userClaimOf, claimOf, isClaimed};
 ghost use Rattle.host.specs.Fresh.{pairsOf, arePairs, FreshEntry};
 ghost use Rattle.host.specs.Messages.{Given, ListEntry, RowEntry};
-ghost use Rattle.host.specs.Stored.{Stored};
+ghost use Rattle.host.specs.Stored.{LeavesRefused, Stored};
 ghost use Rattle.host.specs.Version.{libraryVersion};
 use calls::Outcome;
 use calls::Wanted;
@@ -104,21 +105,15 @@ fn is_claimed(kind: u32, verdict: u32) -> bool
     kind == 0 && is_flag(verdict)
 }
 
-// Whether the arguments are in order, and the slice holds a state.
-fn is_ready(fine: bool, state: &[u8]) -> bool
-    ensures { λ r. ⌜ r ≡ fine && holdsState (now (state .entry)) ⌝ }
-{
-    fine && state_test::holds(state)
-}
-
 fn both(a: bool, b: bool) -> bool
     ensures { λ r. ⌜ r ≡ a && b ⌝ }
 {
     a && b
 }
 
-// The number of an outcome; where that is 0, its state is written.
+// The number of an outcome, and its state in the slice: that of a refusal is there already.
 fn stored(state: &mut [u8], outcome: Outcome) -> u32
+    requires { ⌜ LeavesRefused (now state) outcome ⌝ }
     ensures { λ r. ⌜ Stored (now (state .entry)) outcome r (now (state .exit)) ⌝ }
 {
     let answer = outcome.answer;
@@ -137,7 +132,7 @@ fn stored(state: &mut [u8], outcome: Outcome) -> u32
 pub extern "C" fn slavotuk_open(state: &mut [u8], session: u32) -> u32
     ensures { λ r. ⌜ Entry true (now (state .entry)) (Open (sessionOf session)) r (now (state .exit)) ⌝ }
 {
-    if !is_ready(true, state) {
+    if !state_record::is_ready(true, state) {
         return ARGUMENT as u32;
     }
     let st = state_read::read(state);
@@ -148,7 +143,7 @@ pub extern "C" fn slavotuk_open(state: &mut [u8], session: u32) -> u32
 pub extern "C" fn slavotuk_close(state: &mut [u8], session: u32) -> u32
     ensures { λ r. ⌜ Entry true (now (state .entry)) (Close (sessionOf session)) r (now (state .exit)) ⌝ }
 {
-    if !is_ready(true, state) {
+    if !state_record::is_ready(true, state) {
         return ARGUMENT as u32;
     }
     let st = state_read::read(state);
@@ -159,7 +154,7 @@ pub extern "C" fn slavotuk_close(state: &mut [u8], session: u32) -> u32
 pub extern "C" fn slavotuk_select(state: &mut [u8], session: u32, version: u32) -> u32
     ensures { λ r. ⌜ Entry true (now (state .entry)) (Select (sessionOf session) (byteOf version)) r (now (state .exit)) ⌝ }
 {
-    if !is_ready(true, state) {
+    if !state_record::is_ready(true, state) {
         return ARGUMENT as u32;
     }
     let st = state_read::read(state);
@@ -179,7 +174,7 @@ pub extern "C" fn slavotuk_start(
     ensures { λ r. ⌜ Entry (readName (now (name .entry)) .fits) (now (state .entry)) (Start (sessionOf session) (credentialOf credential) (readName (now (name .entry)) .name)) r (now (state .exit)) ⌝ }
 {
     let read = names::read_name(name);
-    if !is_ready(read.fits, state) {
+    if !state_record::is_ready(read.fits, state) {
         return ARGUMENT as u32;
     }
     let st = state_read::read(state);
@@ -204,7 +199,7 @@ pub extern "C" fn slavotuk_continue(
     ensures { λ r. ⌜ Entry (readName (now (name .entry)) .fits) (now (state .entry)) (Continue (sessionOf session) (credentialOf credential) (readName (now (name .entry)) .name)) r (now (state .exit)) ⌝ }
 {
     let read = names::read_name(name);
-    if !is_ready(read.fits, state) {
+    if !state_record::is_ready(read.fits, state) {
         return ARGUMENT as u32;
     }
     let st = state_read::read(state);
@@ -230,7 +225,7 @@ pub extern "C" fn slavotuk_elevate(
     ensures { λ r. ⌜ Entry (readName (now (name .entry)) .fits && isFlag verdict) (now (state .entry)) (Elevate (sessionOf session) (credentialOf credential) (readName (now (name .entry)) .name) (flagOf verdict)) r (now (state .exit)) ⌝ }
 {
     let read = names::read_name(name);
-    if !is_ready(both(read.fits, is_flag(verdict)), state) {
+    if !state_record::is_ready(both(read.fits, is_flag(verdict)), state) {
         return ARGUMENT as u32;
     }
     let st = state_read::read(state);
@@ -250,7 +245,7 @@ pub extern "C" fn slavotuk_elevate(
 pub extern "C" fn slavotuk_drop(state: &mut [u8], session: u32) -> u32
     ensures { λ r. ⌜ Entry true (now (state .entry)) (Drop (sessionOf session)) r (now (state .exit)) ⌝ }
 {
-    if !is_ready(true, state) {
+    if !state_record::is_ready(true, state) {
         return ARGUMENT as u32;
     }
     let st = state_read::read(state);
@@ -268,7 +263,7 @@ pub extern "C" fn slavotuk_end(
 ) -> u32
     ensures { λ r. ⌜ Entry (isFlag verdict && isFlag keep) (now (state .entry)) (End (sessionOf session) (userClaimOf credential number verdict) (flagOf keep)) r (now (state .exit)) ⌝ }
 {
-    if !is_ready(are_flags(verdict, keep), state) {
+    if !state_record::is_ready(are_flags(verdict, keep), state) {
         return ARGUMENT as u32;
     }
     let st = state_read::read(state);
@@ -295,7 +290,7 @@ pub extern "C" fn slavotuk_record(
 ) -> u32
     ensures { λ r. ⌜ Entry (isClaimed kind verdict) (now (state .entry)) (Record (sessionOf session) (claimOf kind credential number verdict) (classOf class)) r (now (state .exit)) ⌝ }
 {
-    if !is_ready(is_claimed(kind, verdict), state) {
+    if !is_claimed(kind, verdict) {
         return ARGUMENT as u32;
     }
     state_record::record(
@@ -319,7 +314,7 @@ pub extern "C" fn slavotuk_kill(
     ensures { λ r. ⌜ Entry (readName (now (name .entry)) .fits && isClaimed kind verdict) (now (state .entry)) (Kill (sessionOf session) (claimOf kind credential number verdict) (readName (now (name .entry)) .name)) r (now (state .exit)) ⌝ }
 {
     let read = names::read_name(name);
-    if !is_ready(both(read.fits, is_claimed(kind, verdict)), state) {
+    if !state_record::is_ready(both(read.fits, is_claimed(kind, verdict)), state) {
         return ARGUMENT as u32;
     }
     let st = state_read::read(state);
@@ -347,7 +342,7 @@ pub extern "C" fn slavotuk_set_word(
 ) -> u32
     ensures { λ r. ⌜ Entry (isClaimed kind verdict) (now (state .entry)) (SetWord (sessionOf session) (claimOf kind credential number verdict) (credentialOf target) word) r (now (state .exit)) ⌝ }
 {
-    if !is_ready(is_claimed(kind, verdict), state) {
+    if !state_record::is_ready(is_claimed(kind, verdict), state) {
         return ARGUMENT as u32;
     }
     let st = state_read::read(state);
@@ -379,7 +374,7 @@ pub extern "C" fn slavotuk_list(
 ) -> u32
     ensures { λ r. ⌜ ListEntry (isClaimed kind verdict) (now (state .entry)) (sessionOf session) (claimOf kind credential number verdict) (wantedOf wanted) (now (response .entry)) r (now (state .exit)) (now (response .exit)) (now (long .exit)) ⌝ }
 {
-    if !is_ready(is_claimed(kind, verdict), state) {
+    if !state_record::is_ready(is_claimed(kind, verdict), state) {
         *long = 0;
         return ARGUMENT as u32;
     }

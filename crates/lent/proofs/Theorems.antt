@@ -19,23 +19,22 @@ use Rattle.calls.specs.Calls.{Call, number, fresh}
 use Rattle.calls.specs.Run.{step, run, numbers}
 use Rattle.layout.specs.Layout.{stateBytes, stateOf, holdsState}
 use Rattle.layout.proofs.Laws.{state-back, holds-written, one-form}
-use Rattle.host.specs.Entry.{entryNumber, entryBytes}
+use Rattle.state_record.specs.Entry.{isMade, entryNumber, entryBytes}
 use Rattle.host.specs.Fresh.{pairsOf, arePairs, canFresh, FreshEntry}
 use Rattle.host.proofs.Rules.{pairs-length, flags-long, words-long}
 use Rattle.lists.specs.Each.{Each, each-nil, each-cons}
-use Rattle.history.proofs.Kept.{step-accepted, step-refused}
 use Rattle.history.proofs.Theorems.{demand3}
 use Rattle.lent.specs.Lent.{IsWhole, IsWord, Fits, Eight, Made, AllFit, afterAll, answers, callsMade, answersOf, Follows, Lent, Chain, none, then, Ends}
 use Rattle.lent.proofs.Kept.{Kept, kept-step, kept-fresh, kept-held, formed, sound}
 
 -- ---- an entry that makes no call
 not-fine-number : (b : List ℕ) (call : Call) → entryNumber false b call ≡ No.argument
-unfolding entryNumber _unless_ _▸_
+unfolding isMade entryNumber _unless_ _▸_
 not-fine-number b call = refl
 
 not-fine-bytes : (b : List ℕ) (call : Call) → entryBytes false b call ≡ b
-unfolding entryBytes
-not-fine-bytes b call = rw (not-fine-number b call)
+unfolding isMade entryBytes
+not-fine-bytes b call = refl
 
 -- ---- an entry that makes one, on a slice that holds a state that is kept
 module _ (st : State) (v : Kept st) where
@@ -46,15 +45,12 @@ module _ (st : State) (v : Kept st) where
   back = state-back (formed st v)
 
   fine-number : (call : Call) → entryNumber true (stateBytes st) call ≡ number st call
-  unfolding entryNumber _unless_ _▸_
+  unfolding isMade entryNumber _unless_ _▸_
   fine-number call = rw (held, back)
 
   fine-bytes : (call : Call) → entryBytes true (stateBytes st) call ≡ stateBytes (step st call)
-  unfolding entryBytes
-  fine-bytes call =
-      split (eqb (number st call) 0)
-      (λ e. rw (fine-number call, e, back, step-accepted st call (eqb-true (number st call) 0 e)))
-      (λ e. rw (fine-number call, e, step-refused st call (eqb-false (number st call) 0 e)))
+  unfolding isMade entryBytes step
+  fine-bytes call = rw (held, back)
 
 -- ---- entries one after another
 record Along (st : State) (entries : List Made) : Type 0 where

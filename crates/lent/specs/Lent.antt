@@ -11,7 +11,7 @@ use Rattle.claims.specs.declared.State.{State}
 use Rattle.calls.specs.Calls.{Call, Open, Close, Drop, Select, Start, Continue, Elevate, End, Record, List′, Kill, SetWord, number, fresh}
 use Rattle.calls.specs.Run.{run, numbers}
 use Rattle.layout.specs.Layout.{stateBytes, stateOf, holdsState}
-use Rattle.host.specs.Entry.{entryNumber, entryBytes, Entry}
+use Rattle.state_record.specs.Entry.{entryNumber, entryBytes, Entry}
 use Rattle.lists.specs.Each.{Each}
 use Rattle.history.specs.History.{history}
 use Rattle.history.specs.Demand.{Demand3}

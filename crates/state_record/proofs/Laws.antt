@@ -1,18 +1,21 @@
--- What the record entry cites: in a slice that holds a state, the count where it lies is the bytes of the counted state.
+-- A call made on a slice, and the count where it lies: in a slice that holds a state, it makes the bytes of the counted state.
 -- Assumes nothing.
 use Prim.Native.Nat.{ℕ, _+_, _<_, _≤_}
 use mathlib.Core.Path.{_≡_, sym, ap, _∙_}
-use mathlib.Core.Bool.{true}
+use mathlib.Core.Bool.{Bool, true, false, not}
 use mathlib.Core.List.{List}
 use native.Mathlib.Omega.{arith}
 use lib.ListN.{length}
+use borrow.Author.Tests.{not-false}
 use Rattle.lists.specs.Bytes.{Bytes}
 use Rattle.lists.specs.Lists.{firstIndex}
 use Rattle.lists.proofs.Lists.{first-inside}
+use Rattle.lists.proofs.Tests.{and-right}
 use Rattle.names.specs.declared.Session.{Session}
 use Rattle.table.specs.Table.{standing, isActive}
 use Rattle.table.specs.declared.Active.{Active}
 use Rattle.table.specs.declared.Active.the-variants.{UserOf}
+use Rattle.claims.specs.Numbers.{_unless_, _▸_}
 use Rattle.claims.specs.Module.{hasActive, activePlace, activeProcess}
 use Rattle.claims.specs.Claim.{userNumber, claimNumber, admitted}
 use Rattle.claims.specs.declared.Claim.{Claim}
@@ -20,12 +23,39 @@ use Rattle.claims.specs.declared.Claim.the-variants.{Elevated, ByUser}
 use Rattle.claims.specs.declared.State.{State}
 use Rattle.claims.specs.declared.UserClaim.{UserClaim}
 use Rattle.claims.proofs.Laws.{clear-first, clear-rest, clear-unless}
-use Rattle.calls.specs.Calls.{counted}
+use Rattle.calls.specs.Calls.{Call, number, counted, outcome}
+use Rattle.calls.proofs.Laws.{refusal-leaves}
 use Rattle.layout.specs.Layout.{stateOf, stateBytes, holdsState}
 use Rattle.layout.proofs.InPlace.{next-held}
 use Rattle.layout.proofs.Laws.{one-form}
+use Rattle.state_record.specs.Entry.{isMade, Ready, entryNumber, entryBytes, Entry}
 use Rattle.state_record.specs.Recorded.{countedIn}
 
+-- ---- a call on a slice
+module _ (fine : Bool) (before : List ℕ) (call : Call) where
+  pub entry-none : isMade fine before ≡ false → Entry fine before call 1 before
+  unfolding entryNumber entryBytes _unless_ _▸_
+  entry-none z = record { number-is = rw z; bytes-are = rw z }
+
+  pub entry-made : isMade fine before ≡ true → {answer : ℕ} {after : List ℕ} → answer ≡ number (stateOf before) call
+      → after ≡ stateBytes (outcome (stateOf before) call .state) → Entry fine before call answer after
+  unfolding entryNumber entryBytes _unless_ _▸_
+  entry-made z e w = record { number-is = e ∙ rw z; bytes-are = w ∙ rw z }
+
+pub made-holds : {fine h : Bool} {before : List ℕ} → Ready fine before h → not h ≡ false → holdsState before ≡ true
+unfolding isMade
+made-holds {fine} {h} {before} e k = and-right fine (holdsState before) (sym (e .is) ∙ not-false h k)
+
+-- what a refused call leaves stands in the slice already, so nothing need be written
+pub refusal-bytes : {fine h : Bool} {before : List ℕ} → Ready fine before h → not h ≡ false → (call : Call) → (number (stateOf before) call ≡ 0 → ⊥)
+    → stateBytes (outcome (stateOf before) call .state) ≡ before
+refusal-bytes {fine} {h} {before} e k call n = ap stateBytes (refusal-leaves (stateOf before) call n) ∙ one-form before (made-holds e k) (e .bytes)
+
+pub entry-refused : (fine : Bool) (before : List ℕ) (call : Call) {h : Bool} → Ready fine before h → not h ≡ false → {n : ℕ} → n ≡ number (stateOf before) call → (n ≡ 0 → ⊥)
+    → Entry fine before call n before
+entry-refused fine before call {h} e k q z = entry-made fine before call (sym (e .is) ∙ not-false h k) q (sym (refusal-bytes e k call (λ w. z (q ∙ w))))
+
+-- ---- the count
 -- an admitted user claim has its process
 pub user-stands : (st : State) (s : Session) (u : UserClaim) → admitted st s (ByUser u) ≡ 0 → hasActive st (UserOf s (u .credential)) ≡ true
 unfolding admitted claimNumber userNumber

@@ -2,10 +2,12 @@
 -- Assumes nothing.
 use Prim.Native.Nat.{ℕ, _+_, _<_}
 use mathlib.Core.Path.{_≡_, refl, sym, ap, _∙_}
+use mathlib.Core.Bool.{Bool, true, false, not}
 use mathlib.Core.List.{List}
-use borrow.Author.Tests.{ne-eqb}
+use borrow.Author.Tests.{not-true, not-false}
 use mir.Val.{Fits}
 use mir.Syntax.{w16}
+use Rattle.lists.specs.Bytes.{Bytes}
 use Rattle.lists.proofs.Tests.{clash}
 use Rattle.names.specs.declared.Credential.{Credential}
 use Rattle.names.specs.declared.Session.{Session}
@@ -22,12 +24,16 @@ use Rattle.claims.specs.declared.Claim.the-variants.{Elevated, ByUser}
 use Rattle.claims.specs.declared.Class.{Class}
 use Rattle.claims.specs.declared.State.{State}
 use Rattle.claims.specs.declared.UserClaim.{UserClaim}
+use Rattle.claims.proofs.Laws.{clear-first, clear-rest}
 use Rattle.claims.proofs.Rules.{none-active, place-is, process-is}
-use Rattle.calls.specs.Calls.{number, Record}
+use Rattle.calls.specs.Calls.{Call, number, Record, effect}
+use Rattle.calls.specs.declared.Outcome.{Outcome}
+use Rattle.calls.proofs.Laws.{outcome-done}
 use Rattle.calls.proofs.Rules.{next-fits, rules as call-rules}
-use Rattle.layout.specs.Layout.{stateOf, nextWritten}
-use Rattle.state_record.specs.Recorded.{countedIn, Recorded}
-use Rattle.state_record.proofs.Laws.{user-stands}
+use Rattle.layout.specs.Layout.{stateOf, stateBytes, holdsState, nextWritten}
+use Rattle.state_record.specs.Entry.{isMade, Ready, Entry}
+use Rattle.state_record.specs.Recorded.{countedIn}
+use Rattle.state_record.proofs.Laws.{entry-none, entry-made, made-holds, entry-refused, user-stands, counted-held}
 
 -- ---- the process that the search found
 module _ (st : State) (which : Active) {f : Found} (e : f ≡ firstPlace (isActive which) (standing (st .table))) {k : ℕ} (q : f ≡ At k) where
@@ -69,11 +75,38 @@ module _ (b : List ℕ) (s : Session) {claim : Claim} where
   count-by-user e q = q ∙ rw e
 
 -- ---- the record
-module _ (b : List ℕ) (s : Session) (claim : Claim) (class : Class) {n : ℕ} (e : n ≡ number (stateOf b) (Record s claim class)) where
-  pub recorded-refused : (n ≡ 0 → ⊥) → Recorded b s claim class n b
-  recorded-refused h = record { number-is = e; bytes-are = rw (← e, ne-eqb n 0 h) }
+record-admitted : (st : State) (s : Session) (claim : Claim) (class : Class) → number st (Record s claim class) ≡ 0 → admitted st s claim ≡ 0
+unfolding number
+record-admitted st s claim class z = clear-first _ _ (clear-rest _ _ z)
 
-  pub recorded-done : {after : List ℕ} → n ≡ 0 → after ≡ countedIn b s claim → Recorded b s claim class 0 after
-  recorded-done z w = record { number-is = sym z ∙ e; bytes-are = w ∙ rw (← e, z) }
+module _ (b : List ℕ) (s : Session) (claim : Claim) (class : Class) {h : Bool} (e : Ready true b h) where
+  abbrev call : Call
+  call = Record s claim class
 
-pub ruleset rules = (call-rules, turn-found, owner-found, count-nowhere, one-more-fits, count-found, count-elevated, count-by-user, recorded-refused, recorded-done)
+  pub record-none : not h ≡ true → Entry true b (Record s claim class) 1 b
+  record-none k = entry-none true b call (sym (e .is) ∙ not-true h k)
+
+  module _ (k : not h ≡ false) {n : ℕ} (q : n ≡ number (stateOf b) (Record s claim class)) where
+    pub record-refused : (n ≡ 0 → ⊥) → Entry true b (Record s claim class) n b
+    record-refused z = entry-refused true b call e k q z
+
+    pub record-done : {after : List ℕ} → n ≡ 0 → after ≡ countedIn b s claim → Entry true b (Record s claim class) 0 after
+    unfolding effect
+    record-done z w =
+        let m : number (stateOf b) call ≡ 0 = sym q ∙ z in
+        entry-made true b call (sym (e .is) ∙ not-false h k) (sym m)
+        (w
+        ∙ counted-held b (e .bytes) (made-holds e k) s claim (record-admitted (stateOf b) s claim class m)
+        ∙ ap (λ (o : Outcome). stateBytes (o .state)) (sym (outcome-done (stateOf b) call m)))
+
+-- ---- whether a call is made
+module _ {fine : Bool} (b : List ℕ) (g : Bytes b) where
+  pub ready-holds : {h : Bool} → fine ≡ true → h ≡ holdsState b → Ready fine b h
+  unfolding isMade
+  ready-holds f e = record { is = e ∙ rw f; bytes = g }
+
+  pub ready-not : fine ≡ false → Ready fine b fine
+  unfolding isMade
+  ready-not f = record { is = rw f; bytes = g }
+
+pub ruleset rules = (call-rules, turn-found, owner-found, count-nowhere, one-more-fits, count-found, count-elevated, count-by-user, record-none, record-refused, record-done)

@@ -1,11 +1,13 @@
-// The record call where the state lies: nothing is read but what its tests ask, and nothing is written but the two bytes of a next number.
+// Calls on the state that a slice holds: whether one is made, and the record call where the state lies: nothing is read but what its tests ask, and nothing is written but the two bytes of a next number.
 // The tests are those of `claims`, of the state that the slice says.
 ghost use mathlib.Core.Path.{_≡_};
+ghost use mathlib.Core.Bool.{true};
 ghost use Rattle.claims.specs.Module.{granted};
 ghost use Rattle.claims.specs.Claim.{entered, userNumber, elevatedNumber, claimNumber, admitted, elevatedCredential, claimant};
 ghost use Rattle.calls.specs.Calls.{number, Record};
 ghost use Rattle.layout.specs.Layout.{stateOf};
-ghost use Rattle.state_record.specs.Recorded.{countedIn, Recorded};
+ghost use Rattle.state_record.specs.Entry.{Ready, Entry};
+ghost use Rattle.state_record.specs.Recorded.{countedIn};
 use claims::ARGUMENT;
 use claims::CREDENTIAL;
 use claims::Claim;
@@ -18,6 +20,13 @@ use names::Credential;
 use names::Session;
 use table::Active;
 use table::Found;
+
+// Whether a call is made on a slice: the arguments that are no part of it are in order, and the slice holds a state.
+pub fn is_ready(fine: bool, state: &[u8]) -> bool
+    ensures { λ r. ⌜ Ready fine (now (state .entry)) r ⌝ }
+{
+    fine && state_test::holds(state)
+}
 
 // ---- the claim
 
@@ -141,10 +150,13 @@ fn count(state: &mut [u8], s: Session, claim: Claim)
     }
 }
 
-// The number of a record; where that is 0 and the claim is a user's, its process's next number is one more.
+// The number of a record; where that is 0 and the claim is a user's, its process's next number is one more. A slice that holds no state is refused.
 pub fn record(state: &mut [u8], s: Session, claim: Claim, class: Class) -> u8
-    ensures { λ r. ⌜ Recorded (now (state .entry)) s claim class r (now (state .exit)) ⌝ }
+    ensures { λ r. ⌜ Entry true (now (state .entry)) (Record s claim class) r (now (state .exit)) ⌝ }
 {
+    if !is_ready(true, state) {
+        return ARGUMENT;
+    }
     let answer = record_number(state, s, claim, class);
     if answer != DONE {
         return answer;

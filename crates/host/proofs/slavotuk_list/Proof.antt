@@ -1,4 +1,4 @@
-use Rattle.host.proofs.Rules.{rules}
+use Rattle.host.proofs.Rules.{list-leaves, rules}
 use Rattle.host.proofs.slavotuk_list.Statement.{statement}
 use Rattle.host.proofs.slavotuk_list.Tie as tie
 
@@ -33,7 +33,9 @@ list-requires : tie.Need-list-requires
 list-requires c κs = search rules
 
 stored-requires : tie.Need-stored-requires
-stored-requires c κs = search rules
+stored-requires c κs =
+    list-leaves (c .before .before .before .before .before .before .before .before .before .before .before .before .is-ready .ensures) (c .before .before .before .before .before .before .before .before .before .before .before .if1 .left) _ _ _ _
+    (c .before .before .before .before .before .before .before .before .before .read .ensures) (c .before .before .before .before .list .ensures)
 
 same-length-2 : tie.Need-same-length-2
 same-length-2 c = search rules

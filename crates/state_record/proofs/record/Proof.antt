@@ -7,8 +7,8 @@ use Rattle.state_record.proofs.Rules.{rules}
 use Rattle.state_record.proofs.record.Statement.{statement}
 use Rattle.state_record.proofs.record.Tie as tie
 
-record-number-requires : tie.Need-record-number-requires
-record-number-requires c κs = search rules
+is-ready-requires : tie.Need-is-ready-requires
+is-ready-requires c κs = search rules
 
 same-length : tie.Need-same-length
 same-length c = search rules
@@ -16,9 +16,8 @@ same-length c = search rules
 returns : tie.Need-returns
 returns c = search rules
 
-count-requires : tie.Need-count-requires
-unfolding number
-count-requires c κs = search rules
+record-number-requires : tie.Need-record-number-requires
+record-number-requires c κs = search rules
 
 same-length-2 : tie.Need-same-length-2
 same-length-2 c = search rules
@@ -26,7 +25,26 @@ same-length-2 c = search rules
 returns-2 : tie.Need-returns-2
 returns-2 c = search rules
 
+count-requires : tie.Need-count-requires
+unfolding number
+count-requires c κs = search rules
+
+same-length-3 : tie.Need-same-length-3
+same-length-3 c = search rules
+
+returns-3 : tie.Need-returns-3
+returns-3 c = search rules
+
 pub record-spec : {M : Type 1} → statement M
 record-spec =
     tie.close
-    (tie.spec record-number-requires same-length returns count-requires same-length-2 returns-2)
+    (tie.spec
+    is-ready-requires
+    same-length
+    returns
+    record-number-requires
+    same-length-2
+    returns-2
+    count-requires
+    same-length-3
+    returns-3)
