@@ -1,6 +1,6 @@
 //! How deep the sequences went.
 
-use crate::call::{Call, ENTRIES, ENTRY_NAMES};
+use crate::call::{Call, ENTRIES};
 use slavotuk_model::module::{Kind, Name, PLACES, SPENT};
 use slavotuk_model::Module;
 use std::collections::HashMap;
@@ -12,6 +12,7 @@ const NUMBERS: usize = 16;
 #[rustfmt::skip]
 const POSSIBLE: [&[usize]; ENTRIES] = [
     /* fresh         */ &[0, 1],
+    /* holds         */ &[0], // a sequence has a state from its first call on
     /* open          */ &[0, 1, 2],
     /* close         */ &[0, 1, 2],
     /* drop          */ &[0, 1, 2, 3, 6],
@@ -150,7 +151,7 @@ impl Depth {
         }
         let mut lines = vec![head];
         for (entry, answered) in self.answered.iter().enumerate() {
-            let mut line = format!("  {:13}", ENTRY_NAMES[entry]);
+            let mut line = format!("  {:13}", Call::ENTRIES[entry]);
             for (number, times) in answered.iter().enumerate() {
                 match (POSSIBLE[entry].contains(&number), times) {
                     (false, 0) => line += &format!(" {:>7}", "."),
@@ -204,7 +205,7 @@ impl Depth {
         for (entry, numbers) in POSSIBLE.iter().enumerate() {
             for number in *numbers {
                 let times = self.answered[entry][*number];
-                let pair = format!("{} {number}", ENTRY_NAMES[entry]);
+                let pair = format!("{} {number}", Call::ENTRIES[entry]);
                 pairs += 1;
                 if times < least {
                     missing.push(format!("{pair} ({times})"));
@@ -228,7 +229,7 @@ impl Depth {
         for (entry, answered) in self.answered.iter().enumerate() {
             for (number, times) in answered.iter().enumerate() {
                 if *times > 0 && !POSSIBLE[entry].contains(&number) {
-                    let name = ENTRY_NAMES[entry];
+                    let name = Call::ENTRIES[entry];
                     return Err(format!("{name} answered {number}, {times} times"));
                 }
             }
@@ -265,7 +266,7 @@ mod tests {
     fn an_answer_that_cannot_be_is_seen() {
         let mut depth = Depth::default();
         assert!(depth.judge_impossible().is_ok());
-        depth.answered[11][10] = 1;
+        depth.answered[12][10] = 1;
         assert_eq!(
             depth.judge_impossible(),
             Err("kill answered 10, 1 times".to_string())

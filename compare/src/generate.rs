@@ -1,6 +1,6 @@
 //! Draws the calls of a sequence, with an eye on the state so that deep ones are reached.
 
-use crate::call::{Answer, Call, Out, ENTRIES};
+use crate::call::{Answer, Call, ENTRIES};
 use crate::random::Random;
 use slavotuk::entries::RawClaim;
 use slavotuk_model::layout::{self, STATE_LENGTH};
@@ -42,10 +42,10 @@ enum Style {
 #[rustfmt::skip]
 fn weights(style: Style) -> [usize; ENTRIES] {
     match style {
-        //                    fresh open close drop select start cont. elev. end rec. list kill word requests listings
-        Style::Mixed =>       [2,   30,  15,   12,  30,    100,  60,   40,   60, 120, 50,  40,  40,  5, 5,    10, 15],
-        Style::Crowded =>     [0,   30,  2,    4,   40,    160,  30,   60,   80, 50,  40,  6,   20,  5, 5,    10, 15],
-        Style::NearlySpent => [0,   10,  2,    5,   10,    30,   50,   20,   40, 120, 60,  50,  40,  5, 5,    10, 15],
+        //                    fresh holds open close drop select start cont. elev. end rec. list kill word requests listings
+        Style::Mixed =>       [2,   2,    30,  15,   12,  30,    100,  60,   40,   60, 120, 50,  40,  40,  5, 5,    10, 15],
+        Style::Crowded =>     [0,   2,    30,  2,    4,   40,    160,  30,   60,   80, 50,  40,  6,   20,  5, 5,    10, 15],
+        Style::NearlySpent => [0,   2,    10,  2,    5,   10,    30,   50,   20,   40, 120, 60,  50,  40,  5, 5,    10, 15],
     }
 }
 
@@ -90,38 +90,45 @@ impl Generator {
         }
         match self.random.weighted(&weights(self.style)) {
             0 => self.wrong_fresh(),
-            1 => {
+            1 => Call::Holds,
+            2 => {
                 let session = self.session_in(module, Session::Closed);
                 Call::Open { session }
             }
-            2 => {
+            3 => {
                 let session = self.session(module);
                 Call::Close { session }
             }
-            3 => {
+            4 => {
                 let session = self.elevated_session(module);
                 Call::Drop { session }
             }
-            4 => self.select(module),
-            5 => self.start(module),
-            6 => self.continue_saved(module),
-            7 => self.elevate(module),
-            8 => self.end(module),
-            9 => self.record(module),
-            10 => self.list(module),
-            11 => self.kill(module),
-            12 => self.set_word(module),
-            13 => self.read_request(),
-            14 => self.write_request(),
-            15 => self.read_count(),
+            5 => self.select(module),
+            6 => self.start(module),
+            7 => self.continue_saved(module),
+            8 => self.elevate(module),
+            9 => self.end(module),
+            10 => self.record(module),
+            11 => self.list(module),
+            12 => self.kill(module),
+            13 => self.set_word(module),
+            14 => self.read_request(),
+            15 => self.write_request(),
+            16 => self.read_count(),
             _ => self.read_row(),
         }
     }
 
     /// Takes note of an answer.
     pub fn observe(&mut self, answer: &Answer) {
-        if let (0, Out::Listing { response, length }) = (answer.number, &answer.out) {
-            self.listing = response[..*length].to_vec();
+        if let (
+            0,
+            Call::List {
+                response, length, ..
+            },
+        ) = (answer.number, &answer.made)
+        {
+            self.listing = response.as_ref()[..*length].to_vec();
         }
     }
 
@@ -301,7 +308,7 @@ impl Generator {
             session,
             claim,
             wanted,
-            response: self.random.bytes(room),
+            response: self.random.bytes(room).into(),
             length: self.random.next() as usize,
         }
     }
@@ -363,7 +370,7 @@ impl Generator {
     fn write_request(&mut self) -> Call {
         let room = self.random.below(9);
         Call::WriteRequest {
-            buffer: self.random.bytes(room),
+            buffer: self.random.bytes(room).into(),
             credential: self.random.word() as u16,
         }
     }
@@ -393,7 +400,7 @@ impl Generator {
             },
             credential: self.random.word() as u16,
             kind: self.random.word() as u8,
-            name: self.random.bytes(length),
+            name: self.random.bytes(length).into(),
         }
     }
 

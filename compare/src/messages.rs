@@ -112,7 +112,7 @@ impl Messages {
         }
         for length in 0..=8 {
             let call = Call::WriteRequest {
-                buffer: self.random.bytes(length),
+                buffer: self.random.bytes(length).into(),
                 credential: self.random.word() as u16,
             };
             self.call(&call, Some(if length < HEAD_LENGTH { 15 } else { 0 }))?;
@@ -128,7 +128,7 @@ impl Messages {
             self.call(&call, Some(0))?;
             let room = HEAD_LENGTH + self.random.below(4);
             let call = Call::WriteRequest {
-                buffer: self.random.bytes(room),
+                buffer: self.random.bytes(room).into(),
                 credential,
             };
             self.call(&call, Some(0))?;
@@ -291,7 +291,7 @@ impl Messages {
             at,
             credential: self.random.word() as u16,
             kind: self.random.word() as u8,
-            name: self.random.bytes(name_length),
+            name: self.random.bytes(name_length).into(),
         }
     }
 }

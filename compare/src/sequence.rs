@@ -1,6 +1,6 @@
 //! Sequences of calls: drawn and run on both sides, with the accepted records sent again.
 
-use crate::call::Call;
+use crate::call::{session_mut, user_claim, Call};
 use crate::depth::{Depth, Trail};
 use crate::generate::Generator;
 use crate::random::Random;
@@ -154,12 +154,7 @@ pub fn run_to_spent() -> Result<String, String> {
 
 /// A record, a list or a set word of credential 1 in session 0.
 fn protected_call(number: u16) -> Call {
-    let claim = RawClaim {
-        kind: 0,
-        credential: 1,
-        number,
-        verdict: 1,
-    };
+    let claim = RawClaim::user(1, number);
     match number % 3 {
         0 => Call::Record {
             session: 0,
@@ -170,7 +165,7 @@ fn protected_call(number: u16) -> Call {
             session: 0,
             claim,
             wanted: 1,
-            response: vec![0xee; 60],
+            response: vec![0xee; 60].into(),
             length: 1,
         },
         _ => Call::SetWord {
@@ -237,7 +232,7 @@ impl Records {
         }
         let stands = |name: &Name| after.processes.iter().any(|process| process.name == *name);
         self.accepted.retain(|record| stands(&record.name));
-        if let Some((session, credential, number)) = call.user_claim() {
+        if let Some((session, credential, number)) = user_claim(call) {
             let credential = credential as usize;
             let found = before.find_active_user(session as usize, credential);
             let name = before.processes[found.expect("it was accepted").0].name;
@@ -274,7 +269,7 @@ impl Records {
         for place in chosen {
             let record = &mut self.accepted[*place];
             for session in 0..4 {
-                if let Some(handle) = record.call.session_mut() {
+                if let Some(handle) = session_mut(&mut record.call) {
                     *handle = session;
                 }
                 let number = copy.answer(&record.call).number;

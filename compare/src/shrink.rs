@@ -1,6 +1,6 @@
 //! Makes a sequence that shows an error as short and as plain as it gets, while it still shows one.
 
-use crate::call::{Bytes, Call};
+use crate::call::{name_mut, number_mut, session_mut, user_claim, Bytes, Call};
 use crate::sequence::{Failure, Sequence};
 use crate::sides::Pair;
 use slavotuk::entries::RawClaim;
@@ -67,12 +67,12 @@ fn without(sequence: &Sequence, begin: usize, end: usize) -> Sequence {
 fn renumbered(sequence: &Sequence, begin: usize, end: usize) -> Sequence {
     let mut shorter = without(sequence, begin, end);
     for gone in &sequence.calls[begin..end] {
-        let Some((_, credential, _)) = gone.user_claim() else {
+        let Some((_, credential, _)) = user_claim(gone) else {
             continue;
         };
         for call in &mut shorter.calls[begin..] {
-            let same = call.user_claim().map(|claim| claim.1) == Some(credential);
-            if let (true, Some(number)) = (same, call.number_mut()) {
+            let same = user_claim(call).map(|claim| claim.1) == Some(credential);
+            if let (true, Some(number)) = (same, number_mut(call)) {
                 *number = number.saturating_sub(1);
             }
         }
@@ -105,7 +105,7 @@ fn plainer_lent(failure: &mut Failure) {
 fn plainer_names(failure: &mut Failure) {
     let mut names: Vec<Vec<u8>> = Vec::new();
     for call in &mut failure.sequence.calls.clone() {
-        if let Some(name) = call.name_mut() {
+        if let Some(name) = name_mut(call) {
             if !name.is_empty() && !names.contains(name) {
                 names.push(name.clone());
             }
@@ -132,7 +132,7 @@ fn runs(bytes: &[u8]) -> usize {
 
 fn with_name(sequence: &Sequence, from: &[u8], to: &[u8]) -> Sequence {
     let mut changed = sequence.clone();
-    let names = changed.calls.iter_mut().filter_map(Call::name_mut);
+    let names = changed.calls.iter_mut().filter_map(name_mut);
     for name in names.filter(|name| *name == from) {
         *name = to.to_vec();
     }
@@ -143,7 +143,7 @@ fn plainer_sessions(failure: &mut Failure) {
     for from in (1..SESSIONS as u32).rev() {
         for to in 0..from {
             let mut tried = failure.sequence.clone();
-            let sessions = tried.calls.iter_mut().filter_map(Call::session_mut);
+            let sessions = tried.calls.iter_mut().filter_map(session_mut);
             for session in sessions.filter(|session| **session == from) {
                 *session = to;
             }
@@ -188,7 +188,7 @@ fn plainer_calls(call: &Call) -> Vec<Call> {
         }
         Call::Record { .. } => plainer.push(change(&|call| set_class(call, 4))),
         Call::List { response, .. } => {
-            let room = response.len();
+            let room = response.as_ref().len();
             let rooms = [0, 4, room / 2, room.saturating_sub(1), room];
             for room in rooms.into_iter().filter(|tried| *tried <= room) {
                 plainer.push(change(&|call| set_room(call, room)));
@@ -214,12 +214,7 @@ fn plain_elevated_claim(call: &mut Call) {
     | Call::SetWord { claim, .. } = call
     {
         if claim.kind == 1 {
-            *claim = RawClaim {
-                kind: 1,
-                credential: 0,
-                number: 0,
-                verdict: 0,
-            };
+            *claim = RawClaim::ELEVATED;
         }
     }
 }
@@ -241,7 +236,7 @@ fn set_room(call: &mut Call, room: usize) {
         response, length, ..
     } = call
     {
-        *response = vec![0xee; room];
+        *response = vec![0xee; room].into();
         *length = 0;
     }
 }
@@ -298,7 +293,6 @@ fn describe_lent(lent: &[u8]) -> Vec<String> {
 #[cfg(test)]
 mod tests {
     use super::*;
-    use crate::call::ENTRY_NAMES;
     use crate::depth::Depth;
     use crate::generate::Generator;
     use crate::sequence::Found;
@@ -346,7 +340,7 @@ mod tests {
             let calls = &shrunk.sequence.calls;
             assert_eq!(find_save(&shrunk.sequence), Some(shrunk.found));
             assert_eq!(
-                calls.last().map(|call| ENTRY_NAMES[call.entry()]),
+                calls.last().map(|call| Call::ENTRIES[call.entry()]),
                 Some("end")
             );
             lengths.push(calls.len());

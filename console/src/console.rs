@@ -1,9 +1,9 @@
 //! Carries commands out on the module that the console holds.
 
-use crate::line::{quoted, visible, Call, Command, List, Records, What, Words, DOCUMENT_01};
+use crate::line::{quoted, visible, Command, Records, Words, DOCUMENT_01};
 use crate::{draw, files, help};
 use slavotuk::entries::{self, RawClaim};
-use slavotuk::{Listing, Module, REQUEST_LENGTH, STATE_LENGTH};
+use slavotuk::{Call, Listing, Module, REQUEST_LENGTH, STATE_LENGTH};
 use std::io::{self, Write};
 
 /// Why a command was not carried out.
@@ -85,11 +85,7 @@ impl Console {
     ) -> Result<Next, Trouble> {
         match command {
             Command::Fresh(words) => self.fresh(words, line, out)?,
-            Command::Call(call) => {
-                let number = called(&mut self.state, call);
-                self.answer(number, line, out)?;
-            }
-            Command::List(list) => self.list(list, line, out)?,
+            Command::Call(call) => self.call(call, line, out)?,
             Command::Records(records) => self.records(records, line, out)?,
             Command::Show { whole } => draw::module(&self.module()?, whole, out)?,
             Command::Request(wanted) => request(wanted, out)?,
@@ -130,30 +126,22 @@ impl Console {
         self.begin_history(line, out)
     }
 
-    fn answer(&mut self, number: u32, line: &str, out: &mut impl Write) -> io::Result<()> {
+    /// Makes a call; a listing is drawn.
+    fn call(&mut self, mut call: Call, line: &str, out: &mut impl Write) -> io::Result<()> {
+        let number = call.make(&mut self.state);
         let answer = draw::answer(number);
         writeln!(out, "{answer}")?;
         self.history.add(line, answer);
-        Ok(())
-    }
-
-    fn list(&mut self, list: List, line: &str, out: &mut impl Write) -> io::Result<()> {
-        let List {
-            session,
-            claim,
-            wanted,
-            room,
-        } = list;
-        let mut response = vec![0; room];
-        let mut length = 0;
-        let state = &mut self.state;
-        let number = entries::list(state, session, claim, wanted, &mut response, &mut length);
-        self.answer(number, line, out)?;
-        if number != 0 {
-            return Ok(());
+        match call {
+            Call::List {
+                response, length, ..
+            } if number == 0 => {
+                let message = response.get(..length).unwrap_or_default();
+                draw::dump(message, out)?;
+                decoded(message, out)
+            }
+            _ => Ok(()),
         }
-        draw::dump(&response[..length], out)?;
-        decoded(&response[..length], out)
     }
 
     /// Sends the records until one is refused; the answer is the last one's.
@@ -181,46 +169,8 @@ fn make_fresh(state: &mut [u8], words: Words) -> u32 {
 }
 
 fn sent(state: &mut [u8], records: &Records, number: u16) -> u32 {
-    let claim = RawClaim {
-        kind: 0,
-        credential: records.credential,
-        number,
-        verdict: 1,
-    };
+    let claim = RawClaim::user(records.credential, number);
     entries::record(state, records.session, claim, records.class)
-}
-
-/// Hands a call to the module as it is.
-fn called(state: &mut [u8], call: Call) -> u32 {
-    let session = call.session;
-    match call.what {
-        What::Open => entries::open(state, session),
-        What::Close => entries::close(state, session),
-        What::Drop => entries::drop(state, session),
-        What::Select { version } => entries::select(state, session, version),
-        What::Start { credential, name } => entries::start(state, session, credential, &name),
-        What::Continue { credential, name } => {
-            entries::continue_saved(state, session, credential, &name)
-        }
-        What::Elevate {
-            credential,
-            name,
-            verdict,
-        } => entries::elevate(state, session, credential, &name, verdict),
-        What::End {
-            credential,
-            number,
-            verdict,
-            keep,
-        } => entries::end(state, session, credential, number, verdict, keep),
-        What::Record { claim, class } => entries::record(state, session, claim, class),
-        What::Kill { claim, name } => entries::kill(state, session, claim, &name),
-        What::SetWord {
-            claim,
-            target,
-            word,
-        } => entries::set_word(state, session, claim, target, word),
-    }
 }
 
 fn request(wanted: u16, out: &mut impl Write) -> io::Result<()> {

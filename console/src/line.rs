@@ -3,7 +3,7 @@
 use crate::bytes;
 use crate::help;
 use slavotuk::entries::RawClaim;
-use slavotuk::{Credential, FULL_LISTING_LENGTH, NAME_LENGTH};
+use slavotuk::{Call, Credential, FULL_LISTING_LENGTH, NAME_LENGTH};
 use std::path::PathBuf;
 
 /// The longest buffer that a listing is lent here.
@@ -20,10 +20,8 @@ pub const DOCUMENT_01: Words = [Some(15), Some(16), None, None, None, None, None
 pub enum Command {
     /// A fresh module.
     Fresh(Words),
-    /// A call that is lent no buffer.
+    /// A call of the module.
     Call(Call),
-    /// The call that is lent one.
-    List(List),
     /// A series of records.
     Records(Records),
     /// What the module holds, with whole names or shortened ones.
@@ -42,65 +40,6 @@ pub enum Command {
     Help(Option<String>),
     /// The end.
     Quit,
-}
-
-/// A call of the module, with numbers that may be wrong: it is for the module to answer them.
-#[derive(Debug, PartialEq)]
-pub struct Call {
-    pub session: u32,
-    pub what: What,
-}
-
-/// Which call it is, and what it is handed beside the session.
-#[derive(Debug, PartialEq)]
-pub enum What {
-    Open,
-    Close,
-    Drop,
-    Select {
-        version: u32,
-    },
-    Start {
-        credential: u32,
-        name: Vec<u8>,
-    },
-    Continue {
-        credential: u32,
-        name: Vec<u8>,
-    },
-    Elevate {
-        credential: u32,
-        name: Vec<u8>,
-        verdict: u32,
-    },
-    End {
-        credential: u32,
-        number: u16,
-        verdict: u32,
-        keep: u32,
-    },
-    Record {
-        claim: RawClaim,
-        class: u32,
-    },
-    Kill {
-        claim: RawClaim,
-        name: Vec<u8>,
-    },
-    SetWord {
-        claim: RawClaim,
-        target: u32,
-        word: u32,
-    },
-}
-
-/// The list call, with the length of the buffer that it is lent.
-#[derive(Debug, PartialEq)]
-pub struct List {
-    pub session: u32,
-    pub claim: RawClaim,
-    pub wanted: u32,
-    pub room: usize,
 }
 
 /// A series of records under a user claim with the verdict yes.
@@ -154,7 +93,6 @@ pub fn read(line: &str) -> Result<Option<Command>, String> {
 fn command(name: &str, words: &mut Reader) -> Result<Command, String> {
     Ok(match name {
         "fresh" => Command::Fresh(words.grant_words()?),
-        "list" => Command::List(words.list()?),
         "records" => Command::Records(words.records()?),
         "show" => Command::Show {
             whole: words.whole()?,
@@ -172,48 +110,62 @@ fn command(name: &str, words: &mut Reader) -> Result<Command, String> {
 
 fn call(name: &str, words: &mut Reader) -> Result<Call, String> {
     let session = words.number("session")?;
-    let what = match name {
-        "open" => What::Open,
-        "close" => What::Close,
-        "drop" => What::Drop,
-        "select" => What::Select {
+    Ok(match name {
+        "open" => Call::Open { session },
+        "close" => Call::Close { session },
+        "drop" => Call::Drop { session },
+        "select" => Call::Select {
+            session,
             version: words.number("version")?,
         },
-        "start" => What::Start {
+        "start" => Call::Start {
+            session,
             credential: words.number("credential")?,
             name: words.name()?,
         },
-        "continue" => What::Continue {
+        "continue" => Call::Continue {
+            session,
             credential: words.number("credential")?,
             name: words.name()?,
         },
-        "elevate" => What::Elevate {
+        "elevate" => Call::Elevate {
+            session,
             credential: words.number("credential")?,
             name: words.name()?,
             verdict: words.verdict()?,
         },
-        "end" => What::End {
+        "end" => Call::End {
+            session,
             credential: words.number("credential")?,
             number: words.number16("number")?,
             verdict: words.verdict()?,
             keep: words.flag("keep", "remove")?,
         },
-        "record" => What::Record {
+        "record" => Call::Record {
+            session,
             claim: words.claim()?,
             class: words.number("class")?,
         },
-        "kill" => What::Kill {
+        "list" => Call::List {
+            session,
+            claim: words.claim()?,
+            wanted: words.wanted()?,
+            response: vec![0; words.room()?],
+            length: 0,
+        },
+        "kill" => Call::Kill {
+            session,
             claim: words.claim()?,
             name: words.name()?,
         },
-        "set-word" => What::SetWord {
+        "set-word" => Call::SetWord {
+            session,
             claim: words.claim()?,
             target: words.number("credential")?,
             word: words.number("word")?,
         },
         other => return Err(format!("{} is no call", quoted(other))),
-    };
-    Ok(Call { session, what })
+    })
 }
 
 /// A word of a line; one between quotation marks may have blanks in it.
@@ -325,14 +277,7 @@ impl<'a> Reader<'a> {
 
     fn claim(&mut self) -> Result<RawClaim, String> {
         let kind = match self.plain("claim")? {
-            "elevated" => {
-                return Ok(RawClaim {
-                    kind: 1,
-                    credential: 0,
-                    number: 0,
-                    verdict: 0,
-                })
-            }
+            "elevated" => return Ok(RawClaim::ELEVATED),
             "user" => 0,
             "kind" => self.number("kind")?,
             other => {
@@ -422,15 +367,6 @@ impl<'a> Reader<'a> {
             "names" => Ok(true),
             other => Err(format!("{} is not names", quoted(other))),
         }
-    }
-
-    fn list(&mut self) -> Result<List, String> {
-        Ok(List {
-            session: self.number("session")?,
-            claim: self.claim()?,
-            wanted: self.wanted()?,
-            room: self.room()?,
-        })
     }
 
     fn records(&mut self) -> Result<Records, String> {

@@ -143,6 +143,26 @@ pub struct RawClaim {
     pub verdict: u32,
 }
 
+impl RawClaim {
+    /// An elevated claim; what it ignores is 0.
+    pub const ELEVATED: RawClaim = RawClaim {
+        kind: 1,
+        credential: 0,
+        number: 0,
+        verdict: 0,
+    };
+
+    /// A user's claim with the verdict yes.
+    pub const fn user(credential: u32, number: u16) -> RawClaim {
+        RawClaim {
+            kind: 0,
+            credential,
+            number,
+            verdict: 1,
+        }
+    }
+}
+
 // Each call below hands the archive a slice as its pointer and its length, and a number handed out as a pointer to a place of its own: that is what the
 // entries ask for, and all that they touch.
 

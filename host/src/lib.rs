@@ -55,10 +55,12 @@
 //! | [`Refusal`], [`answered`] | document 01's numbers 1 to 15, and those of later archives |
 //! | [`Listing`], [`read_request`], [`write_request`] | the listing messages, for consoles too |
 //! | [`entries`] | the archive's entries as they are, with numbers and byte slices |
+//! | [`Call`] | a call of an entry as a value |
 
 #![deny(missing_docs)]
 #![deny(unsafe_code)]
 
+mod call;
 #[allow(unsafe_code)]
 pub mod entries;
 mod listing;
@@ -67,6 +69,7 @@ mod numbers;
 mod values;
 mod view;
 
+pub use call::{Bytes, Call};
 pub use listing::{
     read_request, write_request, Listing, Row, Rows, WireCredential, FULL_LISTING_LENGTH,
     REQUEST_LENGTH,

@@ -12,7 +12,7 @@ pub const STATE_LENGTH: usize = 681;
 /// The version byte of version 1.0, the only one that can be selected.
 pub const VERSION_1_0: u8 = 0x10;
 
-/// The module, around the bytes of its state: its own, or lent ones.
+/// The module, around the bytes of its state: its own, or lent ones, or such as are only looked at.
 ///
 /// It always holds a state: it is made fresh, or of bytes that were tested. Each call returns what document 01 says, and a refusal changes nothing.
 ///
@@ -65,6 +65,25 @@ impl Module {
     /// The bytes of its state.
     pub fn into_bytes(self) -> [u8; STATE_LENGTH] {
         self.state
+    }
+}
+
+impl<'a> Module<&'a [u8]> {
+    /// A module to be looked at alone, in a slice that is only read; [`Refusal::Argument`] where the slice holds no state.
+    ///
+    /// ```
+    /// use slavotuk::{Module, Phase, Refusal, Session, STATE_LENGTH};
+    ///
+    /// static FLASH: [u8; STATE_LENGTH] = [0; STATE_LENGTH];
+    /// let module = Module::read_only(&FLASH)?;
+    /// assert_eq!(module.phase(Session::new(0).unwrap()), Phase::Closed);
+    ///
+    /// assert_eq!(Module::read_only(&FLASH[1..]).unwrap_err(), Refusal::Argument);
+    /// # Ok::<(), Refusal>(())
+    /// ```
+    pub fn read_only(state: &'a [u8]) -> Result<Self, Refusal> {
+        answered(entries::holds(state))?;
+        Ok(Module { state })
     }
 }
 
@@ -278,12 +297,7 @@ impl<S: AsMut<[u8]>> Module<S> {
 /// A claim as the entries take it. Of an elevated one only the kind is read.
 fn raw(claim: impl Into<Claim>) -> RawClaim {
     match claim.into() {
-        Claim::Elevated => RawClaim {
-            kind: 1,
-            credential: 0,
-            number: 0,
-            verdict: 0,
-        },
+        Claim::Elevated => RawClaim::ELEVATED,
         Claim::User(user) => RawClaim {
             kind: 0,
             credential: user.credential.into(),

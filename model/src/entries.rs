@@ -1,4 +1,4 @@
-//! The 17 entries as docs/ENTRIES.md has them: numbers and byte slices of any kind in, one of the numbers out.
+//! The entries on a state or a message as docs/ENTRIES.md has them: numbers and byte slices of any kind in, one of the numbers out.
 
 use crate::layout::{self, STATE_LENGTH};
 use crate::messages;
@@ -75,6 +75,11 @@ pub fn fresh(lent: &mut Lent, provisioned: &[u8], words: &[u32]) -> u32 {
         *lent = Lent::State(Module::fresh(pairs));
         Ok(())
     })
+}
+
+/// Whether the slice holds a state.
+pub fn holds(lent: &mut Lent) -> u32 {
+    number_of(|| lent.module().map(|_| ()))
 }
 
 /// Open.

@@ -2,7 +2,7 @@
 //! error of one is not an error of both. The tests run the compiled archive beside it.
 //!
 //! [`module`] has what the module holds and the calls, in the order of the document's sentences; [`messages`] the listing messages; [`layout`] the state's
-//! 681 bytes; [`entries`] the 17 entries as a host calls them.
+//! 681 bytes; [`entries`] the entries as a host calls them.
 #![forbid(unsafe_code)]
 #![warn(missing_docs)]
 
