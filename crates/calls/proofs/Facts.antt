@@ -39,21 +39,21 @@ use Rattle.calls.proofs.Laws.{outcome-done, outcome-refused, answer-num
 -- ---- a number is 0 to 15, so a refusal's is 1 to 15
 
 -- `T (leb n 15)` computes, for each of the numbers
-small-when : (n : ℕ) (b : Bool) → T (leb n 15) → (n when b) ≤ 15
+pub small-when : (n : ℕ) (b : Bool) → T (leb n 15) → (n when b) ≤ 15
 unfolding _when_
 small-when n true h = leb→le n 15 h
 small-when n false h = omega arith
 
-small-unless : (n : ℕ) (b : Bool) → T (leb n 15) → (n unless b) ≤ 15
+pub small-unless : (n : ℕ) (b : Bool) → T (leb n 15) → (n unless b) ≤ 15
 unfolding _unless_
 small-unless n true h = omega arith
 small-unless n false h = leb→le n 15 h
 
-small-then : (n m : ℕ) → n ≤ 15 → m ≤ 15 → (n ▸ m) ≤ 15
+pub small-then : (n m : ℕ) → n ≤ 15 → m ≤ 15 → (n ▸ m) ≤ 15
 unfolding _▸_
 small-then n m h k = split (eqb n 0) (λ e. rw e k) (λ e. rw e h)
 
-ruleset small = (small-when, small-unless, small-then)
+pub ruleset small = (small-when, small-unless, small-then)
 
 small-entered : (st : State) (s : Session) → entered st s ≤ 15
 unfolding entered phaseNumber

@@ -11,13 +11,11 @@ use lib.Seq.{set-out}
 use borrow.Author.Tests.{eqb-false, eq-eqb, ne-eqb, le-leb, lt-leb}
 use mir.Val.{Fits}
 use mir.Syntax.{w16, w64}
-use Rattle.lists.specs.Lists.{firstIndex}
-use Rattle.lists.proofs.Lists.{first-low}
 use Rattle.lists.proofs.Loops.{Mapped, mapped-none, mapped-more, mapped-all}
 use Rattle.names.specs.declared.Credential.{Credential}
 use Rattle.names.specs.declared.Name.{Name}
 use Rattle.names.specs.declared.Session.{Session}
-use Rattle.table.specs.Table.{standing, size, tableOf, processAt, isActive, isNamed, firstPlace, countAmong, appended, replaced, removed, withoutSession}
+use Rattle.table.specs.Table.{standing, size, tableOf, processAt, isActive, isNamed, foundPlace, firstPlace, countAmong, appended, replaced, removed, withoutSession}
 use Rattle.table.specs.declared.Active.{Active}
 use Rattle.table.specs.declared.Active.the-variants.{UserOf, ElevationIn}
 use Rattle.table.specs.declared.Among.{Among}
@@ -27,7 +25,7 @@ use Rattle.table.specs.declared.Found.the-variants.{At, Nothing}
 use Rattle.table.specs.declared.Process.{Process}
 use Rattle.table.specs.declared.Table.{Table}
 use Rattle.table.proofs.Laws.{count-few}
-use Rattle.table.proofs.Searched.{found-at, found-none}
+use Rattle.table.proofs.Searched.{found-at, found-none, found-place}
 use Rattle.claims.specs.Numbers.{_▸_}
 use Rattle.claims.specs.Module.{isCredential, provisioned, granted, closedSession, unprovisioned, hasActive, activePlace, activeProcess}
 use Rattle.claims.specs.Claim.{isSpent, turnNumber, userNumber, claimNumber, admitted, claimant}
@@ -50,10 +48,6 @@ use Rattle.calls.specs.declared.Wanted.the-variants.{Every, Only}
 use Rattle.calls.specs.Listing.{amongOf, rowsOf, messageLength}
 use Rattle.calls.specs.Calls.{Call, Open, Close, Select, Start, Continue, Elevate, Drop, End, Record, List′, Kill, SetWord, saveOwn, listOthers, killOthers, isDevice, isVersion, isWanted, isFull, hasNamed, namedPlace, lacksSaving, isOwn, mayList, isShort, reach, number, withTable, withPhase, withWord, userProcess, elevation, activated, saved, oneMore, counted, ended, effect, refusal, outcome, listed, taken, fresh}
 use Rattle.calls.proofs.Laws.{outcome-done, outcome-refused}
-
--- a search that finds none ends at the count
-past : (f : Process → Bool) (l : List Process) → length l ≤ firstIndex f l → firstIndex f l ≡ length l
-past f l h = omega (arith, first-low f l)
 
 -- ---- a call: refused with its number, or done
 module _ (st : State) (call : Call) {n : ℕ} {r : Outcome} (e : n ≡ number st call) where
@@ -98,13 +92,9 @@ module _ (st : State) (which : Active) {f : Found} (e : f ≡ firstPlace (isActi
   unfolding hasActive
   active-some q = sym (found-at (isActive which) (standing (st .table)) (sym e ∙ q) .some)
 
-  pub active-at : {k : ℕ} → f ≡ At k → k ≡ activePlace st which
-  unfolding activePlace
-  active-at q = found-at (isActive which) (standing (st .table)) (sym e ∙ q) .is
-
-  pub active-past : {n : ℕ} → f ≡ Nothing → n ≡ size (st .table) → n ≡ activePlace st which
+  pub active-placed : {n r : ℕ} → n ≡ size (st .table) → r ≡ foundPlace n f → r ≡ activePlace st which
   unfolding activePlace size
-  active-past q w = w ∙ sym (past (isActive which) (standing (st .table)) (found-none (isActive which) (standing (st .table)) (sym e ∙ q) .past))
+  active-placed w q = q ∙ rw (w, e) (found-place (isActive which) (standing (st .table)))
 
 module _ (st : State) (name : Name) (among : Among) {f : Found} (e : f ≡ firstPlace (isNamed name among) (standing (st .table))) where
   pub named-none : f ≡ Nothing → false ≡ hasNamed st name among
@@ -115,13 +105,9 @@ module _ (st : State) (name : Name) (among : Among) {f : Found} (e : f ≡ first
   unfolding hasNamed
   named-some q = sym (found-at (isNamed name among) (standing (st .table)) (sym e ∙ q) .some)
 
-  pub named-at : {k : ℕ} → f ≡ At k → k ≡ namedPlace st name among
-  unfolding namedPlace
-  named-at q = found-at (isNamed name among) (standing (st .table)) (sym e ∙ q) .is
-
-  pub named-past : {n : ℕ} → f ≡ Nothing → n ≡ size (st .table) → n ≡ namedPlace st name among
+  pub named-placed : {n r : ℕ} → n ≡ size (st .table) → r ≡ foundPlace n f → r ≡ namedPlace st name among
   unfolding namedPlace size
-  named-past q w = w ∙ sym (past (isNamed name among) (standing (st .table)) (found-none (isNamed name among) (standing (st .table)) (sym e ∙ q) .past))
+  named-placed w q = q ∙ rw (w, e) (found-place (isNamed name among) (standing (st .table)))
 
 pub full-is : (st : State) {n : ℕ} → n ≡ size (st .table) → leb 12 n ≡ isFull st
 unfolding isFull
@@ -351,4 +337,4 @@ module _ (st : State) {c d : Credential} {b : Bool} (e : c ≡ d) where
   pub kill-by : (name : Name) {among : Among} → among ≡ reach st c → b ≡ hasNamed st name among → b ≡ hasNamed st name (reach st d)
   kill-by name a q = q ∙ rw (a, e)
 
-pub ruleset rules = (claim-rules, by-refusal, by-effect, clear-begin, clear-second, known-stop, known-pass, phase-outside, word-outside, active-none, active-some, active-at, active-past, named-none, named-some, named-at, named-past, full-is, version-is, device-high, device-low, saving-kept, saving-not, wanted-every, wanted-only, among-every, among-only, own-every, own-only, list-own, list-others, length-fits, length-whole, length-is, short-is, reach-all, reach-own, next-fits, counted-is, counted-elevated, counted-user, admitted-user, ended-kept, ended-removed, taken-whole, taken-zero, mapped-none, take-on, fresh-is, effect-open, effect-select, effect-close, effect-start, effect-elevate, effect-continue, effect-drop, effect-end, effect-kill, effect-set-word, effect-record, list-refused, list-done, granted-by, list-by, kill-by)
+pub ruleset rules = (claim-rules, by-refusal, by-effect, clear-begin, clear-second, known-stop, known-pass, phase-outside, word-outside, active-none, active-some, active-placed, named-none, named-some, named-placed, full-is, version-is, device-high, device-low, saving-kept, saving-not, wanted-every, wanted-only, among-every, among-only, own-every, own-only, list-own, list-others, length-fits, length-whole, length-is, short-is, reach-all, reach-own, next-fits, counted-is, counted-elevated, counted-user, admitted-user, ended-kept, ended-removed, taken-whole, taken-zero, mapped-none, take-on, fresh-is, effect-open, effect-select, effect-close, effect-start, effect-elevate, effect-continue, effect-drop, effect-end, effect-kill, effect-set-word, effect-record, list-refused, list-done, granted-by, list-by, kill-by)

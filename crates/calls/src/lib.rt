@@ -77,10 +77,7 @@ pub fn active_place(st: State, which: Active) -> usize
     ensures { λ r. ⌜ r ≡ activePlace st which ⌝ }
 {
     let t = st.table;
-    match table::find_active(t, which) {
-        Found::At(at) => at,
-        Found::Nothing => table::size(t),
-    }
+    table::found_place(table::find_active(t, which), table::size(t))
 }
 
 fn has_active(st: State, which: Active) -> bool
@@ -97,10 +94,7 @@ pub fn named_place(st: State, name: Name, among: Among) -> usize
     ensures { λ r. ⌜ r ≡ namedPlace st name among ⌝ }
 {
     let t = st.table;
-    match table::find_named(t, name, among) {
-        Found::At(at) => at,
-        Found::Nothing => table::size(t),
-    }
+    table::found_place(table::find_named(t, name, among), table::size(t))
 }
 
 fn has_named(st: State, name: Name, among: Among) -> bool

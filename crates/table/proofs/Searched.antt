@@ -1,14 +1,14 @@
 -- What a search's answer says, and what the tests say: what callers cite.
 -- Assumes nothing.
 use Prim.Native.Nat.{ℕ, _<_, _≤_}
-use mathlib.Core.Path.{_≡_, refl, ap}
+use mathlib.Core.Path.{_≡_, refl, ap, _∙_}
 use mathlib.Core.Bool.{Bool, true, false, _&&_}
 use mathlib.Core.List.{List}
 use native.Mathlib.Omega.{arith}
 use borrow.Author.Tests.{lt-ltb, le-ltb, eqb-true, eq-eqb}
 use lib.ListN.{length, getD}
 use Rattle.lists.specs.Lists.{any, firstIndex}
-use Rattle.lists.proofs.Lists.{first-passes, none-before, any-inside, any-past}
+use Rattle.lists.proofs.Lists.{first-low, first-passes, none-before, any-inside, any-past}
 use Rattle.lists.proofs.Tests.{below, clash, and-left, and-right}
 use Rattle.names.specs.Names.{sameName}
 use Rattle.names.proofs.Laws.{same→name, name→same}
@@ -22,7 +22,7 @@ use Rattle.table.specs.declared.Among.{Among}
 use Rattle.table.specs.declared.Among.the-variants.{Of, SavedOf}
 use Rattle.table.specs.declared.Found.the-variants.{At, Nothing}
 use Rattle.table.specs.declared.Process.{Process}
-use Rattle.table.specs.Table.{isUser, isElevation, isSaved, isIn, isOf, isActive, isAmong, isNamed, firstPlace}
+use Rattle.table.specs.Table.{isUser, isElevation, isSaved, isIn, isOf, isActive, isAmong, isNamed, foundPlace, firstPlace}
 
 -- the place found stands in the list, passes the test, and is the first that does
 pub record FoundAt (f : Process → Bool) (l : List Process) (k : ℕ) : Type 0 where
@@ -70,6 +70,13 @@ module _ (f : Process → Bool) (l : List Process) where
     where
       hit : firstIndex f l < length l → FoundNone f l
       hit h = let z : _≡_ {A = ℕ} 0 1 = cc (first-is h, e) in absurd (omega arith)
+
+  -- the place that the answer says
+  pub found-place : foundPlace (length l) (firstPlace f l) ≡ firstIndex f l
+  found-place =
+      below (firstIndex f l) (length l)
+      (λ h. ap (foundPlace (length l)) (first-is h))
+      (λ h. let q : length l ≡ firstIndex f l = omega (arith, first-low f l) in ap (foundPlace (length l)) (first-past h) ∙ q)
 
 -- ---- what a test that a process passes says of it
 is-user : (k : Kind) → isUser k ≡ true → k ≡ User

@@ -12,6 +12,8 @@ use Rattle.table.proofs.find_named.Kinds as find-named-kinds
 use Rattle.table.proofs.find_named.Reads as find-named
 use Rattle.table.proofs.count_among.Kinds as count-among-kinds
 use Rattle.table.proofs.count_among.Reads as count-among
+use Rattle.table.proofs.found_place.Kinds as found-place-kinds
+use Rattle.table.proofs.found_place.Reads as found-place
 use Rattle.table.proofs.process_at.Kinds as process-at-kinds
 use Rattle.table.proofs.process_at.Reads as process-at
 use Rattle.table.proofs.appended.Kinds as appended-kinds
@@ -36,6 +38,9 @@ find-active-once κs a x y s t p q = p ∙ sym q
 
 pub find-named-once : OneAnswer 0 find-named-kinds.ps find-named-kinds.r find-named.Post
 find-named-once κs a x y s t p q = p ∙ sym q
+
+pub found-place-once : OneAnswer 0 found-place-kinds.ps found-place-kinds.r found-place.Post
+found-place-once κs a x y s t p q = p ∙ sym q
 
 pub process-at-once : OneAnswer 0 process-at-kinds.ps process-at-kinds.r process-at.Post
 process-at-once κs a x y s t p q = p ∙ sym q

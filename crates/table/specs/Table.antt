@@ -88,7 +88,12 @@ isNamed name among p = isAmong among p && sameName (p .name) name
 
 -- ---- "The search through the table yields the first matching place as soon as it meets one."
 
--- a place before n is one that was found; n, the count, says that none was
+-- "the place found, or the count where none is": what each case of a search's answer says, where n stand
+abbrev pub foundPlace : ℕ → Found → ℕ
+foundPlace n (At at) = at
+foundPlace n Nothing = n
+
+-- and back: a place before n is one that was found; n, the count, says that none was
 abbrev pub found : ℕ → ℕ → Found
 found at n = cond (ltb at n) (At at) Nothing
 

@@ -1,7 +1,7 @@
 // A table of at most 12 processes, in the order of their starts. It goes in by value and comes back by value.
 ghost use mathlib.Core.Path.{_≡_};
 ghost use mathlib.Core.List.{[]};
-ghost use Rattle.table.specs.Table.{standing, size, tableOf, freePlace, isActive, isActiveIn, isAmong, isNamed, findActive, findNamed, countAmong, processAt, appended, replaced, removed, withoutSession};
+ghost use Rattle.table.specs.Table.{standing, size, tableOf, freePlace, isActive, isActiveIn, isAmong, isNamed, foundPlace, findActive, findNamed, countAmong, processAt, appended, replaced, removed, withoutSession};
 use names::Credential;
 use names::Kind;
 use names::Name;
@@ -167,6 +167,16 @@ pub fn find_named(t: Table, name: Name, among: Among) -> Found
         Found::At(at)
     } else {
         Found::Nothing
+    }
+}
+
+// The place that a search found, or the count where it found none.
+pub fn found_place(found: Found, count: usize) -> usize
+    ensures { λ r. ⌜ r ≡ foundPlace count found ⌝ }
+{
+    match found {
+        Found::At(at) => at,
+        Found::Nothing => count,
     }
 }
 
