@@ -5,30 +5,22 @@ use mathlib.Core.Path.{_≡_, refl}
 use mathlib.Core.Bool.{true, false}
 use mathlib.Core.List.{List, [], _∷_, _++_, map}
 use lib.ListN.{replicate}
-use Rattle.lists.specs.Lists.{any, firstIndex, reject, select, removeAt, padded}
-use Rattle.names.specs.Names.{sameBytes, sameName}
-use Rattle.names.specs.declared.Credential.{Credential}
 use Rattle.names.specs.declared.Name.{Name}
-use Rattle.names.specs.declared.Session.{Session}
-use Rattle.table.specs.Table.{standing, size, tableOf, processAt, isActive, isActiveIn, isAmong, isNamed, appended, replaced, removed, withoutSession}
-use Rattle.claims.specs.Numbers.{_when_, _unless_, _▸_}
-use Rattle.claims.specs.Module.{isHandle, phaseOf, isClosed, isChosen, isCredential, provisioned, wordOf, wordGrants, granted, hasActive, activePlace, activeProcess}
-use Rattle.claims.specs.Claim.{phaseNumber, entered, isClaim, elevatedNumber, isSpent, turnNumber, userNumber, claimNumber, admitted, elevatedCredential, claimant}
-use Rattle.claims.specs.declared.Claim.the-variants.{Elevated, ByUser}
+use Rattle.table.specs.Table.{standing}
+use Rattle.claims.specs.declared.Claim.the-variants.{Elevated}
 use Rattle.claims.specs.declared.Grants.{Grants}
-use Rattle.claims.specs.declared.UserClaim.{UserClaim}
-use Rattle.calls.specs.Listing.{rowsOf, messageLength}
-use Rattle.calls.specs.Calls.{Call, Open, Close, Select, Start, Continue, Elevate, Drop, End, Record, Kill, isDevice, isVersion, isFull, hasNamed, namedPlace, lacksSaving, mayList, reach, number, counted, ended, effect, refusal, outcome, taken, fresh}
-use Rattle.calls.specs.Run.{step, run}
+use Rattle.calls.specs.Calls.{Call, Open, Close, Select, Start, Continue, Elevate, Drop, End, Record, Kill, fresh}
+use Rattle.calls.specs.Run.{run}
+use Rattle.calls.proofs.Sequences.{name, session, credential, class, userYes, yes′, computed}
 use Rattle.history.specs.History.{Event, history}
-use Rattle.history.specs.Lives.{Life, Gone, Live, Raised, Kept, counts, ends, shuts, drops, resumes, after, onward, follow, told}
+use Rattle.history.specs.Lives.{Life, Gone, Live, Raised, Kept, counts, ends, shuts, drops, resumes, after, onward, follow, told, nobody}
 
 -- two names that differ in their last byte
 abbrev P : Name
-P = record { bytes = replicate 47 0 ++ (0x11 ∷ []) }
+P = name 0x11
 
 abbrev Q : Name
-Q = record { bytes = replicate 47 0 ++ (0x12 ∷ []) }
+Q = name 0x12
 
 -- credential 0 has the classes 0 to 4, credential 1 the classes 0 to 1, and the others are unprovisioned
 abbrev grants : List Grants
@@ -37,17 +29,8 @@ grants =
     ∷ record { provisioned = true; word = 3 }
     ∷ replicate 6 (record { provisioned = false; word = 0 })
 
-abbrev session : ℕ → Session
-session n = record { 0 = n }
-
-abbrev credential : ℕ → Credential
-credential n = record { 0 = n }
-
-abbrev by : ℕ → ℕ → UserClaim
-by c n = record { credential = credential c; number = n; verdict = true }
-
 abbrev recorded : ℕ → ℕ → ℕ → Call
-recorded s c n = Record (session s) (ByUser (by c n)) (record { 0 = 4 })
+recorded s c n = Record (session s) (yes′ c n) (class 4)
 
 -- a start and two records, the second sent twice
 abbrev started : List Call
@@ -62,7 +45,7 @@ started =
 
 -- a save, which counts; the session closed; a continue in another session, and a record
 abbrev saved : List Call
-saved = started ++ (End (session 0) (by 0 2) true ∷ Close (session 0) ∷ [])
+saved = started ++ (End (session 0) (userYes 0 2) true ∷ Close (session 0) ∷ [])
 
 abbrev continued : List Call
 continued =
@@ -73,7 +56,7 @@ continued =
 abbrev killed : List Call
 killed =
     continued
-    ++ (Start (session 1) (credential 1) Q ∷ Kill (session 1) (ByUser (by 1 0)) P ∷ Kill (session 1) (ByUser (by 1 1)) P ∷ [])
+    ++ (Start (session 1) (credential 1) Q ∷ Kill (session 1) (yes′ 1 0) P ∷ Kill (session 1) (yes′ 1 1) P ∷ [])
 
 -- the same name given again; an elevation, under which nothing is counted; its drop
 abbrev again : List Call
@@ -82,12 +65,12 @@ again = killed ++ (Start (session 1) (credential 0) P ∷ recorded 1 0 0 ∷ [])
 abbrev raised : List Call
 raised =
     killed
-    ++ (Elevate (session 1) (credential 0) P true ∷ Record (session 1) Elevated (record { 0 = 4 }) ∷ [])
+    ++ (Elevate (session 1) (credential 0) P true ∷ Record (session 1) Elevated (class 4) ∷ [])
 
 -- what the history of some calls tells of both names
 pub record Told (calls : List Call) (p q : Life) : Type 0 where
-  pub of-P : told (history (fresh grants) calls) P ≡ p
-  pub of-Q : told (history (fresh grants) calls) Q ≡ q
+  pub of-P : told nobody (history (fresh grants) calls) P ≡ p
+  pub of-Q : told nobody (history (fresh grants) calls) Q ≡ q
 
 pub record Examples : Type 0 where
   pub numbers-are : map (λ (e : Event). e .answered) (history (fresh grants) killed) ≡ 0 ∷ 0 ∷ 0 ∷ 0 ∷ 0 ∷ 9 ∷ 0 ∷ 0 ∷ 0 ∷ 0 ∷ 0 ∷ 0 ∷ 0 ∷ 0 ∷ 6 ∷ []
@@ -102,7 +85,7 @@ pub record Examples : Type 0 where
   pub next-is : map (λ p. p .next) (standing (run (fresh grants) continued .table)) ≡ 4 ∷ []
 
 pub examples : Examples
-unfolding any firstIndex reject select removeAt padded sameBytes sameName standing size tableOf processAt isActive isActiveIn isAmong isNamed appended replaced removed withoutSession _when_ _unless_ _▸_ isHandle phaseOf isClosed isChosen isCredential provisioned wordOf wordGrants granted hasActive activePlace activeProcess phaseNumber entered isClaim elevatedNumber isSpent turnNumber userNumber claimNumber admitted elevatedCredential claimant rowsOf messageLength isDevice isVersion isFull hasNamed namedPlace lacksSaving mayList reach number counted ended effect refusal outcome taken fresh step run history counts ends shuts drops resumes after onward follow
+unfolding computed history counts ends shuts drops resumes after onward follow
 examples =
     record {
       numbers-are = refl;

@@ -25,8 +25,8 @@ use Rattle.claims.specs.declared.UserClaim.{UserClaim}
 use Rattle.claims.proofs.Laws.{clear-first, clear-rest, clear-when, clear-unless}
 use Rattle.calls.specs.Calls.{Call, Open, Close, Drop, Select, Start, Continue, Elevate, End, Record, List′, Kill, SetWord, isFull, hasNamed, namedPlace, reach, number}
 use Rattle.lists.specs.Each.{Each}
-use Rattle.history.specs.Demand.{processes}
-use Rattle.history.proofs.Rows.{Stands, found, each-fails}
+use Rattle.lists.proofs.Each.{Stands, found, each-fails}
+use Rattle.facts.specs.Facts.{processes}
 
 closed-not : (phase : Phase) → isClosed phase ≡ true → isChosen phase ≡ false
 unfolding isClosed isChosen

@@ -30,17 +30,18 @@ use Rattle.claims.specs.declared.Claim.{Claim}
 use Rattle.claims.specs.declared.Claim.the-variants.{Elevated, ByUser}
 use Rattle.claims.specs.declared.State.{State}
 use Rattle.claims.specs.declared.UserClaim.{UserClaim}
-use Rattle.calls.specs.Calls.{Call, Open, Close, Drop, Select, Start, Continue, Elevate, End, Record, List′, Kill, SetWord, number, withTable, userProcess, elevation, activated, saved, oneMore, namedPlace, reach, counted, ended, effect, refusal, answerNumber, outcome}
+use Rattle.calls.specs.Calls.{Call, Open, Close, Drop, Select, Start, Continue, Elevate, End, Record, List′, Kill, SetWord, number, withTable, userProcess, elevation, activated, saved, oneMore, namedPlace, reach, counted, ended, effect, answerNumber, outcome}
 use Rattle.calls.specs.Run.{step, run}
+use Rattle.calls.proofs.Laws.{answer-number}
 use Rattle.lists.specs.Each.{Each}
 use Rattle.history.specs.History.{Event, history}
 use Rattle.history.specs.Lives.{Life, Gone, Live, Kept, counts, ends, shuts, drops, resumes, after, onward, follow, down}
-use Rattle.history.specs.Demand.{processes, Distinct, life, lifeOf}
-use Rattle.history.proofs.Rows.{Stands, each-imp, each-all, pairs-imp}
+use Rattle.history.specs.Demand.{life, lifeOf}
+use Rattle.facts.specs.Facts.{processes, Rules}
+use Rattle.lists.proofs.Each.{Stands, each-imp, each-all, pairs-imp}
 use Rattle.history.proofs.Facts.{Added, Continued, ActiveStands, Admitted, Facts, facts}
-use Rattle.history.proofs.Invariant.{Inv}
-use Rattle.history.proofs.Kept.{active-more, named-more, unnamed, rest-apart, kept-counted, stands-counted, step-accepted, step-refused, kept-step}
-use Rattle.history.proofs.Looked.{look, Fixed, is-name, other-name, look-set, look-remove, look-reject, look-append}
+use Rattle.history.proofs.Keeping.{active-more, named-more, unnamed, rest-apart, kept-counted, stands-counted, step-accepted, step-refused, rules-step}
+use Rattle.history.proofs.Looked.{Distinct, look, Fixed, is-name, other-name, look-set, look-remove, look-reject, look-append}
 
 -- ---- what an automaton's step does to a process's life, at the process that is meant and at another
 module _ (s : Session) (u : UserClaim) (t : Session) (d : Credential) (i : ℕ) where
@@ -86,18 +87,18 @@ module _ (s : Session) (t : Session) (d : Credential) (i : ℕ) where
   unfolding resumes
   resumes-saved k e = rw e
 
-module _ (n : Name) (first st : State) (v : Inv first st) where
+module _ (n : Name) (st : State) (v : Rules st) where
   abbrev Follows : Call → Type 0
   Follows call = look n (processes (effect st call)) ≡ after n call (look n (processes st))
 
   -- ---- the others: of other names, and none the active process that is meant
   module _ (i : ℕ) (h : i < length (processes st)) where
     rest-distinct : Each (λ x. Distinct x (getD (processes st) i freePlace)) (removeAt i (processes st))
-    rest-distinct = each-imp (λ x a. a .names) (rest-apart first st v i h)
+    rest-distinct = each-imp (λ x a. a .names) (rest-apart st v i h)
 
     rest-free : (which : Active) → isActive which (getD (processes st) i freePlace) ≡ true → Each (λ x. isActive which x ≡ false) (removeAt i (processes st))
     rest-free which e =
-        each-imp (λ x a. split (isActive which x) (λ k. absurd (a .alone which k e)) (λ k. k)) (rest-apart first st v i h)
+        each-imp (λ x a. split (isActive which x) (λ k. absurd (a .alone which k e)) (λ k. k)) (rest-apart st v i h)
 
   -- ---- a new process
   follows-added : (which : Active) (s : Session) (c : Credential) (y : Process) → Added st which s c (y .name) → look n (processes (withTable st (appended (st .table) y))) ≡ cond (sameName (y .name) n) (lifeOf y) (look n (processes st))
@@ -112,7 +113,7 @@ module _ (n : Name) (first st : State) (v : Inv first st) where
   follows-close s =
       rw (standing-without-session (st .table) s)
       (look-reject n (shuts s) refl (isActiveIn s) (processes st)
-      (pairs-imp (λ p q a. a .names) (v .sound .pairs))
+      (pairs-imp (λ p q a. a .names) (v .pairs))
       (each-all (processes st) (λ p. shuts-is s (p .session) (p .credential) (p .next) (p .kind))))
 
   -- ---- a process replaced, and removed
@@ -215,70 +216,47 @@ module _ (n : Name) (first st : State) (v : Inv first st) where
       (each-imp (λ p d q. rw (other-name n p name (rw m at d) q)) (rest-distinct i (f .inside)))
 
 -- ---- a call, with what is known of it where it is accepted
-module _ (n : Name) (first st : State) (v : Inv first st) where
-  follows : (call : Call) → Facts st call → Follows n first st v call
+module _ (n : Name) (st : State) (v : Rules st) where
+  follows : (call : Call) → Facts st call → Follows n st v call
   unfolding effect after
   follows (Open s) f = refl
-  follows (Close s) f = follows-close n first st v s
+  follows (Close s) f = follows-close n st v s
   follows (Select s byte) f = refl
-  follows (Start s c name) f = follows-added n first st v (UserOf s c) s c (userProcess s c name) f
-  follows (Continue s c name) f = follows-continue n first st v s c name f
-  follows (Elevate s c name verdict) f = follows-added n first st v (ElevationIn s) s c (elevation s c name) f
-  follows (Drop s) f = follows-drop n first st v s f
+  follows (Start s c name) f = follows-added n st v (UserOf s c) s c (userProcess s c name) f
+  follows (Continue s c name) f = follows-continue n st v s c name f
+  follows (Elevate s c name verdict) f = follows-added n st v (ElevationIn s) s c (elevation s c name) f
+  follows (Drop s) f = follows-drop n st v s f
   follows (End s u keep) f =
       let which : Active = UserOf s (u .credential) in
-      follows-ended n first (counted st s (ByUser u)) (kept-counted first st v s (ByUser u) f) s (u .credential) (activePlace st which)
+      follows-ended n (counted st s (ByUser u)) (kept-counted st v s (ByUser u) f) s (u .credential) (activePlace st which)
       (stands-counted st s (ByUser u) f (isActive which) (active-more which) (activePlace st which) (f .stands))
       keep
-      ∙ ap (ends s (u .credential) keep) (follows-counted n first st v s (ByUser u) f)
-  follows (Record s claim class) f = follows-counted n first st v s claim f
-  follows (List′ s claim wanted room) f = follows-counted n first st v s claim f
+      ∙ ap (ends s (u .credential) keep) (follows-counted n st v s (ByUser u) f)
+  follows (Record s claim class) f = follows-counted n st v s claim f
+  follows (List′ s claim wanted room) f = follows-counted n st v s claim f
   follows (Kill s claim name) f =
       let among : Among = reach st (claimant st s claim) in
-      follows-killed n first (counted st s claim) (kept-counted first st v s claim (f .admission)) name among (namedPlace st name among)
+      follows-killed n (counted st s claim) (kept-counted st v s claim (f .admission)) name among (namedPlace st name among)
       (stands-counted st s claim (f .admission) (isNamed name among) (named-more name among) (namedPlace st name among) (f .stands))
-      ∙ ap (λ o. cond (sameName name n) Gone o) (follows-counted n first st v s claim (f .admission))
-  follows (SetWord s claim c word) f = follows-counted n first st v s claim (f .admission)
-
--- ---- the number that a call is answered
-refusal-is : (call : Call) (m : ℕ) → answerNumber (refusal call m) ≡ m
-unfolding refusal
-refusal-is (Open s) m = refl
-refusal-is (Close s) m = refl
-refusal-is (Select s byte) m = refl
-refusal-is (Start s c name) m = refl
-refusal-is (Continue s c name) m = refl
-refusal-is (Elevate s c name verdict) m = refl
-refusal-is (Drop s) m = refl
-refusal-is (End s u keep) m = refl
-refusal-is (Record s claim class) m = refl
-refusal-is (List′ s claim wanted room) m = refl
-refusal-is (Kill s claim name) m = refl
-refusal-is (SetWord s claim c word) m = refl
-
-pub answered-is : (st : State) (call : Call) → answerNumber (outcome st call .answer) ≡ number st call
-unfolding outcome
-answered-is st call =
-    split (eqb (number st call) 0)
-    (λ e. rw e (sym (eqb-true (number st call) 0 e)))
-    (λ e. rw e (refusal-is call (number st call)))
+      ∙ ap (λ o. cond (sameName name n) Gone o) (follows-counted n st v s claim (f .admission))
+  follows (SetWord s claim c word) f = follows-counted n st v s claim (f .admission)
 
 -- ---- a call, refused or not
 abbrev pub event : State → Call → Event
 event st call = record { call = call; answered = answerNumber (outcome st call .answer) }
 
-follows-step : (n : Name) (first st : State) (v : Inv first st) (call : Call) → onward n (event st call) (look n (processes st)) ≡ look n (processes (step st call))
+pub follows-step : (n : Name) (st : State) (v : Rules st) (call : Call) → onward n (event st call) (look n (processes st)) ≡ look n (processes (step st call))
 unfolding onward
-follows-step n first st v call =
+follows-step n st v call =
     split (eqb (number st call) 0)
     (λ e.
     let z = eqb-true (number st call) 0 e in
-    rw (answered-is st call, e, step-accepted st call z) (sym (follows n first st v call (facts st call z))))
-    (λ e. rw (answered-is st call, e, step-refused st call (eqb-false (number st call) 0 e)))
+    rw (answer-number st call, e, step-accepted st call z) (sym (follows n st v call (facts st call z))))
+    (λ e. rw (answer-number st call, e, step-refused st call (eqb-false (number st call) 0 e)))
 
--- any calls, from any state of which the invariant holds
-pub followed : (n : Name) (first st : State) (calls : List Call) → Inv first st → follow n (history st calls) (look n (processes st)) ≡ look n (processes (run st calls))
+-- any calls, from any state that keeps the rules
+pub followed : (n : Name) (st : State) (calls : List Call) → Rules st → follow n (history st calls) (look n (processes st)) ≡ look n (processes (run st calls))
 unfolding follow history run
-followed n first st [] v = refl
-followed n first st (call ∷ calls) v =
-    ap (follow n (history (step st call) calls)) (follows-step n first st v call) ∙ followed n first (step st call) calls (kept-step first st call v)
+followed n st [] v = refl
+followed n st (call ∷ calls) v =
+    ap (follow n (history (step st call) calls)) (follows-step n st v call) ∙ followed n (step st call) calls (rules-step st call v)

@@ -1,8 +1,11 @@
-pub mod Rows
 pub mod Facts
-pub mod Invariant
-pub mod Kept
+pub mod Tables
+pub mod Keeping
+pub mod Form
 pub mod Looked
 pub mod Followed
+pub mod Told
+pub mod Once
 pub mod Theorems
 pub mod Examples
+pub mod Wrong

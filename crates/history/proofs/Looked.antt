@@ -2,6 +2,7 @@
 -- Assumes nothing.
 use Prim.Native.Nat.{ℕ, zero, suc, _<_}
 use mathlib.Core.Path.{_≡_, refl, sym, _∙_}
+use mathlib.Core.Logic.{_≢_}
 use mathlib.Core.Bool.{Bool, true, false, cond}
 use mathlib.Core.List.{List, [], _∷_, _++_}
 use native.Mathlib.Nat.{not-suc-le-zero, le-of-suc-le-suc}
@@ -14,8 +15,12 @@ use Rattle.names.proofs.Laws.{same-iff, differ-iff}
 use Rattle.table.specs.declared.Process.{Process}
 use Rattle.lists.specs.Each.{Each, each-nil, each-cons, Pairs, pairs-cons}
 use Rattle.history.specs.Lives.{Life, Gone}
-use Rattle.history.specs.Demand.{Distinct, lifeOf}
-use Rattle.history.proofs.Rows.{each-imp, each-reject}
+use Rattle.history.specs.Demand.{lifeOf}
+use Rattle.lists.proofs.Each.{each-imp, each-reject}
+
+-- two processes' names are not equal in all 48 bytes
+abbrev pub Distinct : Process → Process → Type 0
+Distinct p q = p .name .bytes ≢ q .name .bytes
 
 abbrev pub look : Name → List Process → Life
 look n [] = Gone

@@ -1,3 +1,4 @@
 pub mod History
 pub mod Lives
 pub mod Demand
+pub mod Fits

@@ -103,9 +103,13 @@ unfoldable pub follow : Name → List Event → Life → Life
 follow name [] life = life
 follow name (e ∷ events) life = follow name events (onward name e life)
 
+-- what is told of each name after events, where `tell` was told of it before them
+abbrev pub told : (Name → Life) → List Event → Name → Life
+told tell events name = follow name events (tell name)
+
 -- a fresh module has no process
-abbrev pub told : List Event → Name → Life
-told events name = follow name events Gone
+abbrev pub nobody : Name → Life
+nobody name = Gone
 
 -- n - 1, .., 1, 0: what was accepted where every number came in its turn and n is the next
 abbrev pub down : ℕ → List ℕ

@@ -24,7 +24,7 @@ use Rattle.claims.specs.declared.Grants.{Grants}
 use Rattle.claims.specs.declared.Phase.{Phase}
 use Rattle.claims.specs.declared.Phase.the-variants.{Closed, Opened, Chosen}
 use Rattle.layout.specs.Layout.{byteOf, phaseNumber, phaseNumbered, sessionBytes, sessionOf, sessionFits, flagNumber, grantsBytes, grantsOf, grantsFit, processBytes, processOf, keptZero, processFits}
-use Rattle.layout.specs.Facts.{WideGrants, WideProcess, FormedGrants, FormedProcess}
+use Rattle.facts.specs.Facts.{WideGrants, WideProcess, FormedGrants, FormedProcess}
 
 -- ---- a number in one byte
 pub byte-small : (n : ℕ) → n < 256 → byteOf n ≡ n

@@ -1,7 +1,7 @@
 -- A field changed where it lies: the state with that field changed has the bytes with those bytes changed, and no others.
 -- Assumes nothing.
-use Prim.Native.Nat.{ℕ, suc, _+_, _-_, _*_, _<_, _≤_}
-use mathlib.Core.Path.{_≡_, refl, sym, ap, _∙_}
+use Prim.Native.Nat.{ℕ, suc, _+_, _-_, _*_, _<_}
+use mathlib.Core.Path.{_≡_, sym, ap, _∙_}
 use mathlib.Core.Bool.{true}
 use mathlib.Core.List.{List, [], _∷_, _++_, map, append-assoc}
 use native.Mathlib.Omega.{arith}
@@ -12,18 +12,17 @@ use Rattle.lists.specs.Lists.{join, padded}
 use Rattle.lists.specs.Bytes.{bytesOf, Bytes}
 use Rattle.lists.proofs.Bytes.{length-bytes}
 use Rattle.codec.specs.Codec.{over}
-use Rattle.lists.specs.Each.{Each}
 use Rattle.codec.proofs.Codec.{each-take, array-long, join-at, join-set}
 use Rattle.codec.proofs.Loops.{over-middle}
 use Rattle.table.specs.Table.{standing, tableOf, freePlace, processAt, replaced}
 use Rattle.table.specs.declared.Process.{Process}
-use Rattle.table.specs.declared.Table.{Table}
 use Rattle.claims.specs.declared.State.{State}
 use Rattle.layout.specs.Layout.{stateLength, byteOf, sessionBytes, grantsBytes, processBytes, stateBytes, stateOf, numbered, withNext, nextWritten, holdsState}
-use Rattle.layout.specs.Facts.{Wide, Formed}
+use Rattle.facts.specs.Facts.{Wide, Formed}
+use Rattle.facts.proofs.Laws.{formed-few}
 use Rattle.names.specs.Names.{typeNumber}
 use Rattle.layout.proofs.Fields.{process-codec}
-use Rattle.layout.proofs.Laws.{formed-wide, sessions-long, credentials-long, bytes-long, one-form, holds-formed, places-are, count-is}
+use Rattle.layout.proofs.Laws.{formed-wide, sessions-long, credentials-long, bytes-long, one-form, holds-is, places-are, count-is}
 
 -- the bytes of a state from its parts, with a next number n in one place
 glue : (s g x y : List ℕ) (c : ℕ) (p : Process) (n : ℕ)
@@ -57,7 +56,7 @@ module _ {st : State} (f : Formed st) (at : ℕ) (h : at < length (standing (st 
       let w : Wide st = formed-wide f in
       let l : List Process = st .table .places in
       let p : Process = getD l at freePlace in
-      let room : at < 12 = omega (arith, f .few) in
+      let room : at < 12 = omega (arith, formed-few f) in
       let inside : at < length l = omega (arith, w .places) in
       let s : List ℕ = join (map sessionBytes (st .sessions)) in
       let g : List ℕ = join (map grantsBytes (st .credentials)) in
@@ -79,4 +78,4 @@ module _ {st : State} (f : Formed st) (at : ℕ) (h : at < length (standing (st 
 
 -- so in a slice that holds a state
 pub next-held : (b : List ℕ) (at n : ℕ) → Bytes b → holdsState b ≡ true → at < length (standing (stateOf b .table)) → nextWritten b at n ≡ stateBytes (withNext (stateOf b) at n)
-next-held b at n g e h = ap (λ (x : List ℕ). nextWritten x at n) (sym (one-form b e g)) ∙ next-in-place (holds-formed b e g) at h n
+next-held b at n g e h = ap (λ (x : List ℕ). nextWritten x at n) (sym (one-form b e g)) ∙ next-in-place (holds-is b e g .formed) at h n

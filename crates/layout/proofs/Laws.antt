@@ -2,29 +2,28 @@
 -- back from its bytes; and bytes that were written hold a state exactly where the state is of the right form and keeps demand 3's rules.
 -- Assumes nothing.
 use Prim.Native.Nat.{ℕ, _+_, _-_, _*_, _<_, _≤_}
-use mathlib.Core.Path.{_≡_, refl, sym, ap, subst, _∙_}
+use mathlib.Core.Path.{_≡_, sym, ap, subst, _∙_}
 use mathlib.Core.Logic.{_↔_}
 use mathlib.Core.Bool.{true}
 use mathlib.Core.List.{List, [], _∷_, _++_, map, append-nil}
 use native.Mathlib.Omega.{arith}
 use lib.Dec.{eqb, leb}
-use lib.ListN.{length, take, drop, getD, replicate, length-append, length-replicate, length-map, length-drop, take-append-drop}
+use lib.ListN.{length, take, drop, getD, replicate, length-append, length-map, length-drop, take-append-drop}
 use lib.Seq.{take-all, drop-at, getD-drop, drop-drop, drop-cons, length-take-le}
 use borrow.Author.Tests.{eqb-true, leb-true, eq-eqb, ne-eqb, le-leb}
 use Rattle.lists.specs.Lists.{join, padded}
 use Rattle.lists.specs.Bytes.{Bytes}
 use Rattle.lists.proofs.Tests.{and-left, and-right, and-both}
 use Rattle.codec.specs.Codec.{rows, every, isZero}
-use Rattle.lists.specs.Each.{Each, each-nil, pairs-nil}
+use Rattle.lists.specs.Each.{Each}
 use Rattle.codec.proofs.Codec.{rows-length, rows-take, rows-drop, join-append, every-split, every-take, each-every, each-append, each-take, each-replicate, each-all, map-append, map-drop, map-take, map-replicate, zeros-are, join-zeros, rows-zeros, bytes-drop, array-wide, array-long, array-back, array-fits, array-only, array-forth, array-good}
 use Rattle.table.specs.Table.{standing, tableOf, freePlace}
 use Rattle.table.specs.declared.Process.{Process}
 use Rattle.table.specs.declared.Table.{Table}
-use Rattle.claims.specs.declared.Grants.{Grants}
-use Rattle.claims.specs.declared.SessionState.{SessionState}
 use Rattle.claims.specs.declared.State.{State}
 use Rattle.layout.specs.Layout.{stateLength, byteOf, sessionBytes, sessionOf, sessionFits, grantsBytes, grantsOf, grantsFit, processBytes, processOf, processFits, countIn, placesIn, stateBytes, stateIn, nothingHeld, stateOf, stateWritten, shaped, sound, holdsState}
-use Rattle.layout.specs.Facts.{Wide, FormedGrants, FormedProcess, Formed, Sound}
+use Rattle.facts.specs.Facts.{FormedGrants, FormedProcess, Formed, IsState, Wide}
+use Rattle.facts.proofs.Laws.{formed-few}
 use Rattle.layout.proofs.Fields.{byte-small, byte-only, session-codec, grants-codec, process-codec, free-row, free-of, free-formed}
 use Rattle.layout.proofs.Sound.{sound-exactly}
 
@@ -164,8 +163,8 @@ module _ {b : List ℕ} (v : Shape b) where
         rw (state-in b (v .long)) (record {
           sessions = length-map (rows 4 1 b) sessionOf ∙ rows-length 4 1 b;
           credentials = length-map (rows 8 5 (drop 4 b)) grantsOf ∙ rows-length 8 5 (drop 4 b);
+          places = places-length;
           words = array-good grants-codec 8 (drop 4 b) (simp length-drop (omega (arith, v .long))) (bytes-drop 4 b g) (v .credentials);
-          few = rw stand (v .room);
           tidy = shape-tidy;
           each =
               rw (map-take processOf (countIn b) (rows 12 53 (drop 45 b)), rows-take (countIn b) 12 53 (drop 45 b) (v .room))
@@ -251,8 +250,8 @@ module _ {st : State} (w : Wide st) where
       record {
         sessions = w .sessions;
         credentials = w .credentials;
+        places = w .places;
         words = r .words;
-        few = rw (length-take-le (st .table .count) (st .table .places) (omega (arith, r .room, w .places))) (r .room);
         tidy = subst (λ (x : State). x .table ≡ tableOf (standing (x .table))) back (shape-tidy v);
         each = each-take (st .table .count) (r .all);
       }
@@ -275,13 +274,13 @@ module _ {st : State} (f : Formed st) where
       record {
         sessions = f .sessions;
         credentials = f .credentials;
-        places = ap length places-are ∙ simp (length-append, length-replicate) (omega (arith, f .few));
+        places = f .places;
         words = array-wide grants-codec (f .words);
         each = array-wide process-codec all-formed;
       }
 
   formed-ranged : Ranged formed-wide
-  formed-ranged = record { words = f .words; room = rw count-is (f .few); all = all-formed }
+  formed-ranged = record { words = f .words; room = rw count-is (formed-few f); all = all-formed }
 
   -- what was written is read
   pub state-back : stateOf (stateBytes st) ≡ st
@@ -311,7 +310,7 @@ module _ {st : State} (f : Formed st) where
         long = bytes-long w;
         sessions = rw (w .sessions) at (array-fits session-codec (credentialPart st ++ (byteOf (st .table .count) ∷ placePart st)) (all-sessions w));
         credentials = rw (credentials-at w) (rw (w .credentials) at (array-fits grants-codec (byteOf (st .table .count) ∷ placePart st) (f .words)));
-        room = rw (formed-count, count-is) (f .few);
+        room = rw (formed-count, count-is) (formed-few f);
         standing =
             rw (formed-count, ← rows-take (st .table .count) 12 53 (drop 45 (stateBytes st)) (formed-ranged .room))
             (every-take processFits (st .table .count) (rows 12 53 (drop 45 (stateBytes st))) p);
@@ -325,54 +324,43 @@ module _ (b : List ℕ) (e : holdsState b ≡ true) where
   unfolding holdsState
   holds-shape = shape b (and-left (shaped b) (sound (stateOf b)) e)
 
-  pub holds-sound : Sound (stateOf b)
-  unfolding holdsState
-  holds-sound = sound-exactly (stateOf b) .0 (and-right (shaped b) (sound (stateOf b)) e)
-
   module _ (h : Bytes b) where
     -- what is read writes to the bytes that were read: each state has one form
     pub one-form : stateBytes (stateOf b) ≡ b
     one-form = shape-forth holds-shape h
 
-    pub holds-formed : Formed (stateOf b)
-    holds-formed = shape-formed holds-shape h
+    -- what is read is a state
+    pub holds-is : IsState (stateOf b)
+    unfolding holdsState
+    holds-is =
+        let f : Formed (stateOf b) = shape-formed holds-shape h in
+        record { rules = sound-exactly (stateOf b) (formed-few f) .0 (and-right (shaped b) (sound (stateOf b)) e); formed = f }
 
 -- so two slices that hold one state are equal
 pub form-once : (a b : List ℕ) → Bytes a → Bytes b → holdsState a ≡ true → holdsState b ≡ true → stateOf a ≡ stateOf b → a ≡ b
 form-once a b g h p q e = sym (one-form a p g) ∙ ap stateBytes e ∙ one-form b q h
 
--- whatever is of the right form and keeps demand 3's rules is a state where it is written
-pub holds-written : {st : State} → Formed st → Sound st → holdsState (stateBytes st) ≡ true
+-- whatever is a state is one where it is written
+pub holds-written : {st : State} → IsState st → holdsState (stateBytes st) ≡ true
 unfolding holdsState
-holds-written {st} f s = and-both (shape-test (stateBytes st) (formed-shape f)) (rw (state-back f) (sound-exactly st .1 s))
+holds-written {st} v = and-both (shape-test (stateBytes st) (formed-shape (v .formed))) (rw (state-back (v .formed)) (sound-exactly st (v .rules .few) .1 (v .rules)))
 
 -- and nothing else is
-pub holds-exactly : {st : State} → Wide st → (holdsState (stateBytes st) ≡ true) ↔ (Formed st × Sound st)
-holds-exactly {st} w = (tells, λ v. holds-written (v .0) (v .1))
+pub holds-exactly : {st : State} → Wide st → (holdsState (stateBytes st) ≡ true) ↔ IsState st
+unfolding holdsState
+holds-exactly {st} w = (tells, holds-written)
   where
-    tells : holdsState (stateBytes st) ≡ true → Formed st × Sound st
+    tells : holdsState (stateBytes st) ≡ true → IsState st
     tells e =
         let v : Shape (stateBytes st) = holds-shape (stateBytes st) e in
-        (shape-only w v, rw (ranged-back w (shape-ranged w v)) at (holds-sound (stateBytes st) e))
+        let f : Formed st = shape-only w v in
+        let s : sound st ≡ true = rw (ranged-back w (shape-ranged w v)) at (and-right (shaped (stateBytes st)) (sound (stateOf (stateBytes st))) e) in
+        record { rules = sound-exactly st (formed-few f) .0 s; formed = f }
 
 -- ---- a slice into which a state was written
-module _ (b : List ℕ) (h : length b ≡ stateLength) {st : State} (f : Formed st) where
+module _ (b : List ℕ) (h : length b ≡ stateLength) {st : State} (v : IsState st) where
   pub written-back : stateOf (stateWritten b st) ≡ st
-  written-back = rw (state-written b st h) (state-back f)
+  written-back = rw (state-written b st h) (state-back (v .formed))
 
-  pub written-holds : Sound st → holdsState (stateWritten b st) ≡ true
-  written-holds s = rw (state-written b st h) (holds-written f s)
-
--- ---- a module in which no process stands, whatever its sessions are: what a fresh one is made as
-module _ (sessions : List SessionState) (l : List Grants) where
-  abbrev idle : State
-  idle = record { sessions = sessions; credentials = l; table = tableOf [] }
-
-  pub idle-formed : length sessions ≡ 4 → length l ≡ 8 → Each FormedGrants l → Formed idle
-  unfolding standing tableOf padded
-  idle-formed h k v =
-      record { sessions = h; credentials = k; words = v; few = omega arith; tidy = refl; each = each-nil }
-
-  pub idle-sound : Sound idle
-  unfolding standing tableOf padded
-  idle-sound = record { owned = each-nil; apart = pairs-nil }
+  pub written-holds : holdsState (stateWritten b st) ≡ true
+  written-holds = rw (state-written b st h) (holds-written v)

@@ -1,7 +1,6 @@
 pub mod Fields
 pub mod Sound
 pub mod Laws
-pub mod Ranges
 pub mod Parts
 pub mod InPlace
 pub mod Examples

@@ -1,17 +1,19 @@
--- The test of demand 3's rules, and the facts that it tells.
+-- The test of demand 3's rules is those rules.
 -- Assumes nothing.
 use mathlib.Core.Path.{_≡_, refl}
 use mathlib.Core.Logic.{_↔_}
 use mathlib.Core.Bool.{true, false, not, _||_}
-use borrow.Author.Tests.{not-true}
+use borrow.Author.Tests.{not-true, eq-eqb}
+use Prim.Native.Nat.{_≤_}
+use lib.ListN.{length}
 use Rattle.lists.proofs.Tests.{split, clash, and-left, and-right, and-both}
 use Rattle.codec.specs.Codec.{every}
 use Rattle.codec.proofs.Codec.{every-by, by-every, pairwise-by, by-pairwise}
 use Rattle.names.specs.Names.{sameName}
-use Rattle.names.proofs.Laws.{same→name, name→same}
+use Rattle.names.proofs.Laws.{same-iff}
 use Rattle.names.specs.declared.Kind.{Kind}
 use Rattle.names.specs.declared.Kind.the-variants.{User, Elevation, Saved}
-use Rattle.table.specs.Table.{standing, isActive, isActiveIn}
+use Rattle.table.specs.Table.{isActive, isActiveIn}
 use Rattle.table.proofs.Searched.{user-of, of-user, elevation-in, in-elevation}
 use Rattle.table.specs.declared.Active.{Active}
 use Rattle.table.specs.declared.Active.the-variants.{UserOf, ElevationIn}
@@ -19,7 +21,17 @@ use Rattle.table.specs.declared.Process.{Process}
 use Rattle.claims.specs.Module.{phaseOf, isChosen, provisioned}
 use Rattle.claims.specs.declared.State.{State}
 use Rattle.layout.specs.Layout.{isOwned, areRivals, areApart, sound}
-use Rattle.layout.specs.Facts.{Owned, Apart, Sound}
+use Rattle.facts.specs.Facts.{processes, isRunning, Owned, Apart, Rules}
+
+-- ---- an active process is active in its session
+module _ (p : Process) where
+  active-own : isRunning (p .kind) ≡ true → isActiveIn (p .session) p ≡ true
+  unfolding isActiveIn
+  active-own k = rw (k, eq-eqb (p .session .0) (p .session .0) refl)
+
+  own-active : isActiveIn (p .session) p ≡ true → isRunning (p .kind) ≡ true
+  unfolding isActiveIn
+  own-active a = and-left (isRunning (p .kind)) _ a
 
 -- ---- an owner
 module _ (st : State) (p : Process) where
@@ -28,12 +40,12 @@ module _ (st : State) (p : Process) where
   owned-tells e =
       record {
         owner = and-left (provisioned st (p .credential)) _ e;
-        seated = λ a. rw a at (and-right (provisioned st (p .credential)) (not (isActiveIn (p .session) p) || isChosen (phaseOf st (p .session))) e);
+        seated = λ k. rw (active-own p k) at (and-right (provisioned st (p .credential)) (not (isActiveIn (p .session) p) || isChosen (phaseOf st (p .session))) e);
       }
 
   owned-test : Owned st p → isOwned st p ≡ true
   unfolding isOwned
-  owned-test v = rw (v .owner) (split (isActiveIn (p .session) p) (λ a. rw (a, v .seated a)) (λ a. rw a))
+  owned-test v = rw (v .owner) (split (isActiveIn (p .session) p) (λ a. rw (a, v .seated (own-active p a))) (λ a. rw a))
 
 -- ---- two processes
 module _ (p q : Process) where
@@ -63,7 +75,7 @@ module _ (p q : Process) where
   unfolding areApart
   apart-tells e =
       record {
-        names = λ n. clash (name→same (p .name) (q .name) n) (not-true (sameName (p .name) (q .name)) (and-right (not (areRivals p q)) _ e));
+        names = λ n. clash (same-iff (p .name) (q .name) .1 n) (not-true (sameName (p .name) (q .name)) (and-right (not (areRivals p q)) _ e));
         alone = λ which a b. clash (rivals-test which a b) (not-true (areRivals p q) (and-left (not (areRivals p q)) _ e));
       }
 
@@ -71,17 +83,18 @@ module _ (p q : Process) where
   unfolding areApart
   apart-test v =
       let n : sameName (p .name) (q .name) ≡ false =
-      split (sameName (p .name) (q .name)) (λ t. absurd (v .names (same→name (p .name) (q .name) t))) (λ t. t)
+      split (sameName (p .name) (q .name)) (λ t. absurd (v .names (same-iff (p .name) (q .name) .0 t))) (λ t. t)
       in
       rw (rivals-not (v .alone), n)
 
--- ---- the whole
-pub sound-exactly : (st : State) → (sound st ≡ true) ↔ Sound st
+-- ---- the whole, where as many stand as there are places
+pub sound-exactly : (st : State) → length (processes st) ≤ 12 → (sound st ≡ true) ↔ Rules st
 unfolding sound
-sound-exactly st = (
+sound-exactly st few = (
   λ e. record {
-    owned = every-by (owned-tells st) (standing (st .table)) (and-left (every (isOwned st) (standing (st .table))) _ e);
-    apart = pairwise-by apart-tells (standing (st .table)) (and-right (every (isOwned st) (standing (st .table))) _ e);
+    few = few;
+    each = every-by (owned-tells st) (processes st) (and-left (every (isOwned st) (processes st)) _ e);
+    pairs = pairwise-by apart-tells (processes st) (and-right (every (isOwned st) (processes st)) _ e);
   },
-  λ v. and-both (by-every (owned-test st) (v .owned)) (by-pairwise apart-test (v .apart)),
+  λ v. and-both (by-every (owned-test st) (v .each)) (by-pairwise apart-test (v .pairs)),
 )

@@ -1,35 +1,24 @@
 -- Entries followed by hand: the definitions compute, and what the theorems ask is met.
 -- Assumes nothing.
+use Prim.Native.Nat.{ℕ, zero, suc}
 use mathlib.Core.Path.{_≡_, refl}
-use mathlib.Core.Bool.{true, false}
+use mathlib.Core.Bool.{true, false, cond}
 use mathlib.Core.List.{List, [], _∷_}
 use native.Mathlib.Omega.{arith}
-use lib.ListN.{replicate}
+use lib.ListN.{getD, replicate}
 use Rattle.names.specs.Names.{zeroName}
+use Rattle.claims.specs.Numbers.{_unless_}
 use Rattle.claims.specs.declared.Claim.the-variants.{Elevated}
-use Rattle.claims.specs.declared.Grants.{Grants}
-use Rattle.calls.specs.Calls.{Call, Open, Start, Elevate, SetWord}
-use Rattle.lists.specs.Each.{Each, each-nil, each-cons}
-use Rattle.lent.specs.Lent.{IsWord, Eight, Made, AllFit, callsMade, answersOf, Lent}
-use Rattle.lent.proofs.Theorems.{lent}
+use Rattle.calls.specs.Calls.{Call, Open, Elevate, Start, List′, fresh}
+use Rattle.calls.specs.declared.Wanted.the-variants.{Every}
+use Rattle.layout.specs.Layout.{stateBytes}
+use Rattle.state_record.specs.Entry.{entryNumber, entryBytes}
+use Rattle.host.specs.Fresh.{pairsOf, canFresh}
+use Rattle.history.specs.History.{Event}
+use Rattle.history.specs.Lives.{nobody}
+use Rattle.history.specs.Fits.{IsWord}
+use Rattle.lent.specs.Lent.{Response, Made, Called, Listed, Renewed, Chain, none, called, renewed, Since, begun, since}
 
--- eight pairs, of the largest word
-abbrev pair : Grants
-pair = record { provisioned = true; word = 4294967295 }
-
-abbrev pairs : List Grants
-pairs = replicate 8 pair
-
-eight : Eight pairs
-eight = record { many = refl; words = all }
-  where
-    w : IsWord 4294967295
-    w = omega arith
-
-    all : Each (λ (g : Grants). IsWord (g .word)) pairs
-    all = each-cons {x = pair} w (each-cons {x = pair} w (each-cons {x = pair} w (each-cons {x = pair} w (each-cons {x = pair} w (each-cons {x = pair} w (each-cons {x = pair} w (each-cons {x = pair} w each-nil)))))))
-
--- an elevation whose verdict is no flag, between an open and a start
 abbrev opening : Call
 opening = Open (record { 0 = 0 })
 
@@ -39,30 +28,48 @@ raising = Elevate (record { 0 = 0 }) (record { 0 = 0 }) zeroName false
 abbrev starting : Call
 starting = Start (record { 0 = 0 }) (record { 0 = 0 }) zeroName
 
-abbrev setting : Call
-setting = SetWord (record { 0 = 0 }) Elevated (record { 0 = 0 }) 4294967295
+abbrev response : Response
+response = record { old = 7 ∷ 7 ∷ []; new = 7 ∷ 7 ∷ []; length = 0 }
 
-abbrev made : Call → Made
-made call = record { fine = true; call = call }
+abbrev answered : Call → ℕ → Event
+answered call n = record { call = call; answered = n }
 
-abbrev entries : List Made
-entries = made opening ∷ record { fine = false; call = raising } ∷ made starting ∷ made setting ∷ []
+-- an open; an elevation whose verdict is no flag; a fresh module whose flags are too few; a start; a listing
+abbrev refusedInTheMiddle : List Made
+refusedInTheMiddle =
+    Called true opening 0
+    ∷ Called false raising 1
+    ∷ Renewed (1 ∷ []) [] 1
+    ∷ Called true starting 3
+    ∷ Listed true (record { 0 = 0 }) Elevated Every 3 response
+    ∷ []
 
-fit : AllFit entries
-fit =
-    each-cons {x = made opening} (λ e. tt)
-    (each-cons {x = record { fine = false; call = raising }} (λ e. refl)
-    (each-cons {x = made starting} (λ e. refl)
-    (each-cons {x = made setting} (λ e. omega arith) each-nil)))
+-- three calls were made, with the numbers that their entries answered
+three-calls : (w : Since) → since (begun (w .first) (w .tell)) refusedInTheMiddle .events ≡ answered opening 0 ∷ answered starting 3 ∷ answered (List′ (record { 0 = 0 }) Elevated Every 2) 3 ∷ []
+unfolding since
+three-calls w = refl
 
-three-calls : callsMade entries ≡ opening ∷ starting ∷ setting ∷ []
-unfolding callsMade
-three-calls = refl
+-- a fresh module in the middle: what was before it is no more told
+begins-anew : (w : Since) (flags words : List ℕ) → since w (Called true opening 0 ∷ Renewed flags words 0 ∷ Called true starting 2 ∷ []) ≡ record { first = fresh (pairsOf flags words); tell = nobody; events = answered starting 2 ∷ [] }
+unfolding since
+begins-anew w flags words = refl
 
--- 1 stands where no call was made, and the calls' numbers in the other places
-in-their-places : answersOf entries (0 ∷ 3 ∷ 6 ∷ []) ≡ 0 ∷ 1 ∷ 3 ∷ 6 ∷ []
-unfolding answersOf
-in-their-places = refl
+-- ---- there are such chains: a fresh module of eight pairs, the words as large as can be, in whatever slice, and an open
+abbrev flags : List ℕ
+flags = replicate 8 1
 
-so : Lent pairs entries
-so = lent pairs eight entries fit
+abbrev words : List ℕ
+words = replicate 8 4294967295
+
+word-small : (i : ℕ) → IsWord (getD words i 0)
+word-small i = small i 8
+  where
+    small : (i n : ℕ) → IsWord (getD (replicate n 4294967295) i 0)
+    small i zero = omega arith
+    small zero (suc n) = omega arith
+    small (suc i) (suc n) = small i n
+
+chain : (slice : List ℕ) → Chain slice (Renewed flags words (1 unless canFresh slice flags words) ∷ Called true opening (entryNumber true (cond (canFresh slice flags words) (stateBytes (fresh (pairsOf flags words))) slice) opening) ∷ []) (entryBytes true (cond (canFresh slice flags words) (stateBytes (fresh (pairsOf flags words))) slice) opening)
+chain slice =
+    renewed word-small (record { number-is = refl; bytes-are = refl })
+    (called (λ e. tt) (record { number-is = refl; bytes-are = refl }) none)

@@ -1,3 +1,2 @@
-pub mod Kept
 pub mod Theorems
 pub mod Examples

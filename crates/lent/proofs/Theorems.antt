@@ -1,48 +1,64 @@
--- A slice that only the entries have written holds a state: the one that the calls give, and no entry answers otherwise than they do.
+-- A slice that only the entries have written holds a state: the one that the calls come to. No entry answers otherwise than they do, and demand 3 holds
+-- of what the entries answered.
 -- Assumes nothing.
 use Prim.Native.Nat.{ℕ, suc}
 use mathlib.Core.Path.{_≡_, refl, sym, ap, subst, _∙_}
 use mathlib.Core.Bool.{Bool, true, false}
-use mathlib.Core.List.{List, [], _∷_}
+use mathlib.Core.List.{List, [], _∷_, _++_}
+use native.Mathlib.Omega.{arith}
 use lib.Dec.{eqb}
-use lib.ListN.{length, getD}
+use lib.ListN.{length, getD, drop}
+use lib.Seq.{drop-at}
 use borrow.Author.Tests.{eqb-true, eqb-false}
 use Rattle.lists.specs.Bytes.{Bytes}
+use Rattle.lists.specs.Each.{Each, each-nil, each-cons}
 use Rattle.lists.proofs.Tests.{split, and-right}
 use Rattle.names.specs.Names.{readName}
-use Rattle.claims.specs.Numbers as No
+use Rattle.names.specs.declared.Name.{Name}
+use Rattle.names.specs.declared.Row.{Row}
+use Rattle.names.specs.declared.Session.{Session}
+use Rattle.names.proofs.Laws.{RowFits}
+use Rattle.table.specs.declared.Process.{Process}
 use Rattle.claims.specs.Numbers.{_unless_, _▸_}
-use Rattle.claims.specs.declared.Grants.{Grants}
+use Rattle.claims.specs.declared.Claim.{Claim}
 use Rattle.claims.specs.declared.State.{State}
-use Rattle.claims.proofs.Laws.{clear-unless}
-use Rattle.calls.specs.Calls.{Call, number, fresh}
-use Rattle.calls.specs.Run.{step, run, numbers}
-use Rattle.layout.specs.Layout.{stateBytes, stateOf, holdsState}
-use Rattle.layout.proofs.Laws.{state-back, holds-written, one-form}
-use Rattle.state_record.specs.Entry.{isMade, entryNumber, entryBytes}
+use Rattle.calls.specs.Calls.{Call, List′, number, listed, fresh}
+use Rattle.calls.specs.Listing.{rowOf, rowsOf, messageLength, listing}
+use Rattle.calls.specs.Run.{step, run}
+use Rattle.calls.specs.declared.Wanted.{Wanted}
+use Rattle.calls.proofs.Laws.{answer-number}
+use Rattle.facts.specs.Facts.{processes, Rules, FormedProcess, IsState}
+use Rattle.layout.specs.Layout.{stateLength, stateBytes, stateOf, holdsState}
+use Rattle.layout.proofs.Laws.{state-back, holds-written, holds-is, one-form}
+use Rattle.wire.specs.Wire.{rowsAmong, listedBytes}
+use Rattle.wire.proofs.Laws.{length-listing, rows-fit}
+use Rattle.wire.proofs.Laws as Wire
+use Rattle.state_record.specs.Entry.{isMade, entryNumber, entryBytes, Entry}
 use Rattle.host.specs.Fresh.{pairsOf, arePairs, canFresh, FreshEntry}
+use Rattle.host.specs.Messages.{entryResponse, entryLength, ListEntry}
 use Rattle.host.proofs.Rules.{pairs-length, flags-long, words-long}
-use Rattle.lists.specs.Each.{Each, each-nil, each-cons}
-use Rattle.history.proofs.Theorems.{demand3}
-use Rattle.lent.specs.Lent.{IsWhole, IsWord, Fits, Eight, Made, AllFit, afterAll, answers, callsMade, answersOf, Follows, Lent, Chain, none, then, Ends}
-use Rattle.lent.proofs.Kept.{Kept, kept-step, kept-fresh, kept-held, formed, sound}
+use Rattle.history.specs.History.{history, callsIn}
+use Rattle.history.specs.Lives.{Life, nobody}
+use Rattle.history.specs.Demand.{Tells}
+use Rattle.history.specs.Fits.{IsWhole, IsWord, Fits, Eight}
+use Rattle.history.proofs.Keeping.{step-accepted, step-refused}
+use Rattle.history.proofs.Followed.{event}
+use Rattle.history.proofs.Form.{state-step, state-fresh}
+use Rattle.history.proofs.Theorems.{listing-fits, demand3-from, tells-fresh, run-last, history-last, calls-of}
+use Rattle.lent.specs.Lent.{Response, Made, Renewed, Chain, none, called, list-called, renewed, Since, begun, noted, noting, since, Small, Holds, Lent}
 
 -- ---- an entry that makes no call
-not-fine-number : (b : List ℕ) (call : Call) → entryNumber false b call ≡ No.argument
-unfolding isMade entryNumber _unless_ _▸_
-not-fine-number b call = refl
-
 not-fine-bytes : (b : List ℕ) (call : Call) → entryBytes false b call ≡ b
 unfolding isMade entryBytes
 not-fine-bytes b call = refl
 
--- ---- an entry that makes one, on a slice that holds a state that is kept
-module _ (st : State) (v : Kept st) where
+-- ---- an entry that makes one, on a slice that holds a state
+module _ (st : State) (v : IsState st) where
   held : holdsState (stateBytes st) ≡ true
-  held = holds-written (formed st v) (sound st v)
+  held = holds-written v
 
   back : stateOf (stateBytes st) ≡ st
-  back = state-back (formed st v)
+  back = state-back (v .formed)
 
   fine-number : (call : Call) → entryNumber true (stateBytes st) call ≡ number st call
   unfolding isMade entryNumber _unless_ _▸_
@@ -52,96 +68,88 @@ module _ (st : State) (v : Kept st) where
   unfolding isMade entryBytes step
   fine-bytes call = rw (held, back)
 
--- ---- entries one after another
-record Along (st : State) (entries : List Made) : Type 0 where
-  pub kept : Kept (run st (callsMade entries))
-  pub bytes : afterAll (stateBytes st) entries ≡ stateBytes (run st (callsMade entries))
-  pub answered : answers (stateBytes st) entries ≡ answersOf entries (numbers st (callsMade entries))
+-- ---- what is kept from entry to entry
+record Goes (w : Since) (b : List ℕ) : Type 0 where
+  pub calls : List Call
+  pub rules : Rules (w .first)
+  pub tells : Tells (w .tell) (w .first)
+  pub is : IsState (run (w .first) calls)
+  pub bytes : b ≡ stateBytes (run (w .first) calls)
+  pub events : w .events ≡ history (w .first) calls
 
-abbrev entry : Bool → Call → Made
-entry fine call = record { fine = fine; call = call }
+goes-begin : (first : State) → IsState first → (tell : Name → Life) → Tells tell first → Goes (begun first tell) (stateBytes first)
+unfolding run history
+goes-begin first v tell t = record { calls = []; rules = v .rules; tells = t; is = v; bytes = refl; events = refl }
 
-module _ (st : State) (v : Kept st) (call : Call) (entries : List Made) where
-  along-fine : Along (step st call) entries → Along st (entry true call ∷ entries)
-  unfolding run numbers callsMade afterAll answers answersOf
-  along-fine a =
+module _ (w : Since) (b : List ℕ) (g : Goes w b) where
+  abbrev st : State
+  st = run (w .first) (g .calls)
+
+  goes-called : (fine : Bool) (call : Call) (n : ℕ) (after : List ℕ) → (fine ≡ true → Fits call) → Entry fine b call n after → Goes (noted fine call n w) after
+  goes-called true call n after fits e =
+      let number-is : n ≡ number st call = e .number-is ∙ ap (λ x. entryNumber true x call) (g .bytes) ∙ fine-number st (g .is) call in
+      let event-is : record { call = call; answered = n } ≡ event st call = ap (λ m. record { call = call; answered = m }) (number-is ∙ sym (answer-number st call)) in
       record {
-        kept = a .kept;
-        bytes = ap (λ b. afterAll b entries) (fine-bytes st v call) ∙ a .bytes;
-        answered = rw (fine-bytes st v call, fine-number st v call, a .answered);
+        calls = g .calls ++ (call ∷ []);
+        rules = g .rules;
+        tells = g .tells;
+        is = rw (run-last (w .first) (g .calls) call) (state-step st call (fits refl) (g .is));
+        bytes = rw (run-last (w .first) (g .calls) call) (e .bytes-are ∙ ap (λ x. entryBytes true x call) (g .bytes) ∙ fine-bytes st (g .is) call);
+        events =
+            ap (λ l. l ++ (record { call = call; answered = n } ∷ [])) (g .events)
+            ∙ ap (λ x. history (w .first) (g .calls) ++ (x ∷ [])) event-is
+            ∙ sym (history-last (w .first) (g .calls) call);
       }
+  goes-called false call n after fits e = subst (Goes w) (sym (e .bytes-are ∙ not-fine-bytes b call)) g
 
-  along-not : Along st entries → Along st (entry false call ∷ entries)
-  unfolding callsMade afterAll answers answersOf
-  along-not a =
+  -- a listing's length and message
+  rows-whole : (wanted : Wanted) → Wire.Each RowFits (rowsAmong wanted (processes st))
+  rows-whole wanted = rows-fit wanted (processes st) (by (g .is .formed .each))
+    where
+      by : {l : List Process} → Each FormedProcess l → Wire.Each (λ p. RowFits (rowOf p)) l
+      by each-nil = tt
+      by (each-cons f h) = (record { credential = omega (arith, f .credential); name = f .name }, by h)
+
+  -- a list call writes no byte past the length that it answers
+  later-in : (s : Session) (claim : Claim) (wanted : Wanted) (old : List ℕ) → drop (listed st s claim wanted (length old) .length) (listedBytes st s claim wanted old) ≡ drop (listed st s claim wanted (length old) .length) old
+  unfolding listed listedBytes rowsOf rowsAmong
+  later-in s claim wanted old =
+      let rows : List Row = rowsOf st wanted in
+      split (eqb (number st (List′ s claim wanted (length old))) 0)
+      (λ e. rw e (drop-at (listing rows) (drop (messageLength (length rows)) old) (messageLength (length rows)) (length-listing rows (rows-whole wanted))))
+      (λ e. rw e)
+
+  listing-small : (fine : Bool) (s : Session) (claim : Claim) (wanted : Wanted) (n : ℕ) (after : List ℕ) (r : Response) → ListEntry fine b s claim wanted (r .old) n after (r .new) (r .length) → Small r
+  unfolding entryResponse entryLength
+  listing-small fine s claim wanted n after r e =
+      let is : stateOf b ≡ st = ap stateOf (g .bytes) ∙ back st (g .is) in
+      split (isMade fine b)
+      (λ q.
+      let long : r .length ≡ listed st s claim wanted (length (r .old)) .length = e .length-is ∙ rw (q, is) in
+      let new : r .new ≡ listedBytes st s claim wanted (r .old) = e .response-is ∙ rw (q, is) in
+      record { length-small = rw long (listing-fits st (g .is .rules) s claim wanted (length (r .old))); later-kept = rw (new, long) (later-in s claim wanted (r .old)) })
+      (λ q.
+      let long : r .length ≡ 0 = e .length-is ∙ rw q in
+      let new : r .new ≡ r .old = e .response-is ∙ rw q in
+      record { length-small = rw long (omega arith); later-kept = rw new })
+
+  -- what is kept at the end is what is asked
+  goes-holds : Holds w b
+  goes-holds =
+      let calls-are : callsIn (w .events) ≡ g .calls = ap callsIn (g .events) ∙ calls-of (w .first) (g .calls) in
+      let is : stateOf b ≡ st = ap stateOf (g .bytes) ∙ back st (g .is) in
       record {
-        kept = a .kept;
-        bytes = ap (λ b. afterAll b entries) (not-fine-bytes (stateBytes st) call) ∙ a .bytes;
-        answered = rw (not-fine-bytes (stateBytes st) call, not-fine-number (stateBytes st) call, a .answered);
+        holds = rw (g .bytes) (held st (g .is));
+        state = rw calls-are is;
+        bytes = rw is (g .bytes);
+        answered = rw calls-are (g .events);
+        demand3 = rw (g .events, is) (demand3-from (w .first) (g .rules) (w .tell) (g .tells) (g .calls));
       }
-
-along-by : (entries : List Made) → ((st : State) → Kept st → Along st entries) → (st : State) → Kept st → (fine : Bool) (call : Call) → (fine ≡ true → Fits call) → Along st (entry fine call ∷ entries)
-along-by entries k st v true call f = along-fine st v call entries (k (step st call) (kept-step st v call (f refl)))
-along-by entries k st v false call f = along-not st v call entries (k st v)
-
-along : (entries : List Made) → AllFit entries → (st : State) → Kept st → Along st entries
-unfolding run numbers callsMade afterAll answers answersOf
-along [] each-nil st v = record { kept = v; bytes = refl; answered = refl }
-along (made ∷ entries) (each-cons f h) st v = along-by entries (along entries h) st v (made .fine) (made .call) f
-
-follows : (st : State) → Kept st → (entries : List Made) → AllFit entries → Follows (stateBytes st) st entries
-follows st v entries f =
-    let a : Along st entries = along entries f st v in
-    let last : State = run st (callsMade entries) in
-    record {
-      holds = rw (a .bytes) (held last (a .kept));
-      state = rw (a .bytes) (back last (a .kept));
-      bytes = a .bytes;
-      answered = a .answered;
-      next = λ call. rw (a .bytes) (fine-number last (a .kept) call);
-      next-not-fine = λ call. not-fine-number (afterAll (stateBytes st) entries) call;
-    }
-
--- ---- from a fresh module
-pub lent : (pairs : List Grants) → Eight pairs → (entries : List Made) → AllFit entries → Lent pairs entries
-lent pairs e entries f =
-    let v = follows (fresh pairs) (kept-fresh pairs e) entries f in
-    record { follows = v; demand3 = rw (v .state) (demand3 pairs (callsMade entries)) }
-
--- ---- from any slice that holds a state, whoever wrote it
-pub lent-held : (b : List ℕ) → Bytes b → holdsState b ≡ true → (entries : List Made) → AllFit entries → Follows b (stateOf b) entries
-lent-held b g h entries f =
-    subst (λ x. Follows x (stateOf b) entries) (one-form b h g) (follows (stateOf b) (kept-held b g h) entries f)
-
--- ---- what the contracts of the entries say, one after another, is what the definitions say
-pub chain-last : {b last ns : List ℕ} {entries : List Made} → Chain b entries ns last → last ≡ afterAll b entries
-unfolding afterAll
-chain-last none = refl
-chain-last (then e k) = chain-last k ∙ rw (e .bytes-are)
-
-pub chain-answers : {b last ns : List ℕ} {entries : List Made} → Chain b entries ns last → ns ≡ answers b entries
-unfolding answers
-chain-answers none = refl
-chain-answers (then e k) = rw (e .number-is, ← e .bytes-are, ← chain-answers k)
-
-pub lent-ends : (pairs : List Grants) → Eight pairs → (entries : List Made) → AllFit entries → {ns last : List ℕ} → Chain (stateBytes (fresh pairs)) entries ns last → Ends pairs entries ns last
-lent-ends pairs e entries f k =
-    let v = lent pairs e entries f in
-    record {
-      holds = rw (chain-last k) (v .follows .holds);
-      state = rw (chain-last k) (v .follows .state);
-      answered = chain-answers k ∙ v .follows .answered;
-      demand3 = rw (chain-last k) (v .demand3);
-    }
 
 -- ---- the names that the entries hand on are whole, read or not
 pub name-whole : (part : List ℕ) → IsWhole (readName part .name)
 unfolding readName
 name-whole part = split (eqb (length part) 48) (λ e. rw e (eqb-true (length part) 48 e)) (λ e. rw e)
-
-pairs-can : (before flags words : List ℕ) → canFresh before flags words ≡ true → arePairs flags words ≡ true
-unfolding canFresh
-pairs-can before flags words e = and-right (eqb (length before) 681) (arePairs flags words) e
 
 -- ---- and the pairs of a fresh module are eight, each word being a number of 32 bits
 words-fit : (flags words : List ℕ) → ((i : ℕ) → IsWord (getD words i 0)) → Each (λ g. IsWord (g .word)) (pairsOf flags words)
@@ -150,15 +158,52 @@ words-fit [] words h = each-nil
 words-fit (flag ∷ flags) [] h = each-nil
 words-fit (flag ∷ flags) (word ∷ words) h = each-cons (h 0) (words-fit flags words (λ i. h (suc i)))
 
-pub pairs-eight : (flags words : List ℕ) → arePairs flags words ≡ true → ((i : ℕ) → IsWord (getD words i 0)) → Eight (pairsOf flags words)
+pairs-eight : (flags words : List ℕ) → arePairs flags words ≡ true → ((i : ℕ) → IsWord (getD words i 0)) → Eight (pairsOf flags words)
 pairs-eight flags words e h =
     let many : length flags ≡ 8 = flags-long flags words e in
     record { many = pairs-length flags words (many ∙ sym (words-long flags words e)) ∙ many; words = words-fit flags words h }
 
--- so of the contracts themselves, from the making of the module on
-pub lent-made : {before flags words made : List ℕ} → FreshEntry before flags words 0 made → ((i : ℕ) → IsWord (getD words i 0))
-    → (entries : List Made) → AllFit entries → {ns last : List ℕ} → Chain made entries ns last → Ends (pairsOf flags words) entries ns last
-lent-made {before} {flags} {words} v h entries f k =
-    let can : canFresh before flags words ≡ true = clear-unless 1 tt (canFresh before flags words) (sym (v .number-is)) in
-    let fine : arePairs flags words ≡ true = pairs-can before flags words can in
-    lent-ends (pairsOf flags words) (pairs-eight flags words fine h) entries f (rw (v .bytes-are, can) at k)
+module _ (before flags words : List ℕ) (h : (i : ℕ) → IsWord (getD words i 0)) where
+  fresh-is : canFresh before flags words ≡ true → IsState (fresh (pairsOf flags words))
+  unfolding canFresh
+  fresh-is can = state-fresh (pairsOf flags words) (pairs-eight flags words (and-right (eqb (length before) stateLength) (arePairs flags words) can) h)
+
+  -- a fresh module that was made, and one that was not
+  goes-made : canFresh before flags words ≡ true → {after : List ℕ} {n : ℕ} → FreshEntry before flags words n after → Goes (begun (fresh (pairsOf flags words)) nobody) after
+  goes-made can e =
+      subst (Goes _) (sym (e .bytes-are ∙ rw can)) (goes-begin (fresh (pairsOf flags words)) (fresh-is can) nobody (tells-fresh (pairsOf flags words)))
+
+  goes-renewed : (w : Since) → Goes w before → (n : ℕ) (after : List ℕ) → FreshEntry before flags words n after → Goes (noting (Renewed flags words n) w) after
+  unfolding _unless_
+  goes-renewed w g n after e =
+      split (canFresh before flags words)
+      (λ can. let z : n ≡ 0 = e .number-is ∙ rw can in rw z (goes-made can e))
+      (λ can. let z : n ≡ 1 = e .number-is ∙ rw can in rw z (subst (Goes w) (sym (e .bytes-are ∙ rw can)) g))
+
+-- ---- entries one after another
+lent-by : {b last : List ℕ} {entries : List Made} (w : Since) → Goes w b → Chain b entries last → Lent w entries last
+unfolding since
+lent-by {b} w g none = record { holds = goes-holds w b g; listings = each-nil }
+lent-by {b} w g (called {fine} {call} {n} {after = after} fits e k) =
+    let r = lent-by (noted fine call n w) (goes-called w b g fine call n after fits e) k in
+    record { holds = r .holds; listings = each-cons tt (r .listings) }
+lent-by {b} w g (list-called {fine} {s} {claim} {wanted} {n} {r} {after = after} e k) =
+    let call : Call = List′ s claim wanted (length (r .old)) in
+    let rest = lent-by (noted fine call n w) (goes-called w b g fine call n after (λ q. tt) (e .entry)) k in
+    record { holds = rest .holds; listings = each-cons (listing-small w b g fine s claim wanted n after r e) (rest .listings) }
+lent-by {b} w g (renewed {flags} {words} {n} {after = after} h e k) =
+    let r = lent-by (noting (Renewed flags words n) w) (goes-renewed b flags words h w g n after e) k in
+    record { holds = r .holds; listings = each-cons tt (r .listings) }
+
+-- from any slice that holds a state, whoever wrote it, and whatever was told of that state
+pub lent-held : (b : List ℕ) → Bytes b → holdsState b ≡ true → (tell : Name → Life) → Tells tell (stateOf b) → {entries : List Made} {last : List ℕ} → Chain b entries last → Lent (begun (stateOf b) tell) entries last
+lent-held b g h tell t k =
+    lent-by (begun (stateOf b) tell) (subst (Goes _) (one-form b h g) (goes-begin (stateOf b) (holds-is b h g) tell t)) k
+
+-- from a fresh module on
+pub lent-made : {before flags words after : List ℕ} → ((i : ℕ) → IsWord (getD words i 0)) → FreshEntry before flags words 0 after → {entries : List Made} {last : List ℕ} → Chain after entries last → Lent (begun (fresh (pairsOf flags words)) nobody) entries last
+unfolding _unless_
+lent-made {before} {flags} {words} h e k =
+    split (canFresh before flags words)
+    (λ can. lent-by (begun (fresh (pairsOf flags words)) nobody) (goes-made before flags words h can e) k)
+    (λ can. let z : 0 ≡ 1 = e .number-is ∙ rw can in absurd (omega arith))

@@ -1,115 +1,105 @@
--- A slice that only the entries write: what they leave in it, what they answer, and which calls they made.
-use Prim.Native.Nat.{ℕ, _^_, _<_}
+-- A slice that only the entries have written: a history of entries, each on the slice as the one before had left it, with what each answered. Which
+-- module and which events that makes; and demand 3 of it.
+use Prim.Native.Nat.{ℕ, _≤_}
 use mathlib.Core.Path.{_≡_}
-use mathlib.Core.Bool.{Bool, cond, true, false}
-use mathlib.Core.List.{List, [], _∷_}
+use mathlib.Core.Bool.{Bool, cond, true}
+use mathlib.Core.List.{List, [], _∷_, _++_}
+use lib.Dec.{eqb}
 use lib.ListN.{length, getD, drop}
-use Rattle.names.specs.declared.Name.{Name}
-use Rattle.claims.specs.Numbers as No
-use Rattle.claims.specs.declared.Grants.{Grants}
-use Rattle.claims.specs.declared.State.{State}
-use Rattle.calls.specs.Calls.{Call, Open, Close, Drop, Select, Start, Continue, Elevate, End, Record, List′, Kill, SetWord, number, fresh}
-use Rattle.calls.specs.Run.{run, numbers}
-use Rattle.layout.specs.Layout.{stateBytes, stateOf, holdsState}
-use Rattle.state_record.specs.Entry.{entryNumber, entryBytes, Entry}
 use Rattle.lists.specs.Each.{Each}
-use Rattle.history.specs.History.{history}
+use Rattle.names.specs.declared.Name.{Name}
+use Rattle.names.specs.declared.Session.{Session}
+use Rattle.claims.specs.Numbers as No
+use Rattle.claims.specs.declared.Claim.{Claim}
+use Rattle.claims.specs.declared.State.{State}
+use Rattle.calls.specs.Calls.{Call, List′, fresh}
+use Rattle.calls.specs.Run.{run}
+use Rattle.calls.specs.declared.Wanted.{Wanted}
+use Rattle.layout.specs.Layout.{stateOf, stateBytes, holdsState}
+use Rattle.state_record.specs.Entry.{Entry}
+use Rattle.host.specs.Fresh.{pairsOf, FreshEntry}
+use Rattle.host.specs.Messages.{ListEntry}
+use Rattle.history.specs.History.{Event, history, callsIn}
+use Rattle.history.specs.Lives.{Life, nobody}
 use Rattle.history.specs.Demand.{Demand3}
+use Rattle.history.specs.Fits.{Fits, IsWord}
 
--- ---- what the types of an entry's parameters tell of its call: "a name of 48 bytes", "a grant word of 32 bits"
-abbrev pub IsWhole : Name → Type 0
-IsWhole name = length (name .bytes) ≡ 48
+-- ---- an entry that was made, with what it answered
 
-abbrev pub IsWord : ℕ → Type 0
-IsWord word = word < 256 ^ 4
+-- the list entry's own: the response that was lent, what it holds afterwards, and the length
+pub record Response : Type 0 where
+  pub old : List ℕ
+  pub new : List ℕ
+  pub length : ℕ
 
-abbrev pub Fits : Call → Type 0
-Fits (Open s) = Unit {0}
-Fits (Close s) = Unit {0}
-Fits (Select s byte) = Unit {0}
-Fits (Start s c name) = IsWhole name
-Fits (Continue s c name) = IsWhole name
-Fits (Elevate s c name verdict) = IsWhole name
-Fits (Drop s) = Unit {0}
-Fits (End s u keep) = Unit {0}
-Fits (Record s claim class) = Unit {0}
-Fits (List′ s claim wanted room) = Unit {0}
-Fits (Kill s claim name) = IsWhole name
-Fits (SetWord s claim c word) = IsWord word
+pub data Made : Type 0 where
+  -- a call: whether the arguments that are no part of it (flags, lengths) are in order, the call, and the number
+  Called : Bool → Call → ℕ → Made
+  -- a list call
+  Listed : Bool → Session → Claim → Wanted → ℕ → Response → Made
+  -- a fresh module: the flags, the words, and the number
+  Renewed : List ℕ → List ℕ → ℕ → Made
 
--- "A fresh module is made from eight such pairs"
-pub record Eight (pairs : List Grants) : Type 0 where
-  pub many : length pairs ≡ 8
-  pub words : Each (λ g. IsWord (g .word)) pairs
+-- each by the contract of its entry. Of a call's arguments their types are told: a name of 48 bytes, a word of 32 bits
+pub data Chain : List ℕ → List Made → List ℕ → Type 0 where
+  none : {b : List ℕ} → Chain b [] b
+  called : {fine : Bool} {call : Call} {n : ℕ} {before after last : List ℕ} {entries : List Made}
+      → (fine ≡ true → Fits call) → Entry fine before call n after
+      → Chain after entries last → Chain before (Called fine call n ∷ entries) last
+  list-called : {fine : Bool} {s : Session} {claim : Claim} {wanted : Wanted} {n : ℕ} {r : Response} {before after last : List ℕ} {entries : List Made}
+      → ListEntry fine before s claim wanted (r .old) n after (r .new) (r .length)
+      → Chain after entries last → Chain before (Listed fine s claim wanted n r ∷ entries) last
+  renewed : {flags words : List ℕ} {n : ℕ} {before after last : List ℕ} {entries : List Made}
+      → ((i : ℕ) → IsWord (getD words i 0)) → FreshEntry before flags words n after
+      → Chain after entries last → Chain before (Renewed flags words n ∷ entries) last
 
--- ---- an entry made: whether the arguments that are no part of a call (flags, lengths) are in order, and the call
-pub record Made : Type 0 where
-  pub fine : Bool
-  pub call : Call
+-- ---- since when it is told: the state that stood then, what was told of each name, and what was called since, with the numbers that the entries answered
+pub record Since : Type 0 where
+  pub first : State
+  pub tell : Name → Life
+  pub events : List Event
 
--- what is asked of an entry's call, where it makes one
-abbrev pub AllFit : List Made → Type 0
-AllFit entries = Each (λ made. made .fine ≡ true → Fits (made .call)) entries
+abbrev pub begun : State → (Name → Life) → Since
+begun first tell = record { first = first; tell = tell; events = [] }
 
--- what an entry answers on a slice, and what it leaves there
-abbrev pub answer : List ℕ → Made → ℕ
-answer b made = entryNumber (made .fine) b (made .call)
+-- an entry whose flags or lengths are not in order makes no call
+abbrev pub noted : Bool → Call → ℕ → Since → Since
+noted fine call n w =
+    cond fine (record { first = w .first; tell = w .tell; events = w .events ++ (record { call = call; answered = n } ∷ []) }) w
 
-abbrev pub after : List ℕ → Made → List ℕ
-after b made = entryBytes (made .fine) b (made .call)
+-- by an entry. With a fresh module it begins anew; one that was refused is none
+abbrev pub noting : Made → Since → Since
+noting (Called fine call n) w = noted fine call n w
+noting (Listed fine s claim wanted n r) w = noted fine (List′ s claim wanted (length (r .old))) n w
+noting (Renewed flags words n) w = cond (eqb n No.done) (begun (fresh (pairsOf flags words)) nobody) w
 
--- entries one after another: what they leave, and what each answers
-unfoldable pub afterAll : List ℕ → List Made → List ℕ
-afterAll b [] = b
-afterAll b (made ∷ entries) = afterAll (after b made) entries
+unfoldable pub since : Since → List Made → Since
+since w [] = w
+since w (entry ∷ entries) = since (noting entry w) entries
 
-unfoldable pub answers : List ℕ → List Made → List ℕ
-answers b [] = []
-answers b (made ∷ entries) = answer b made ∷ answers (after b made) entries
+-- ---- what is to hold
 
--- ---- the calls that they made: an entry whose flags or lengths are not in order makes none
-unfoldable pub callsMade : List Made → List Call
-callsMade [] = []
-callsMade (made ∷ entries) = cond (made .fine) (made .call ∷ callsMade entries) (callsMade entries)
+-- "no listing exceeds 616 bytes": the length that was answered, and the bytes that were written
+pub record Small (r : Response) : Type 0 where
+  pub length-small : r .length ≤ 616
+  pub later-kept : drop (r .length) (r .new) ≡ drop (r .length) (r .old)
 
--- the calls' numbers, in their order, and 1 for each entry that makes no call. There is a number for each call, so none is taken past their end
-unfoldable pub answersOf : List Made → List ℕ → List ℕ
-answersOf [] ns = []
-answersOf (made ∷ entries) ns = cond (made .fine) (getD ns 0 0 ∷ answersOf entries (drop 1 ns)) (No.argument ∷ answersOf entries ns)
+abbrev pub IsSmall : Made → Type 0
+IsSmall (Called fine call n) = Unit {0}
+IsSmall (Listed fine s claim wanted n r) = Small r
+IsSmall (Renewed flags words n) = Unit {0}
 
--- ---- what is to hold of a slice `b` that holds the state `first`, after entries were made on it
-module _ (b : List ℕ) (first : State) (entries : List Made) where
-  abbrev pub slice : List ℕ
-  slice = afterAll b entries
-
-  -- the state that the calls come to, over the definitions of the calls alone
-  abbrev pub reached : State
-  reached = run first (callsMade entries)
-
-  pub record Follows : Type 0 where
-    -- it holds a state, that of the calls, in its one form
-    pub holds : holdsState slice ≡ true
-    pub state : stateOf slice ≡ reached
-    pub bytes : slice ≡ stateBytes reached
-    -- the entries answered what the calls are answered
-    pub answered : answers b entries ≡ answersOf entries (numbers first (callsMade entries))
-    -- and so will the next one: the number of its call, or 1 where it makes none
-    pub next : (call : Call) → entryNumber true slice call ≡ number reached call
-    pub next-not-fine : (call : Call) → entryNumber false slice call ≡ No.argument
-
--- into which a fresh module was written: "Demand 3 speaks of a slice that only our calls have written."
-pub record Lent (pairs : List Grants) (entries : List Made) : Type 0 where
-  pub follows : Follows (stateBytes (fresh pairs)) (fresh pairs) entries
-  pub demand3 : Demand3 (history (fresh pairs) (callsMade entries)) (stateOf (slice (stateBytes (fresh pairs)) (fresh pairs) entries))
-
--- ---- the same over the entries' own contracts: each took the slice as the one before had left it
-pub data Chain : List ℕ → List Made → List ℕ → List ℕ → Type 0 where
-  none : {b : List ℕ} → Chain b [] [] b
-  then : {fine : Bool} {call : Call} {before after last ns : List ℕ} {n : ℕ} {entries : List Made} → Entry fine before call n after → Chain after entries ns last → Chain before (record { fine = fine; call = call } ∷ entries) (n ∷ ns) last
-
--- so of the slice that entries end with, and of what they answered
-pub record Ends (pairs : List Grants) (entries : List Made) (ns last : List ℕ) : Type 0 where
+-- of the slice `last` in which entries ended
+pub record Holds (w : Since) (last : List ℕ) : Type 0 where
+  -- it holds a state, in its one form: the one that the calls come to
   pub holds : holdsState last ≡ true
-  pub state : stateOf last ≡ run (fresh pairs) (callsMade entries)
-  pub answered : ns ≡ answersOf entries (numbers (fresh pairs) (callsMade entries))
-  pub demand3 : Demand3 (history (fresh pairs) (callsMade entries)) (stateOf last)
+  pub state : stateOf last ≡ run (w .first) (callsIn (w .events))
+  pub bytes : last ≡ stateBytes (stateOf last)
+  -- the numbers that the entries answered are those of the calls
+  pub answered : w .events ≡ history (w .first) (callsIn (w .events))
+  pub demand3 : Demand3 (w .tell) (w .events) (stateOf last)
+
+-- "Demand 3 speaks of a slice that only our calls have written."
+pub record Lent (w : Since) (entries : List Made) (last : List ℕ) : Type 0 where
+  pub holds : Holds (since w entries) last
+  pub listings : Each IsSmall entries

@@ -1,5 +1,6 @@
 pub mod Tests
 pub mod Lists
 pub mod Loops
+pub mod Each
 pub mod Bytes
 pub mod Once

@@ -1,16 +1,16 @@
--- Each and each two, through every operation on a list; what stands at a place, and a place that was replaced.
+-- A fact of each element, and of each two, through every operation on a list; what stands at a place, and a place that was replaced.
 -- "Every other element" is what `removeAt` leaves. Assumes nothing.
-use Prim.Native.Nat.{ℕ, zero, suc, _≤_, _<_}
+use Prim.Native.Nat.{ℕ, zero, suc, _<_}
 use mathlib.Core.Path.{_≡_, refl, _∙_}
 use mathlib.Core.Bool.{Bool, true, false}
 use mathlib.Core.List.{List, [], _∷_, _++_}
 use native.Mathlib.Nat.{not-suc-le-zero, le-of-suc-le-suc}
 use native.Mathlib.Omega.{arith}
 use lib.ListN.{length, getD, set, length-set}
-use Rattle.lists.specs.Lists.{any, firstIndex, reject, select, removeAt}
+use Rattle.lists.specs.Lists.{any, firstIndex, reject, removeAt}
 use Rattle.lists.proofs.Tests.{split, below, clash}
 use Rattle.lists.proofs.Lists.{first-passes, first-inside}
 use Rattle.lists.specs.Each.{Each, each-nil, each-cons, Pairs, pairs-nil, pairs-cons}
 
 module _ {A : Type 0} where
   -- ---- an element that passes a test stands at a place
@@ -54,12 +54,6 @@ module _ {A : Type 0} where
   inside f [] i d e h = clash h e
   inside f (x ∷ xs) zero d e h = omega arith
   inside f (x ∷ xs) (suc i) d e h = omega (arith, inside f xs i d e h)
-
-  pub length-select : (f : A → Bool) (l : List A) → length (select f l) ≤ length l
-  unfolding select
-  length-select f [] = omega arith
-  length-select f (x ∷ xs) =
-      split (f x) (λ e. rw e (omega (arith, length-select f xs))) (λ e. rw e (omega (arith, length-select f xs)))
 
   -- ---- Each
   pub each-imp : {P Q : A → Type 0} {l : List A} → ((x : A) → P x → Q x) → Each P l → Each Q l

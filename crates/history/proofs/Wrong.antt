@@ -1,0 +1,140 @@
+-- "one that serves the first record and afterwards only answers falls to the next number, as does an invented number, by demand 3's history": of each such
+-- build, calls after which demand 3 is false of the history that they have with it and the state that it is left in. As edits of the code:
+-- `first_record_only` in outcomes/must-fail, `number_not_tested` in claims/must-fail.
+-- Assumes nothing.
+use Prim.Native.Nat.{ℕ}
+use mathlib.Core.Path.{_≡_, refl}
+use mathlib.Core.Bool.{Bool, false, cond}
+use mathlib.Core.List.{List, [], _∷_, _++_}
+use native.Mathlib.Omega.{arith}
+use lib.Dec.{eqb, leb}
+use Rattle.lists.proofs.Each.{each-at}
+use Rattle.names.specs.declared.Kind.the-variants.{User}
+use Rattle.names.specs.declared.Credential.{Credential}
+use Rattle.names.specs.declared.Session.{Session}
+use Rattle.table.specs.Table.{freePlace, appended}
+use Rattle.table.specs.declared.Active.the-variants.{UserOf}
+use Rattle.claims.specs.Module.{activeProcess}
+use Rattle.claims.specs.declared.State.{State}
+use Rattle.calls.specs.Calls.{Call, Open, Close, Drop, Select, Start, Continue, Elevate, End, Record, List′, Kill, SetWord, number, withTable, effect, fresh}
+use Rattle.calls.specs.Run.{step}
+use Rattle.calls.proofs.Sequences.{P, pairs, session, credential, class, userYes, yes′, computed}
+use Rattle.history.specs.History.{Event}
+use Rattle.history.specs.Lives.{Gone, Live, told, nobody, accepted, counts, ends, shuts, drops, resumes, after, onward, follow}
+use Rattle.history.specs.Demand.{by-record, TwoRecords, Demand3}
+
+-- a build: what it answers, and the state that it leaves
+record Build : Type 0 where
+  pub answers : State → Call → ℕ
+  pub leaves : State → Call → State
+
+-- what calls have with it
+abbrev said : Build → State → List Call → List Event
+said build st [] = []
+said build st (call ∷ calls) = record { call = call; answered = build .answers st call } ∷ said build (build .leaves st call) calls
+
+abbrev left : Build → State → List Call → State
+left build st [] = st
+left build st (call ∷ calls) = left build (build .leaves st call) calls
+
+abbrev Fails : Build → List Call → Type 0
+Fails build calls = Demand3 nobody (said build (fresh pairs) calls) (left build (fresh pairs) calls) → ⊥
+
+-- a session with a version, and a process of credential 1
+abbrev started : List Call → List Call
+started calls = Open (session 0) ∷ Select (session 0) 0x10 ∷ Start (session 0) (credential 1) P ∷ calls
+
+abbrev recorded : ℕ → Call
+recorded n = Record (session 0) (yes′ 1 n) (class 4)
+
+-- records are sent, then one of the number n twice, and each time it is answered 0
+module _ (build : Build) (calls : List Call) (n : ℕ) (ns : List ℕ) where
+  abbrev events : List Event
+  events = said build (fresh pairs) (started calls)
+
+  abbrev sent : Event
+  sent = record { call = recorded n; answered = 0 }
+
+  sent-twice : said build (fresh pairs) (started (calls ++ (recorded n ∷ recorded n ∷ []))) ≡ events ++ (sent ∷ sent ∷ [])
+      → told nobody events P ≡ Live (session 0) (credential 1) ns
+      → told nobody (events ++ (sent ∷ [])) P ≡ Live (session 0) (credential 1) (n ∷ ns)
+      → (onward P sent (told nobody events P) ≡ Gone → ⊥)
+      → TwoRecords nobody (said build (fresh pairs) (started (calls ++ (recorded n ∷ recorded n ∷ [])))) P
+  sent-twice are lives again stays =
+      record {
+        before = events;
+        first = sent;
+        between = [];
+        second = sent;
+        rest = [];
+        are = are;
+        one = record { session = session 0; claim = userYes 1 n; carried = by-record (class 4); accepted = refl; before = ns; lives = lives };
+        stays = (stays, tt);
+        two = record { session = session 0; claim = userYes 1 n; carried = by-record (class 4); accepted = refl; before = n ∷ ns; lives = again };
+      }
+
+live-not-gone : {s : Session} {c : Credential} {ns : List ℕ} → Live s c ns ≡ Gone → ⊥
+live-not-gone e = let z : _≡_ {A = ℕ} 0 1 = cc in absurd (omega arith)
+
+-- ---- it answers as it should, and does nothing any more once the process of session 0 and credential 1 has one record
+abbrev isServed : State → Bool
+isServed st = leb 1 (activeProcess st (UserOf (session 0) (credential 1)) .next)
+
+abbrev firstOnly : Build
+firstOnly = record { answers = number; leaves = λ st call. cond (isServed st) st (step st call) }
+
+-- after two records the next number is 1, and the history counts 2
+pub first-only-fails : Fails firstOnly (started (recorded 0 ∷ recorded 1 ∷ []))
+unfolding computed accepted counts ends shuts drops resumes after onward follow
+first-only-fails d = let z : _≡_ {A = ℕ} 1 2 = each-at 0 freePlace (omega arith) (d .numbers) refl in absurd (omega arith)
+
+-- and the second may be sent again
+pub first-only-twice : Fails firstOnly (started (recorded 0 ∷ recorded 1 ∷ recorded 1 ∷ []))
+unfolding computed accepted counts ends shuts drops resumes after onward follow sent-twice
+first-only-twice d = d .once P (sent-twice firstOnly (recorded 0 ∷ []) 1 (0 ∷ []) refl refl refl live-not-gone) refl
+
+-- ---- it does not ask for the number
+abbrev answersUntested : State → Call → ℕ
+answersUntested st (Open s) = number st (Open s)
+answersUntested st (Close s) = number st (Close s)
+answersUntested st (Select s byte) = number st (Select s byte)
+answersUntested st (Start s c name) = number st (Start s c name)
+answersUntested st (Continue s c name) = number st (Continue s c name)
+answersUntested st (Elevate s c name verdict) = number st (Elevate s c name verdict)
+answersUntested st (Drop s) = number st (Drop s)
+answersUntested st (End s u keep) = number st (End s u keep)
+answersUntested st (Record s claim class) = 0
+answersUntested st (List′ s claim wanted room) = number st (List′ s claim wanted room)
+answersUntested st (Kill s claim name) = number st (Kill s claim name)
+answersUntested st (SetWord s claim c word) = number st (SetWord s claim c word)
+
+abbrev untested : Build
+untested = record { answers = answersUntested; leaves = λ st call. cond (eqb (answersUntested st call) 0) (effect st call) st }
+
+-- a record may be sent again
+pub untested-fails : Fails untested (started (recorded 7 ∷ recorded 7 ∷ []))
+unfolding computed accepted counts ends shuts drops resumes after onward follow sent-twice
+untested-fails d = d .once P (sent-twice untested [] 7 [] refl refl refl live-not-gone) refl
+
+-- ---- a process begins at the number 5
+abbrev begins : State → Call → State
+begins st (Open s) = step st (Open s)
+begins st (Close s) = step st (Close s)
+begins st (Select s byte) = step st (Select s byte)
+begins st (Start s c name) = withTable st (appended (st .table) (record { credential = c; kind = User; session = s; next = 5; name = name }))
+begins st (Continue s c name) = step st (Continue s c name)
+begins st (Elevate s c name verdict) = step st (Elevate s c name verdict)
+begins st (Drop s) = step st (Drop s)
+begins st (End s u keep) = step st (End s u keep)
+begins st (Record s claim class) = step st (Record s claim class)
+begins st (List′ s claim wanted room) = step st (List′ s claim wanted room)
+begins st (Kill s claim name) = step st (Kill s claim name)
+begins st (SetWord s claim c word) = step st (SetWord s claim c word)
+
+abbrev invented : Build
+invented = record { answers = number; leaves = begins }
+
+-- right after the start the next number is 5, and the history counts none
+pub invented-fails : Fails invented (started [])
+unfolding computed accepted counts ends shuts drops resumes after onward follow
+invented-fails d = let z : _≡_ {A = ℕ} 5 0 = each-at 0 freePlace (omega arith) (d .numbers) refl in absurd (omega arith)

@@ -1,0 +1,34 @@
+-- What the types of a call's parameters tell of it: "a name of 48 bytes", "a grant word of 32 bits". The calls that the entries make are such.
+use Prim.Native.Nat.{ℕ, _^_, _<_}
+use mathlib.Core.Path.{_≡_}
+use mathlib.Core.List.{List}
+use lib.ListN.{length}
+use Rattle.lists.specs.Each.{Each}
+use Rattle.names.specs.declared.Name.{Name}
+use Rattle.claims.specs.declared.Grants.{Grants}
+use Rattle.calls.specs.Calls.{Call, Open, Close, Drop, Select, Start, Continue, Elevate, End, Record, List′, Kill, SetWord}
+
+abbrev pub IsWhole : Name → Type 0
+IsWhole name = length (name .bytes) ≡ 48
+
+abbrev pub IsWord : ℕ → Type 0
+IsWord word = word < 256 ^ 4
+
+abbrev pub Fits : Call → Type 0
+Fits (Open s) = Unit {0}
+Fits (Close s) = Unit {0}
+Fits (Select s byte) = Unit {0}
+Fits (Start s c name) = IsWhole name
+Fits (Continue s c name) = IsWhole name
+Fits (Elevate s c name verdict) = IsWhole name
+Fits (Drop s) = Unit {0}
+Fits (End s u keep) = Unit {0}
+Fits (Record s claim class) = Unit {0}
+Fits (List′ s claim wanted room) = Unit {0}
+Fits (Kill s claim name) = IsWhole name
+Fits (SetWord s claim c word) = IsWord word
+
+-- "A fresh module is made from eight such pairs"
+pub record Eight (pairs : List Grants) : Type 0 where
+  pub many : length pairs ≡ 8
+  pub words : Each (λ g. IsWord (g .word)) pairs
