@@ -1,6 +1,6 @@
 -- "one that serves the first record and afterwards only answers falls to the next number, as does an invented number, by demand 3's history": of each such
 -- build, calls after which demand 3 is false of the history that they have with it and the state that it is left in. As edits of the code:
--- `first_record_only` in outcomes/must-fail, `number_not_tested` in claims/must-fail.
+-- `first_record_only` and `invented_next_number` in outcomes/must-fail, `number_not_tested` in claims/must-fail.
 -- Assumes nothing.
 use Prim.Native.Nat.{ℕ}
 use mathlib.Core.Path.{_≡_, refl}
@@ -9,12 +9,15 @@ use mathlib.Core.List.{List, [], _∷_, _++_}
 use native.Mathlib.Omega.{arith}
 use lib.Dec.{eqb, leb}
 use Rattle.lists.proofs.Each.{each-at}
-use Rattle.names.specs.declared.Kind.the-variants.{User}
 use Rattle.names.specs.declared.Credential.{Credential}
 use Rattle.names.specs.declared.Session.{Session}
-use Rattle.table.specs.Table.{freePlace, appended}
+use Rattle.table.specs.Table.{freePlace, processAt, replaced}
 use Rattle.table.specs.declared.Active.the-variants.{UserOf}
-use Rattle.claims.specs.Module.{activeProcess}
+use Rattle.table.specs.declared.Process.{Process}
+use Rattle.claims.specs.Module.{activePlace, activeProcess}
+use Rattle.claims.specs.declared.Claim.{Claim}
+use Rattle.claims.specs.declared.Claim.the-variants.{Elevated, ByUser}
+use Rattle.claims.specs.declared.Class.{Class}
 use Rattle.claims.specs.declared.State.{State}
 use Rattle.calls.specs.Calls.{Call, Open, Close, Drop, Select, Start, Continue, Elevate, End, Record, List′, Kill, SetWord, number, withTable, effect, fresh}
 use Rattle.calls.specs.Run.{step}
@@ -36,6 +39,21 @@ said build st (call ∷ calls) = record { call = call; answered = build .answers
 abbrev left : Build → State → List Call → State
 left build st [] = st
 left build st (call ∷ calls) = left build (build .leaves st call) calls
+
+-- one thing for a record, another for every other call
+abbrev onRecord : {A : Type 0} → (Session → Claim → Class → A) → A → Call → A
+onRecord f a (Open s) = a
+onRecord f a (Close s) = a
+onRecord f a (Select s byte) = a
+onRecord f a (Start s c name) = a
+onRecord f a (Continue s c name) = a
+onRecord f a (Elevate s c name verdict) = a
+onRecord f a (Drop s) = a
+onRecord f a (End s u keep) = a
+onRecord f a (Record s claim class) = f s claim class
+onRecord f a (List′ s claim wanted room) = a
+onRecord f a (Kill s claim name) = a
+onRecord f a (SetWord s claim c word) = a
 
 abbrev Fails : Build → List Call → Type 0
 Fails build calls = Demand3 nobody (said build (fresh pairs) calls) (left build (fresh pairs) calls) → ⊥
@@ -95,18 +113,7 @@ first-only-twice d = d .once P (sent-twice firstOnly (recorded 0 ∷ []) 1 (0 �
 
 -- ---- it does not ask for the number
 abbrev answersUntested : State → Call → ℕ
-answersUntested st (Open s) = number st (Open s)
-answersUntested st (Close s) = number st (Close s)
-answersUntested st (Select s byte) = number st (Select s byte)
-answersUntested st (Start s c name) = number st (Start s c name)
-answersUntested st (Continue s c name) = number st (Continue s c name)
-answersUntested st (Elevate s c name verdict) = number st (Elevate s c name verdict)
-answersUntested st (Drop s) = number st (Drop s)
-answersUntested st (End s u keep) = number st (End s u keep)
-answersUntested st (Record s claim class) = 0
-answersUntested st (List′ s claim wanted room) = number st (List′ s claim wanted room)
-answersUntested st (Kill s claim name) = number st (Kill s claim name)
-answersUntested st (SetWord s claim c word) = number st (SetWord s claim c word)
+answersUntested st call = onRecord (λ s claim class. 0) (number st call) call
 
 abbrev untested : Build
 untested = record { answers = answersUntested; leaves = λ st call. cond (eqb (answersUntested st call) 0) (effect st call) st }
@@ -116,25 +123,22 @@ pub untested-fails : Fails untested (started (recorded 7 ∷ recorded 7 ∷ []))
 unfolding computed accepted counts ends shuts drops resumes after onward follow sent-twice
 untested-fails d = d .once P (sent-twice untested [] 7 [] refl refl refl live-not-gone) refl
 
--- ---- a process begins at the number 5
-abbrev begins : State → Call → State
-begins st (Open s) = step st (Open s)
-begins st (Close s) = step st (Close s)
-begins st (Select s byte) = step st (Select s byte)
-begins st (Start s c name) = withTable st (appended (st .table) (record { credential = c; kind = User; session = s; next = 5; name = name }))
-begins st (Continue s c name) = step st (Continue s c name)
-begins st (Elevate s c name verdict) = step st (Elevate s c name verdict)
-begins st (Drop s) = step st (Drop s)
-begins st (End s u keep) = step st (End s u keep)
-begins st (Record s claim class) = step st (Record s claim class)
-begins st (List′ s claim wanted room) = step st (List′ s claim wanted room)
-begins st (Kill s claim name) = step st (Kill s claim name)
-begins st (SetWord s claim c word) = step st (SetWord s claim c word)
+-- ---- it invents the next number: 8 after each record
+abbrev inventing : State → Session → Claim → State
+inventing st s Elevated = st
+inventing st s (ByUser u) =
+    let at : ℕ = activePlace st (UserOf s (u .credential)) in
+    let p : Process = processAt (st .table) at in
+    withTable st (replaced (st .table) at (record { credential = p .credential; kind = p .kind; session = p .session; next = 8; name = p .name }))
 
 abbrev invented : Build
-invented = record { answers = number; leaves = begins }
+invented =
+    record {
+      answers = number;
+      leaves = λ st call. cond (eqb (number st call) 0) (onRecord (λ s claim class. inventing st s claim) (effect st call) call) st;
+    }
 
--- right after the start the next number is 5, and the history counts none
-pub invented-fails : Fails invented (started [])
+-- after one record the next number is 8, and the history counts 1
+pub invented-fails : Fails invented (started (recorded 0 ∷ []))
 unfolding computed accepted counts ends shuts drops resumes after onward follow
-invented-fails d = let z : _≡_ {A = ℕ} 5 0 = each-at 0 freePlace (omega arith) (d .numbers) refl in absurd (omega arith)
+invented-fails d = let z : _≡_ {A = ℕ} 8 1 = each-at 0 freePlace (omega arith) (d .numbers) refl in absurd (omega arith)
