@@ -42,10 +42,10 @@ help:
 	@echo "make bench    the record entry against ordinary Rust"
 	@echo "make clean    removes what these have built"
 
-# with line editing where rlwrap is there and somebody types
+# with line editing where rlwrap is there and somebody types, at a terminal that has a width
 run: own
 	@echo "building the console"
-	@$$([ -t 0 ] && command -v rlwrap) $(CARGO) slavotuk-console
+	@$$([ -t 0 ] && [ "$$(stty size)" != '0 0' ] && command -v rlwrap && echo -C slavotuk) $(CARGO) slavotuk-console
 
 lib: tools $(call lib-files,$(LIB),$(WITH_SHARED))
 
