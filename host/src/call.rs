@@ -5,7 +5,7 @@ use std::fmt;
 
 /// A call of one of the entries, with numbers that may be wrong: it is for the module to answer them. It can be read, kept, made again, changed and printed.
 ///
-/// Its fields are the entry's parameters after the state. What an entry writes to is a part of the call: before it is made, what stands there; afterwards,
+/// Each case is named after its entry, and its fields are the entry's parameters after the state. What an entry writes to is a part of the call: before it is made, what stands there; afterwards,
 /// what it has left there. `B` is the buffer of those that are slices.
 ///
 /// ```
@@ -28,26 +28,45 @@ use std::fmt;
 /// assert_eq!(call, Call::List { session: 0, claim, wanted: 65535, response: vec![0xaa; 4], length: 0 });
 /// ```
 #[derive(Clone, Debug, PartialEq, Eq)]
+// the fields have the parameters' names
 #[allow(missing_docs)]
 #[rustfmt::skip]
 pub enum Call<B = Vec<u8>> {
+    /// [`entries::fresh`].
     Fresh { provisioned: Vec<u8>, words: Vec<u32> },
+    /// [`entries::holds`].
     Holds,
+    /// [`entries::open`].
     Open { session: u32 },
+    /// [`entries::close`].
     Close { session: u32 },
+    /// [`entries::drop`].
     Drop { session: u32 },
+    /// [`entries::select`].
     Select { session: u32, version: u32 },
+    /// [`entries::start`].
     Start { session: u32, credential: u32, name: Vec<u8> },
+    /// [`entries::continue_saved`].
     Continue { session: u32, credential: u32, name: Vec<u8> },
+    /// [`entries::elevate`].
     Elevate { session: u32, credential: u32, name: Vec<u8>, verdict: u32 },
+    /// [`entries::end`].
     End { session: u32, credential: u32, number: u16, verdict: u32, keep: u32 },
+    /// [`entries::record`].
     Record { session: u32, claim: RawClaim, class: u32 },
+    /// [`entries::list`].
     List { session: u32, claim: RawClaim, wanted: u32, response: B, length: usize },
+    /// [`entries::kill`].
     Kill { session: u32, claim: RawClaim, name: Vec<u8> },
+    /// [`entries::set_word`].
     SetWord { session: u32, claim: RawClaim, target: u32, word: u32 },
+    /// [`entries::read_request`].
     ReadRequest { message: Vec<u8>, credential: u16 },
+    /// [`entries::write_request`].
     WriteRequest { buffer: B, credential: u16 },
+    /// [`entries::read_count`].
     ReadCount { message: Vec<u8>, count: u16 },
+    /// [`entries::read_row`].
     ReadRow { message: Vec<u8>, at: usize, credential: u16, kind: u8, name: B },
 }
 
