@@ -25,16 +25,16 @@ SONAME := libslavotuk.so.$(MAJOR)
 SHARED := libslavotuk.so.$(VERSION)
 
 # an archive for each kind of machine in a folder of its own. A shared object is linked by $(CC): for this machine, and for
-# another one where CC is given
+# another one where CC compiles for it
 LIB := build/lib-$(ARCH)
 OWN := build/lib-$(MACHINE)
-WITH_SHARED := $(or $(filter $(MACHINE),$(ARCH)),$(filter-out default,$(origin CC)))
+WITH_SHARED := $(or $(filter $(MACHINE),$(ARCH)),$(filter $(ARCH)-%,$(shell $(CC) -dumpmachine 2>/dev/null)))
 lib-files = $(1)/libslavotuk.a $(1)/slavotuk.h $(if $(2),$(1)/$(SHARED))
 
 help:
 	@echo "make run      proves and builds what the console needs, and starts it"
 	@echo "make lib      proves the module, and puts the archive, the shared object and slavotuk.h into $(LIB)"
-	@echo "              ARCH=x86_64 or ARCH=aarch64: the archive for that machine; with CC, its compiler, the shared object too"
+	@echo "              ARCH=x86_64 or ARCH=aarch64: the archive for that machine; with CC a compiler for it, the shared object too"
 	@echo "make install  the same into PREFIX ($(PREFIX)) with a file for pkg-config; DESTDIR goes before it"
 	@echo "make test     the proofs, the wrong builds and the hosts' tests; its last line is 'N passed, 0 failed'"
 	@echo "make soak     the compiled module against the model, until it is stopped; make soak TIME=600 for so many seconds"

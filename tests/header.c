@@ -1,7 +1,7 @@
 /*
  * Does the header say what the archive does? Each constant is tried at its bound and one past it, each of the sixteen numbers
- * is met, and every slice is handed in as null with length 0. Slices are allocated with just their length, so that valgrind sees a byte read or written past them.
- * Also compiled as C++. Exit code: 0 where all agree, else 1.
+ * is met, and every slice is handed in as null with length 0. Slices are allocated with just their length, so that valgrind
+ * sees a byte read or written past them. Also compiled as C++. Exit code: 0 where all agree, else 1.
  */
 #include <stdint.h>
 #include <stdio.h>
