@@ -88,33 +88,33 @@ impl Generator {
         if !module.sessions.contains(&Session::OpenWithVersion) && self.random.percent(60) {
             return self.entering(module);
         }
-        match self.random.weighted(&weights(self.style)) {
-            0 => self.wrong_fresh(),
-            1 => Call::Holds,
-            2 => {
+        match Call::ENTRIES[self.random.weighted(&weights(self.style))] {
+            "fresh" => self.wrong_fresh(),
+            "holds" => Call::Holds,
+            "open" => {
                 let session = self.session_in(module, Session::Closed);
                 Call::Open { session }
             }
-            3 => {
+            "close" => {
                 let session = self.session(module);
                 Call::Close { session }
             }
-            4 => {
+            "drop" => {
                 let session = self.elevated_session(module);
                 Call::Drop { session }
             }
-            5 => self.select(module),
-            6 => self.start(module),
-            7 => self.continue_saved(module),
-            8 => self.elevate(module),
-            9 => self.end(module),
-            10 => self.record(module),
-            11 => self.list(module),
-            12 => self.kill(module),
-            13 => self.set_word(module),
-            14 => self.read_request(),
-            15 => self.write_request(),
-            16 => self.read_count(),
+            "select" => self.select(module),
+            "start" => self.start(module),
+            "continue" => self.continue_saved(module),
+            "elevate" => self.elevate(module),
+            "end" => self.end(module),
+            "record" => self.record(module),
+            "list" => self.list(module),
+            "kill" => self.kill(module),
+            "set_word" => self.set_word(module),
+            "read_request" => self.read_request(),
+            "write_request" => self.write_request(),
+            "read_count" => self.read_count(),
             _ => self.read_row(),
         }
     }
