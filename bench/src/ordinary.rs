@@ -25,7 +25,7 @@ const SAVED: u8 = 2;
 /// The record call on a lent state.
 #[inline(never)]
 pub fn record(state: &mut [u8], session: u32, claim: RawClaim, class: u32) -> u32 {
-    if !holds_state(state) {
+    if !are_arguments(session, claim, class) || !holds_state(state) {
         return ARGUMENT;
     }
     match accepting_place(state, session, claim, class) {
@@ -53,24 +53,21 @@ fn holds_state(state: &[u8]) -> bool {
     }
     let (sessions, credentials) = state[..COUNT_AT].split_at(4);
     let (standing, free) = state[PLACES_AT..].split_at(count * PLACE_LENGTH);
-    sessions.iter().all(|&phase| phase <= 2)
+    are_zero(free)
+        && sessions.iter().all(|&phase| phase <= 2)
         && credentials
             .chunks_exact(CREDENTIAL_LENGTH)
             .all(is_credential)
         && standing
             .chunks_exact(PLACE_LENGTH)
             .all(|process| is_process(process) && is_owned(process, sessions, credentials))
-        && are_zero(free)
-        && all_apart(standing)
+        && are_seats_apart(standing)
+        && are_names_apart(standing)
 }
 
-/// The plain way leaves at the first byte that is not zero, and so reads one at a time. Where few processes stand most of the time goes here.
+/// With no exit, so that many bytes are read at a time.
 fn are_zero(bytes: &[u8]) -> bool {
-    if cfg!(feature = "without-exit") {
-        bytes.iter().fold(0, |all, &byte| all | byte) == 0
-    } else {
-        bytes.iter().all(|&byte| byte == 0)
-    }
+    bytes.iter().fold(0, |all, &byte| all | byte) == 0
 }
 
 fn is_credential(credential: &[u8]) -> bool {
@@ -99,37 +96,52 @@ fn is_owned(process: &[u8], sessions: &[u8], credentials: &[u8]) -> bool {
         && (process[TYPE_AT] == SAVED || sessions[session] == 2)
 }
 
-fn all_apart(standing: &[u8]) -> bool {
+fn are_seats_apart(standing: &[u8]) -> bool {
+    let mut taken = 0;
+    for process in standing.chunks_exact(PLACE_LENGTH) {
+        let seat = seat_bit(process);
+        if taken & seat != 0 {
+            return false;
+        }
+        taken |= seat;
+    }
+    true
+}
+
+/// One bit for each session and credential, one for each session's elevation, and none for a saved process.
+fn seat_bit(process: &[u8]) -> u64 {
+    let session = process[SESSION_AT];
+    match process[TYPE_AT] {
+        USER => 1 << (session * 8 + process[CREDENTIAL_AT]),
+        ELEVATION => 1 << (32 + session),
+        _ => 0,
+    }
+}
+
+fn are_names_apart(standing: &[u8]) -> bool {
     let mut processes = standing.chunks_exact(PLACE_LENGTH);
     while let Some(one) = processes.next() {
-        if processes.clone().any(|other| !are_apart(one, other)) {
+        if processes.clone().any(|other| same_name(one, other)) {
             return false;
         }
     }
     true
 }
 
-fn are_apart(one: &[u8], other: &[u8]) -> bool {
-    !are_rivals(one, other) && one[NAME_AT..] != other[NAME_AT..]
+/// By three words of 16 bytes: `==` on the slices calls `bcmp`, which takes twice as long.
+fn same_name(one: &[u8], other: &[u8]) -> bool {
+    let differ = |at| word(one, at) ^ word(other, at);
+    differ(NAME_AT) | differ(NAME_AT + 16) | differ(NAME_AT + 32) == 0
 }
 
-fn are_rivals(one: &[u8], other: &[u8]) -> bool {
-    one[TYPE_AT] == other[TYPE_AT]
-        && one[SESSION_AT] == other[SESSION_AT]
-        && match one[TYPE_AT] {
-            USER => one[CREDENTIAL_AT] == other[CREDENTIAL_AT],
-            ELEVATION => true,
-            _ => false,
-        }
+fn word(process: &[u8], at: usize) -> u128 {
+    u128::from_le_bytes(std::array::from_fn(|byte| process[at + byte]))
 }
 
-// ---- the checks of a record, on a slice that holds a state
+// ---- the checks of a record whose arguments are in order, on a slice that holds a state
 
 /// The place of the process under which a record is accepted, or the number of its refusal.
 fn accepting_place(state: &[u8], session: u32, claim: RawClaim, class: u32) -> Result<usize, u32> {
-    if !are_arguments(session, claim, class) {
-        return Err(ARGUMENT);
-    }
     match state[session as usize] {
         0 => return Err(SESSION),
         1 => return Err(NO_VERSION),

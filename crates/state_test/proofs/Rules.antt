@@ -1,6 +1,6 @@
 -- The laws that close the needs of this crate's functions by `search rules`: each premise is as a place's record has it.
 -- Assumes nothing.
-use Prim.Native.Nat.{ℕ, zero, suc, _+_, _-_, _*_, _<_, _≤_, _%_}
+use Prim.Native.Nat.{ℕ, zero, suc, _+_, _-_, _*_, _/_, _<_, _≤_, _%_}
 use mathlib.Core.Path.{_≡_, refl, sym, ap, _∙_}
 use mathlib.Core.Bool.{Bool, true, false, _&&_, _||_, not}
 use mathlib.Core.List.{List, [], _∷_, _++_, map}
@@ -19,7 +19,7 @@ use Rattle.lists.specs.Each.{Each, each-nil, each-cons}
 use Rattle.lists.proofs.Tests.{split, clash, and-left, and-right, and-both}
 use Rattle.codec.specs.Codec.{rows, every, pairwise, isZero, Widened}
 use Rattle.codec.proofs.Codec.{rows-length, rows-take, map-take, map-drop, row-at, each-imp}
-use Rattle.codec.proofs.Loops.{RowsTo, rows-begin, rows-on, rows-fail, rows-all, RecordsTo, records-begin, records-on, records-fail, records-all, zero-begin, zero-on, zero-all, or-zero, map-part, and-assoc, and-true, and-false, paired-begin, paired-on, paired-fail, paired-all}
+use Rattle.codec.proofs.Loops.{RowsTo, rows-begin, rows-on, rows-fail, rows-all, RecordsTo, records-begin, records-on, records-fail, records-all, or-zero, map-part, and-assoc, and-true, and-false, paired-begin, paired-on, paired-fail, paired-all}
 use Rattle.names.specs.Names.{sameBytes, sameName, kindOf}
 use Rattle.names.proofs.Laws.{same-iff}
 use Rattle.names.specs.declared.Kind.the-variants.{Saved}
@@ -28,9 +28,88 @@ use Rattle.table.specs.declared.Process.{Process}
 use Rattle.claims.specs.Module.{closedSession, unprovisioned, provisioned, phaseOf, isChosen}
 use Rattle.claims.specs.declared.Grants.{Grants}
 use Rattle.layout.specs.Layout.{phaseNumbered, sessionOf, sessionFits, grantsOf, grantsFit, keptZero, processOf, processFits, countIn, placesIn, stateOf, isOwned, areRivals, areApart, sound, shaped, holdsState}
+use Rattle.state_test.specs.Stands.{stands}
 use Rattle.state_test.specs.Marks.{folded, nameMark, seatNumbered, seatMark, Mark, laterApart, Met, AllMet}
 use Rattle.layout.proofs.Laws.{state-in}
 use Rattle.layout.proofs.Parts.{grants-part, place-part, next-in}
+
+-- ---- tests in another order
+twice : (a b c : Bool) → ((a && b) && (a && c)) ≡ (a && (b && c))
+twice true b c = refl
+twice false b c = refl
+
+by-halves : (d x t y r : Bool) → (d && ((x && t) && (y && r))) ≡ ((d && x) && y && (t && r))
+by-halves true true t true r = refl
+by-halves true true t false r = and-false t
+by-halves true false t y r = refl
+by-halves false x t y r = refl
+
+-- ---- zero bytes, those of the first half with those of the second
+module _ {A : Type 0} (f : A → Bool) where
+  every-front : (a : ℕ) (x : List A) → (every f (take a x) && every f x) ≡ every f x
+  unfolding every
+  every-front zero x = refl
+  every-front (suc a) [] = refl
+  every-front (suc a) (y ∷ x) = twice (f y) (every f (take a x)) (every f x) ∙ ap (λ (b : Bool). f y && b) (every-front a x)
+
+  -- a front and a rest that leave nothing out
+  every-covered : (a b : ℕ) (x : List A) → b ≤ a → every f x ≡ (every f (take a x) && every f (drop b x))
+  unfolding every
+  every-covered a zero x h = sym (every-front a x)
+  every-covered zero (suc b) x h = absurd (omega arith)
+  every-covered (suc a) (suc b) [] h = refl
+  every-covered (suc a) (suc b) (y ∷ x) h =
+      ap (λ (t : Bool). f y && t) (every-covered a b x (omega arith)) ∙ sym (and-assoc (f y) (every f (take a x)) (every f (drop b x)))
+
+pub record Halved (s : List ℕ) (from half second d i : ℕ) : Type 0 where
+  pub low : i ≤ half
+  pub first : from + half ≤ length s
+  pub end : second + half ≡ length s
+  pub rest : every isZero (drop from s) ≡ (isZero d && (every isZero (take (half - i) (drop (from + i) s)) && every isZero (drop (second + i) s)))
+
+pub halved-begin : (s : List ℕ) (from : ℕ) → from ≤ length s → Halved s from (length s - from - (length s - from) / 2) (length s - (length s - from - (length s - from) / 2)) 0 0
+halved-begin s from h =
+    let n : ℕ = length s - from in
+    let half : ℕ = n - n / 2 in
+    let all : half - 0 ≡ half = omega arith in
+    let e : length s - half + 0 ≡ from + n / 2 = omega arith in
+    let k : n / 2 ≤ half = omega arith in
+    record {
+      low = omega arith;
+      first = omega arith;
+      end = omega arith;
+      rest = rw (add-zero, all, e, ← drop-drop (n / 2) from s) (every-covered isZero half (n / 2) (drop from s) k);
+    }
+
+pub halved-on : {s : List ℕ} {from half second d i : ℕ} → Halved s from half second d i → i < half → Halved s from half second (bitOr (bitOr d (getD s (from + i) 0)) (getD s (second + i) 0)) (i + 1)
+unfolding every
+halved-on {s} {from} {half} {second} {d} {i} v h =
+    let x : ℕ = getD s (from + i) 0 in
+    let y : ℕ = getD s (second + i) 0 in
+    let p : from + i < length s = omega (arith, v .first) in
+    let q : second + i < length s = omega (arith, v .end) in
+    let l : half - i ≡ suc (half - (i + 1)) = omega arith in
+    let m : suc (from + i) ≡ from + (i + 1) = omega arith in
+    let n : suc (second + i) ≡ second + (i + 1) = omega arith in
+    let t : every isZero (take (half - i) (drop (from + i) s)) ≡ (isZero x && every isZero (take (half - (i + 1)) (drop (from + (i + 1)) s))) = rw (l, drop-cons s (from + i) 0 p, m) in
+    let r : every isZero (drop (second + i) s) ≡ (isZero y && every isZero (drop (second + (i + 1)) s)) =
+    ap (every isZero) (drop-cons s (second + i) 0 q) ∙ ap (λ (j : ℕ). isZero y && every isZero (drop j s)) n
+    in
+    record {
+      low = omega arith;
+      first = v .first;
+      end = v .end;
+      rest =
+          v .rest
+          ∙ rw (t, r, or-zero (bitOr d x) y, or-zero d x) (by-halves (isZero d) (isZero x) (every isZero (take (half - (i + 1)) (drop (from + (i + 1)) s))) (isZero y) (every isZero (drop (second + (i + 1)) s)));
+    }
+
+pub halved-all : {s : List ℕ} {from half second d i : ℕ} → Halved s from half second d i → half ≤ i → eqb d 0 ≡ every isZero (drop from s)
+unfolding every
+halved-all {s} {from} {half} {second} {d} {i} v h =
+    let e : half - i ≡ 0 = omega arith in
+    let l : length s ≤ second + i = omega (arith, v .end) in
+    sym (v .rest ∙ rw (e, drop-of-length-le s l) (and-true (isZero d)))
 
 -- ---- a credential's row
 module _ (x : List ℕ) where
@@ -510,12 +589,27 @@ module _ {s : List ℕ} {i : ℕ} (v : RowsTo sessionFits 4 1 0 s i) (h : i < 4)
 pub session-all : {s : List ℕ} {i : ℕ} → RowsTo sessionFits 4 1 0 s i → 4 ≤ i → true ≡ every sessionFits (rows 4 1 s)
 session-all v h = rows-all v h
 
--- every record: from the first on
-pub owned-fail : {f : Process → Bool} {n : ℕ} {s : List ℕ} {i : ℕ} {b : Bool} → RecordsTo f processOf n 53 45 s 0 i → i < n → b ≡ f (processOf (take (45 + i * 53 + 53 - (45 + i * 53)) (drop (45 + i * 53) s))) → not b ≡ true → false ≡ every f (map processOf (rows n 53 (drop 45 s)))
-owned-fail v h e q = records-fail v h e q
+-- each place by itself
+module _ (s x : List ℕ) {p : Bool} (e : p ≡ processFits x) where
+  pub stands-out : not p ≡ true → false ≡ stands s x
+  unfolding stands
+  stands-out t = rw (← e, not-true p t)
 
-pub owned-all : {f : Process → Bool} {n : ℕ} {s : List ℕ} {i : ℕ} → RecordsTo f processOf n 53 45 s 0 i → n ≤ i → true ≡ every f (map processOf (rows n 53 (drop 45 s)))
-owned-all v h = records-all v h
+  pub stands-owned : not p ≡ false → {q : Bool} → q ≡ isOwned (stateOf s) (processOf x) → q ≡ stands s x
+  unfolding stands
+  stands-owned t f = f ∙ rw (← e, not-false p t)
+
+interchange : (a b c d : Bool) → ((a && b) && (c && d)) ≡ ((a && c) && (b && d))
+interchange true b true d = refl
+interchange true b false d = and-false b
+interchange false b c d = refl
+
+stand-both : (s : List ℕ) (l : List (List ℕ)) → every (stands s) l ≡ (every processFits l && every (isOwned (stateOf s)) (map processOf l))
+unfolding every stands
+stand-both s [] = refl
+stand-both s (x ∷ l) =
+    ap (λ (b : Bool). stands s x && b) (stand-both s l)
+    ∙ interchange (processFits x) (isOwned (stateOf s) (processOf x)) (every processFits l) (every (isOwned (stateOf s)) (map processOf l))
 
 -- the place at i with the later ones
 pub apart-begin : {f : Process → Bool} (n : ℕ) (s : List ℕ) (i : ℕ) → i < n → RecordsTo f processOf n 53 45 s (i + 1) (i + 1)
@@ -531,10 +625,26 @@ module _ {n : ℕ} {s : List ℕ} {i a j : ℕ} {b : Bool} (v : RecordsTo (areAp
   pub apart-fail : not b ≡ true → false ≡ every (areApart (getD (map processOf (rows n 53 (drop 45 s))) i freePlace)) (drop a (map processOf (rows n 53 (drop 45 s))))
   apart-fail q = records-fail v h with-first q
 
--- ---- all together: the first test that fails, and the last
+-- ---- all together, the cheapest tests first: the first that fails, and the last
+in-order : (s g p z o a : Bool) → (s && (g && (p && z)) && (o && a)) ≡ (z && (s && (g && (p && o && a))))
+in-order true true true true o a = refl
+in-order true true true false o a = refl
+in-order true true false true o a = refl
+in-order true true false false o a = refl
+in-order true false p true o a = refl
+in-order true false p false o a = refl
+in-order false g p true o a = refl
+in-order false g p false o a = refl
+
 pub holds-short : (b : List ℕ) → (length b ≡ 681 → ⊥) → false ≡ holdsState b
 unfolding holdsState shaped
 holds-short b n = rw (ne-eqb (length b) 681 n)
+
+few-apart : {A : Type 0} (f : A → A → Bool) (l : List A) → length l < 2 → pairwise f l ≡ true
+unfolding pairwise every
+few-apart f [] h = refl
+few-apart f (x ∷ []) h = refl
+few-apart f (x ∷ (y ∷ l)) h = absurd (omega arith)
 
 module _ (b : List ℕ) (h : length b ≡ 681) {n : ℕ} (w : Widened (getD b 44 0) n) where
   pub holds-many : 12 < n → false ≡ holdsState b
@@ -543,32 +653,44 @@ module _ (b : List ℕ) (h : length b ≡ 681) {n : ℕ} (w : Widened (getD b 44
       rw (eq-eqb (length b) 681 h, ← w .is, lt-leb n 12 k, and-false (every grantsFit (rows 8 5 (drop 4 b))), and-false (every sessionFits (rows 4 1 b)))
 
   module _ (k : n ≤ 12) where
-    tests : holdsState b ≡ (every sessionFits (rows 4 1 b) && (every grantsFit (rows 8 5 (drop 4 b)) && (every processFits (rows n 53 (drop 45 b)) && (every isZero (drop (45 + n * 53) b) && (every (isOwned (stateOf b)) (map processOf (rows n 53 (drop 45 b))) && pairwise areApart (map processOf (rows n 53 (drop 45 b))))))))
+    as-written : holdsState b ≡ (every sessionFits (rows 4 1 b) && (every grantsFit (rows 8 5 (drop 4 b)) && (every processFits (rows n 53 (drop 45 b)) && every isZero (drop (45 + n * 53) b))) && (every (isOwned (stateOf b)) (map processOf (rows n 53 (drop 45 b))) && pairwise areApart (map processOf (rows n 53 (drop 45 b)))))
     unfolding holdsState shaped countIn sound standing placesIn
+    as-written =
+        rw (state-in b h, eq-eqb (length b) 681 h, ← w .is, le-leb n 12 k, map-take processOf n (rows 12 53 (drop 45 b)), rows-take n 12 53 (drop 45 b) k)
+
+    tests : holdsState b ≡ (every isZero (drop (45 + n * 53) b) && (every sessionFits (rows 4 1 b) && (every grantsFit (rows 8 5 (drop 4 b)) && (every (stands b) (rows n 53 (drop 45 b)) && pairwise areApart (map processOf (rows n 53 (drop 45 b)))))))
     tests =
-        rw (state-in b h, eq-eqb (length b) 681 h, ← w .is, le-leb n 12 k, map-take processOf n (rows 12 53 (drop 45 b)), rows-take n 12 53 (drop 45 b) k) (simp and-assoc)
+        as-written
+        ∙ in-order (every sessionFits (rows 4 1 b)) (every grantsFit (rows 8 5 (drop 4 b))) (every processFits (rows n 53 (drop 45 b))) (every isZero (drop (45 + n * 53) b)) (every (isOwned (stateOf b)) (map processOf (rows n 53 (drop 45 b)))) (pairwise areApart (map processOf (rows n 53 (drop 45 b))))
+        ∙ rw (stand-both b (rows n 53 (drop 45 b)))
 
-    module _ {p : Bool} (e : p ≡ every sessionFits (rows 4 1 b)) where
-      pub holds-sessions : not p ≡ true → false ≡ holdsState b
-      holds-sessions t = sym (tests ∙ rw (← e, not-true p t))
+    module _ {z : Bool} (i : z ≡ every isZero (drop (45 + n * 53) b)) where
+      pub holds-free : not z ≡ true → false ≡ holdsState b
+      holds-free y = sym (tests ∙ rw (← i, not-true z y))
 
-      module _ (t : not p ≡ false) {q : Bool} (f : q ≡ every grantsFit (rows 8 5 (drop 4 b))) where
-        pub holds-credentials : not q ≡ true → false ≡ holdsState b
-        holds-credentials u = sym (tests ∙ rw (← e, not-false p t, ← f, not-true q u))
+      module _ (y : not z ≡ false) {p : Bool} (e : p ≡ every sessionFits (rows 4 1 b)) where
+        pub holds-sessions : not p ≡ true → false ≡ holdsState b
+        holds-sessions t = sym (tests ∙ rw (← i, not-false z y, ← e, not-true p t))
 
-        module _ (u : not q ≡ false) {r : Bool} (g : r ≡ every processFits (rows n 53 (drop 45 b))) where
-          pub holds-places : not r ≡ true → false ≡ holdsState b
-          holds-places x = sym (tests ∙ rw (← e, not-false p t, ← f, not-false q u, ← g, not-true r x))
+        module _ (t : not p ≡ false) {q : Bool} (f : q ≡ every grantsFit (rows 8 5 (drop 4 b))) where
+          pub holds-credentials : not q ≡ true → false ≡ holdsState b
+          holds-credentials u = sym (tests ∙ rw (← i, not-false z y, ← e, not-false p t, ← f, not-true q u))
 
-          module _ (x : not r ≡ false) {z : Bool} (i : z ≡ every isZero (drop (45 + n * 53) b)) where
-            pub holds-free : not z ≡ true → false ≡ holdsState b
-            holds-free y = sym (tests ∙ rw (← e, not-false p t, ← f, not-false q u, ← g, not-false r x, ← i, not-true z y))
+          module _ (u : not q ≡ false) {r : Bool} (g : r ≡ every (stands b) (rows n 53 (drop 45 b))) where
+            pub holds-places : not r ≡ true → false ≡ holdsState b
+            holds-places x = sym (tests ∙ rw (← i, not-false z y, ← e, not-false p t, ← f, not-false q u, ← g, not-true r x))
 
-            module _ (y : not z ≡ false) {o : Bool} (j : o ≡ every (isOwned (stateOf b)) (map processOf (rows n 53 (drop 45 b)))) where
-              pub holds-owners : not o ≡ true → false ≡ holdsState b
-              holds-owners l = sym (tests ∙ rw (← e, not-false p t, ← f, not-false q u, ← g, not-false r x, ← i, not-false z y, ← j, not-true o l))
+            last : not r ≡ false → pairwise areApart (map processOf (rows n 53 (drop 45 b))) ≡ holdsState b
+            last x = sym (tests ∙ rw (← i, not-false z y, ← e, not-false p t, ← f, not-false q u, ← g, not-false r x))
 
-              pub holds-pairs : not o ≡ false → {a : Bool} → a ≡ pairwise areApart (map processOf (rows n 53 (drop 45 b))) → a ≡ holdsState b
-              holds-pairs l m = m ∙ sym (tests ∙ rw (← e, not-false p t, ← f, not-false q u, ← g, not-false r x, ← i, not-false z y, ← j, not-false o l))
+            pub holds-few : not r ≡ false → n < 2 → true ≡ holdsState b
+            holds-few x l =
+                let m : length (map processOf (rows n 53 (drop 45 b))) < 2 = rw (length-map, rows-length) l in
+                sym (few-apart areApart (map processOf (rows n 53 (drop 45 b))) m) ∙ last x
 
-pub ruleset rules = (needs, length-mapped, grants-high, grants-on, grants-off, process-credential, process-type, process-session, process-user, process-elevation, process-saved, same-begin, same-all, name-first, name-second, name-third, rivals-elsewhere, rivals-other, rivals-users, rivals-last, apart-rivals, apart-name, owner-none, owner-not, owner-saved, owner-nowhere, owner-there, grants-part, place-part, session-on, session-fail, session-all, owned-fail, owned-all, apart-begin, apart-on, apart-fail, holds-short, holds-many, holds-sessions, holds-credentials, holds-places, holds-free, holds-owners, holds-pairs, zero-begin, zero-on, zero-all, rows-begin, rows-on, rows-fail, rows-all, records-begin, records-on, records-all, paired-begin, paired-on, paired-fail, paired-all, folded-begin, folded-on, folded-all, seat-user, seat-elevation, seat-saved, marks-begin, marks-on, marks-all, met-at, clear-none)
+            pub holds-pairs : not r ≡ false → {a : Bool} → a ≡ pairwise areApart (map processOf (rows n 53 (drop 45 (take (length b - 0) (drop 0 b))))) → a ≡ holdsState b
+            holds-pairs x m =
+                let all : take (length b - 0) b ≡ b = take-all (length b - 0) b (omega arith) in
+                m ∙ ap (λ (l : List ℕ). pairwise areApart (map processOf (rows n 53 (drop 45 l)))) all ∙ last x
+
+pub ruleset rules = (needs, length-mapped, grants-high, grants-on, grants-off, process-credential, process-type, process-session, process-user, process-elevation, process-saved, same-begin, same-all, name-first, name-second, name-third, rivals-elsewhere, rivals-other, rivals-users, rivals-last, apart-rivals, apart-name, owner-none, owner-not, owner-saved, owner-nowhere, owner-there, grants-part, place-part, session-on, session-fail, session-all, stands-out, stands-owned, apart-begin, apart-on, apart-fail, holds-short, holds-many, holds-free, holds-sessions, holds-credentials, holds-places, holds-pairs, holds-few, halved-begin, halved-on, halved-all, rows-begin, rows-on, rows-fail, rows-all, records-begin, records-on, records-all, paired-begin, paired-on, paired-fail, paired-all, folded-begin, folded-on, folded-all, seat-user, seat-elevation, seat-saved, marks-begin, marks-on, marks-all, met-at, clear-none)

@@ -7,18 +7,23 @@ ghost use Rattle.codec.specs.Codec.{rows, every, pairwise, isZero};
 ghost use Rattle.names.specs.Names.{sameBytes};
 ghost use Rattle.layout.specs.Layout.{sessionFits, grantsFit, processOf, processFits, stateOf, isOwned, areRivals, areApart, holdsState};
 ghost use Rattle.state_test.specs.Marks.{nameMark, seatMark, Mark, laterApart, Met, AllMet};
+ghost use Rattle.state_test.specs.Stands.{stands};
 
 // ---- bytes
 
-// Whether every byte from an index on is zero. There is no exit, so that many are read at a time.
+// Whether every byte from an index on is zero. There is no exit, so that many are read at a time: those of the first half with those of the
+// second. The halves share a byte where the bytes are odd in number.
 fn zero_from(s: &[u8], from: usize) -> bool
     requires { ⌜ from ≤ length (now s) ⌝ }
     ensures { λ r. ⌜ r ≡ every isZero (drop from (now (s .entry))) ⌝ }
 {
+    let count = s.len() - from;
+    let half = count - count / 2;
+    let second = s.len() - half;
     let mut d: u8 = 0;
-    let mut i = from;
-    while i < s.len() {
-        d = d | s[i];
+    let mut i: usize = 0;
+    while i < half {
+        d = d | s[from + i] | s[second + i];
         i += 1;
     }
     d == 0
@@ -112,23 +117,6 @@ fn process_fits(row: &[u8]) -> bool
     session == 0
 }
 
-fn places_fit(s: &[u8], n: usize) -> bool
-    requires { ⌜ length (now s) ≡ 681 ⌝ }
-    requires { ⌜ n ≤ 12 ⌝ }
-    ensures { λ r. ⌜ r ≡ every processFits (rows n 53 (drop 45 (now (s .entry)))) ⌝ }
-{
-    let mut i: usize = 0;
-    while i < n {
-        let a = 45 + i * 53;
-        let e = a + 53;
-        if !process_fits(&s[a..e]) {
-            return false;
-        }
-        i += 1;
-    }
-    true
-}
-
 // ---- owners and sessions
 
 // Whether the owner of a place is provisioned, and its session open with version 1.0 where it is active.
@@ -155,16 +143,28 @@ fn is_owned<'a>(s: &'a [u8], row: &'a [u8]) -> bool
     s[session] == 2
 }
 
-fn all_owned(s: &[u8], n: usize) -> bool
+// Whether a place may stand by itself: its fields in their ranges, its owner and its session as they must be.
+fn stands<'a>(s: &'a [u8], row: &'a [u8]) -> bool
+    requires { ⌜ length (now s) ≡ 681 ⌝ }
+    requires { ⌜ length (now row) ≡ 53 ⌝ }
+    ensures { λ r. ⌜ r ≡ stands (now (s .entry)) (now (row .entry)) ⌝ }
+{
+    if !process_fits(row) {
+        return false;
+    }
+    is_owned(s, row)
+}
+
+fn all_stand(s: &[u8], n: usize) -> bool
     requires { ⌜ length (now s) ≡ 681 ⌝ }
     requires { ⌜ n ≤ 12 ⌝ }
-    ensures { λ r. ⌜ r ≡ every (isOwned (stateOf (now (s .entry)))) (map processOf (rows n 53 (drop 45 (now (s .entry))))) ⌝ }
+    ensures { λ r. ⌜ r ≡ every (stands (now (s .entry))) (rows n 53 (drop 45 (now (s .entry)))) ⌝ }
 {
     let mut i: usize = 0;
     while i < n {
         let a = 45 + i * 53;
         let e = a + 53;
-        if !is_owned(s, &s[a..e]) {
+        if !stands(s, &s[a..e]) {
             return false;
         }
         i += 1;
@@ -332,7 +332,8 @@ fn all_apart(s: &[u8], n: usize) -> bool
 
 // ---- the whole
 
-// Whether a slice holds a state.
+// Whether a slice holds a state. The last test is lent a part, though it is the whole: a slice that is lent on as it came stays in memory, from
+// where each call would read it back.
 pub fn holds(s: &[u8]) -> bool
     ensures { λ r. ⌜ r ≡ holdsState (now (s .entry)) ⌝ }
 {
@@ -343,20 +344,20 @@ pub fn holds(s: &[u8]) -> bool
     if 12 < n {
         return false;
     }
+    if !zero_from(s, 45 + n * 53) {
+        return false;
+    }
     if !sessions_fit(s) {
         return false;
     }
     if !credentials_fit(s) {
         return false;
     }
-    if !places_fit(s, n) {
+    if !all_stand(s, n) {
         return false;
     }
-    if !zero_from(s, 45 + n * 53) {
-        return false;
+    if n < 2 {
+        return true;
     }
-    if !all_owned(s, n) {
-        return false;
-    }
-    all_apart(s, n)
+    all_apart(&s[0..], n)
 }

@@ -14,24 +14,6 @@ wide-requires c κs = search rules
 returns-2 : tie.Need-returns-2
 returns-2 c = search rules
 
-sessions-fit-requires : tie.Need-sessions-fit-requires
-sessions-fit-requires c κs = search rules
-
-returns-3 : tie.Need-returns-3
-returns-3 c = search rules
-
-credentials-fit-requires : tie.Need-credentials-fit-requires
-credentials-fit-requires c κs = search rules
-
-returns-4 : tie.Need-returns-4
-returns-4 c = search rules
-
-places-fit-requires : tie.Need-places-fit-requires
-places-fit-requires c κs = search rules
-
-returns-5 : tie.Need-returns-5
-returns-5 c = search rules
-
 mul-zero-from : tie.Need-mul-zero-from
 mul-zero-from c = search rules
 
@@ -41,14 +23,38 @@ add-zero-from c = search rules
 zero-from-requires : tie.Need-zero-from-requires
 zero-from-requires c κs = search rules
 
+returns-3 : tie.Need-returns-3
+returns-3 c = search rules
+
+sessions-fit-requires : tie.Need-sessions-fit-requires
+sessions-fit-requires c κs = search rules
+
+returns-4 : tie.Need-returns-4
+returns-4 c = search rules
+
+credentials-fit-requires : tie.Need-credentials-fit-requires
+credentials-fit-requires c κs = search rules
+
+returns-5 : tie.Need-returns-5
+returns-5 c = search rules
+
+all-stand-requires : tie.Need-all-stand-requires
+all-stand-requires c κs = search rules
+
 returns-6 : tie.Need-returns-6
 returns-6 c = search rules
 
-all-owned-requires : tie.Need-all-owned-requires
-all-owned-requires c κs = search rules
-
 returns-7 : tie.Need-returns-7
 returns-7 c = search rules
+
+sub-all-apart : tie.Need-sub-all-apart
+sub-all-apart c = search rules
+
+part-all-apart-start : tie.Need-part-all-apart-start
+part-all-apart-start c = search rules
+
+part-all-apart-end : tie.Need-part-all-apart-end
+part-all-apart-end c = search rules
 
 all-apart-requires : tie.Need-all-apart-requires
 all-apart-requires c κs = search rules
@@ -64,17 +70,19 @@ holds-spec =
     shared-slice-read-wide
     wide-requires
     returns-2
-    sessions-fit-requires
-    returns-3
-    credentials-fit-requires
-    returns-4
-    places-fit-requires
-    returns-5
     mul-zero-from
     add-zero-from
     zero-from-requires
+    returns-3
+    sessions-fit-requires
+    returns-4
+    credentials-fit-requires
+    returns-5
+    all-stand-requires
     returns-6
-    all-owned-requires
     returns-7
+    sub-all-apart
+    part-all-apart-start
+    part-all-apart-end
     all-apart-requires
     returns-8)

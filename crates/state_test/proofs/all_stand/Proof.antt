@@ -1,12 +1,12 @@
-use Rattle.layout.specs.Layout.{processFits}
-use Rattle.codec.proofs.Loops.{RowsTo}
 use Prim.Native.Nat.{_-_}
+use Rattle.codec.proofs.Loops.{RowsTo}
+use Rattle.state_test.specs.Stands.{stands}
 use Rattle.state_test.proofs.Rules.{rules}
-use Rattle.state_test.proofs.places_fit.Statement.{statement}
-use Rattle.state_test.proofs.places_fit.Tie as tie
+use Rattle.state_test.proofs.all_stand.Statement.{statement}
+use Rattle.state_test.proofs.all_stand.Tie as tie
 
 abbrev Inv-loop : tie.InvT-loop
-Inv-loop s n i₀ i = RowsTo processFits n 53 45 s i
+Inv-loop s n i₀ i = RowsTo (stands s) n 53 45 s i
 
 abbrev μ-loop : tie.MeasureT-loop
 μ-loop s n i₀ i = n - i
@@ -23,17 +23,17 @@ add-a c = search rules
 add-e : tie.Need-add-e Inv-loop μ-loop
 add-e c = search rules
 
-sub-process-fits : tie.Need-sub-process-fits Inv-loop μ-loop
-sub-process-fits c = search rules
+sub-stands : tie.Need-sub-stands Inv-loop μ-loop
+sub-stands c = search rules
 
-part-process-fits-start : tie.Need-part-process-fits-start Inv-loop μ-loop
-part-process-fits-start c = search rules
+part-stands-start : tie.Need-part-stands-start Inv-loop μ-loop
+part-stands-start c = search rules
 
-part-process-fits-end : tie.Need-part-process-fits-end Inv-loop μ-loop
-part-process-fits-end c = search rules
+part-stands-end : tie.Need-part-stands-end Inv-loop μ-loop
+part-stands-end c = search rules
 
-process-fits-requires : tie.Need-process-fits-requires Inv-loop μ-loop
-process-fits-requires c κs = search rules
+stands-requires : tie.Need-stands-requires Inv-loop μ-loop
+stands-requires c κs = search rules
 
 returns : tie.Need-returns Inv-loop μ-loop
 returns c = search rules
@@ -50,8 +50,8 @@ loop-again c = search rules
 returns-2 : tie.Need-returns-2 Inv-loop μ-loop
 returns-2 c = search rules
 
-pub places-fit-spec : {M : Type 1} → statement M
-places-fit-spec =
+pub all-stand-spec : {M : Type 1} → statement M
+all-stand-spec =
     tie.close
     (tie.spec
     Inv-loop
@@ -60,10 +60,10 @@ places-fit-spec =
     mul-a
     add-a
     add-e
-    sub-process-fits
-    part-process-fits-start
-    part-process-fits-end
-    process-fits-requires
+    sub-stands
+    part-stands-start
+    part-stands-end
+    stands-requires
     returns
     add-i
     loop-less
