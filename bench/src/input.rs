@@ -27,8 +27,8 @@ const REFUSALS: [u32; 8] = [
 const WITHOUT_VERSION: u32 = 2;
 const CLOSED: u32 = 3;
 const UNPROVISIONED: u32 = 7;
-/// Classes 2, 4, 6 and so on to 30.
-const WORD: u32 = 0x5555_5554;
+/// Classes 0, 2, 4 and so on to 30.
+const WORD: u32 = 0x5555_5555;
 
 /// How many processes stand.
 #[derive(Clone, Copy, PartialEq, Eq)]
@@ -80,15 +80,10 @@ impl Standing {
         }
     }
 
-    /// The active user processes: session and credential.
-    fn active_users(self) -> Vec<(u32, u32)> {
+    fn count(self) -> usize {
         match self {
-            Standing::Twelve => {
-                let in_session_0 = (0..6).map(|credential| (0, credential));
-                let in_session_1 = (0..4).map(|credential| (1, credential));
-                in_session_0.chain(in_session_1).collect()
-            }
-            Standing::One => vec![(0, 0)],
+            Standing::Twelve => 12,
+            Standing::One => 1,
         }
     }
 }
@@ -132,13 +127,14 @@ impl Input {
     /// The input of a setting.
     pub fn new(setting: Setting, calls: usize) -> Input {
         let mut random = Random(SEED);
-        let mut planner = Planner::new(setting.standing.active_users());
+        let standing = setting.standing.count();
+        let mut planner = Planner::new(users().take(standing).collect());
         let calls = numbers_in_order(calls, &mut random)
             .into_iter()
             .map(|number| planner.call(number, &mut random))
             .collect();
         Input {
-            state: starting_state(setting),
+            state: standing_state(standing, setting.differ),
             calls,
         }
     }
@@ -166,13 +162,26 @@ fn numbers_in_order(calls: usize, random: &mut Random) -> Vec<u32> {
     numbers
 }
 
-/// The state of a setting, made by the entries.
-fn starting_state(setting: Setting) -> Vec<u8> {
-    let mut state = vec![0; 681];
+/// The active user processes of the first places: session and credential. The eleventh and the twelfth place have none.
+fn users() -> impl Iterator<Item = (u32, u32)> {
+    let in_session_0 = (0..6).map(|credential| (0, credential));
+    let in_session_1 = (0..4).map(|credential| (1, credential));
+    in_session_0.chain(in_session_1)
+}
+
+/// The credentials that a module is made of: provisioned or not, and the words.
+pub fn credentials() -> ([u8; 8], [u32; 8]) {
     let mut provisioned = [1; 8];
     let mut words = [WORD; 8];
     provisioned[UNPROVISIONED as usize] = 0;
     words[UNPROVISIONED as usize] = 0;
+    (provisioned, words)
+}
+
+/// A state with the first places taken, at most twelve, made by the entries.
+pub fn standing_state(standing: usize, differ: Differ) -> Vec<u8> {
+    let mut state = vec![0; 681];
+    let (provisioned, words) = credentials();
     done(entries::fresh(&mut state, &provisioned, &words));
     for session in 0..3 {
         done(entries::open(&mut state, session));
@@ -180,18 +189,19 @@ fn starting_state(setting: Setting) -> Vec<u8> {
     for session in 0..2 {
         done(entries::select(&mut state, session, 0x10));
     }
-    let name = |process| setting.differ.process_name(process);
-    let users = setting.standing.active_users();
-    for (process, &(session, credential)) in users.iter().enumerate() {
+    let name = |place| differ.process_name(place);
+    for (place, (session, credential)) in users().enumerate().take(standing) {
         done(entries::start(
             &mut state,
             session,
             credential,
-            &name(process),
+            &name(place),
         ));
     }
-    if setting.standing == Standing::Twelve {
+    if standing > 10 {
         done(entries::elevate(&mut state, 0, 6, &name(10), 1));
+    }
+    if standing > 11 {
         done(entries::start(&mut state, 1, 6, &name(11)));
         done(entries::end(&mut state, 1, 6, 0, 1, 1));
     }

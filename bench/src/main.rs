@@ -1,6 +1,7 @@
-//! Times the record entry beside ordinary Rust with the same answers on the same slice.
+//! Times the record entry beside ordinary Rust with the same answers on the same slice, and the other entries beside the record.
 
 mod agreement;
+mod costs;
 mod input;
 mod numbers;
 mod ordinary;
@@ -12,7 +13,7 @@ use std::process::ExitCode;
 use timing::Measured;
 
 const HELP: &str = "\
-slavotuk-bench: times the record entry beside ordinary Rust with the same answers
+slavotuk-bench: times the record entry beside ordinary Rust with the same answers, and the other entries beside the record
 
 usage: slavotuk-bench [--rounds N] [--calls N]
 
@@ -92,15 +93,23 @@ fn run(options: &Options) -> Result<(), String> {
             )
         })?;
     }
+    costs::check()?;
     println!("The three agree on every call of every setting and on calls with several faults. Entry and ordinary leave the same bytes, and agree on every slice that is one byte away.");
     println!();
-    println!("Medians of {} alternating rounds:", options.rounds);
+    report_records(&inputs, options.rounds);
+    println!();
+    report_costs(options.rounds);
+    Ok(())
+}
+
+fn report_records(inputs: &[(Setting, Input)], rounds: usize) {
+    println!("Records, medians of {rounds} alternating rounds:");
     println!();
     println!("| standing | names differ in | entry, ns a call | ordinary, ns | structured, ns | entry/ordinary | entry/structured |");
     println!("|---|---|---|---|---|---|---|");
     let mut slower = 0;
-    for (setting, input) in &inputs {
-        let measured = timing::measure(input, options.rounds);
+    for (setting, input) in inputs {
+        let measured = timing::measure(input, rounds);
         print_row(setting, &measured);
         slower += usize::from(measured.entry_to_ordinary > 1.0);
     }
@@ -109,7 +118,27 @@ fn run(options: &Options) -> Result<(), String> {
         0 => println!("Every ratio entry/ordinary is at most 1.0."),
         _ => println!("The ratio entry/ordinary is over 1.0 in {slower} of 4 settings."),
     }
-    Ok(())
+}
+
+/// One row for each case: nanoseconds, and in brackets how many accepted records take as long.
+fn report_costs(rounds: usize) {
+    println!("Each call by itself, 10,000 times in a row, on the same states, names differing in the last byte: ns a call, and how many accepted records take as long. Medians of {rounds} alternating rounds:");
+    println!();
+    println!("| call | 0 standing | 1 standing | 12 standing |");
+    println!("|---|---|---|---|");
+    let figures = costs::measure(rounds);
+    for (case, of_case) in costs::CASES.iter().zip(&figures) {
+        let cells = of_case.iter().zip(&figures[0]).map(|pair| match pair {
+            (None, _) => "-".to_string(),
+            (Some(time), None) => format!("{time:.1}"),
+            (Some(time), Some(record)) => format!("{time:.1} ({:.1})", time / record),
+        });
+        println!(
+            "| {} | {} |",
+            case.name,
+            cells.collect::<Vec<_>>().join(" | ")
+        );
+    }
 }
 
 fn describe_input(options: &Options) {
@@ -125,18 +154,13 @@ fn describe_input(options: &Options) {
         println!("| {number} | {} | {count} |", numbers::name_of(number));
     }
     println!();
-    println!("Sessions 0 and 1 are open with version 1.0, session 2 without one, session 3 is closed. Credentials 0 to 6 are provisioned with classes 2, 4, 6 .. 30.");
+    println!("Sessions 0 and 1 are open with version 1.0, session 2 without one, session 3 is closed. Credentials 0 to 6 are provisioned with classes 0, 2, 4 .. 30.");
     println!("Twelve standing: user processes of credentials 0 to 5 in session 0 and of 0 to 3 in session 1, an elevation of 6 in session 0, a saved process of 6.");
     println!("One standing: the user process of credential 0 in session 0. Two names differ in one byte, the first or the last.");
     println!("Accepted: user claims in turn. Number 1: one of a session of 4, a kind of 2, a credential of 8, a verdict of 2, a class of 3, a class of 32, drawn evenly.");
     println!("Number 6: an elevated claim in session 1 or a user claim without a process, drawn evenly. Number 9: one too high or one too low, drawn evenly.");
     println!();
-    let free_places = if cfg!(feature = "without-exit") {
-        ", the free places with no exit"
-    } else {
-        ""
-    };
-    println!("entry: slavotuk_record. ordinary: plain Rust on the same slice, which it tests on each call{free_places}. structured: plain Rust that keeps a struct and tests no slice.");
+    println!("entry: slavotuk_record. ordinary: plain Rust on the same slice, which it tests on each call. structured: plain Rust that keeps a struct and tests no slice.");
 }
 
 fn print_row(setting: &Setting, measured: &Measured) {

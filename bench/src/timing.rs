@@ -1,6 +1,6 @@
 //! Alternating rounds, and their medians.
 
-use crate::input::{Call, Input};
+use crate::input::Input;
 use crate::ordinary;
 use crate::structured::Module;
 use slavotuk::entries;
@@ -45,29 +45,29 @@ fn round(input: &Input) -> Round {
     let mut by_ordinary = input.state.clone();
     let mut module = Module::from_bytes(&input.state);
     Round {
-        entry: time(&input.calls, |call| {
+        entry: nanoseconds(&input.calls, |call| {
             entries::record(&mut by_entry, call.session, call.claim, call.class)
         }),
-        ordinary: time(&input.calls, |call| {
+        ordinary: nanoseconds(&input.calls, |call| {
             ordinary::record(&mut by_ordinary, call.session, call.claim, call.class)
         }),
-        structured: time(&input.calls, |call| {
+        structured: nanoseconds(&input.calls, |call| {
             module.record(call.session, call.claim, call.class)
         }),
     }
 }
 
-/// Nanoseconds for one call.
+/// Nanoseconds for one call, over a row of them.
 #[inline(never)]
-fn time(calls: &[Call], mut record: impl FnMut(&Call) -> u32) -> f64 {
+pub fn nanoseconds<Call, Answer>(calls: &[Call], mut call: impl FnMut(&Call) -> Answer) -> f64 {
     let start = Instant::now();
-    for call in calls {
-        black_box(record(black_box(call)));
+    for each in calls {
+        black_box(call(black_box(each)));
     }
     start.elapsed().as_nanos() as f64 / calls.len() as f64
 }
 
-fn median(mut figures: Vec<f64>) -> f64 {
+pub fn median(mut figures: Vec<f64>) -> f64 {
     figures.sort_by(f64::total_cmp);
     let middle = figures.len() / 2;
     if figures.len() % 2 == 1 {
