@@ -38,13 +38,20 @@ twice : (a b c : Bool) → ((a && b) && (a && c)) ≡ (a && (b && c))
 twice true b c = refl
 twice false b c = refl
 
-by-halves : (d x t y r : Bool) → (d && ((x && t) && (y && r))) ≡ ((d && x) && y && (t && r))
-by-halves true true t true r = refl
-by-halves true true t false r = and-false t
-by-halves true false t y r = refl
-by-halves false x t y r = refl
+by-parts : (d x t y r : Bool) → (d && ((x && t) && (y && r))) ≡ ((d && x) && y && (t && r))
+by-parts true true t true r = refl
+by-parts true true t false r = and-false t
+by-parts true false t y r = refl
+by-parts false x t y r = refl
 
--- ---- zero bytes, those of the first half with those of the second
+four-tests : (a b c d : Bool) → (a && b && c && d) ≡ (a && (b && (c && (d && true))))
+four-tests true true true true = refl
+four-tests true true true false = refl
+four-tests true true false d = refl
+four-tests true false c d = refl
+four-tests false b c d = refl
+
+-- ---- zero bytes, those of a first part with those of a second
 module _ {A : Type 0} (f : A → Bool) where
   every-front : (a : ℕ) (x : List A) → (every f (take a x) && every f x) ≡ every f x
   unfolding every
@@ -61,57 +68,83 @@ module _ {A : Type 0} (f : A → Bool) where
   every-covered (suc a) (suc b) (y ∷ x) h =
       ap (λ (t : Bool). f y && t) (every-covered a b x (omega arith)) ∙ sym (and-assoc (f y) (every f (take a x)) (every f (drop b x)))
 
-pub record Halved (s : List ℕ) (from half second d i : ℕ) : Type 0 where
-  pub low : i ≤ half
-  pub first : from + half ≤ length s
-  pub end : second + half ≡ length s
-  pub rest : every isZero (drop from s) ≡ (isZero d && (every isZero (take (half - i) (drop (from + i) s)) && every isZero (drop (second + i) s)))
+-- two parts of one length, the first from a place on and the second to the end, which leave nothing out between them
+pub record Parted (s : List ℕ) (first part second d i : ℕ) : Type 0 where
+  pub low : i ≤ part
+  pub inside : first + part ≤ length s
+  pub end : second + part ≡ length s
+  pub rest : every isZero (drop first s) ≡ (isZero d && (every isZero (take (part - i) (drop (first + i) s)) && every isZero (drop (second + i) s)))
 
-pub halved-begin : (s : List ℕ) (from : ℕ) → from ≤ length s → Halved s from (length s - from - (length s - from) / 2) (length s - (length s - from - (length s - from) / 2)) 0 0
-halved-begin s from h =
-    let n : ℕ = length s - from in
-    let half : ℕ = n - n / 2 in
-    let all : half - 0 ≡ half = omega arith in
-    let e : length s - half + 0 ≡ from + n / 2 = omega arith in
-    let k : n / 2 ≤ half = omega arith in
+-- the parts' length, from the place n on
+abbrev partOf : ℕ → ℕ
+partOf n = (681 - (45 + n * 53) + 63) / 64 * 32
+
+part-fits : (n : ℕ) → n ≤ 12 → partOf n ≤ 681 - (45 + n * 53)
+part-fits n h =
+    split (eqb n 12)
+    (λ e. rw (eqb-true n 12 e) (omega arith))
+    (λ e.
+    split (eqb n 11)
+    (λ f. rw (eqb-true n 11 f) (omega arith))
+    (λ f. let few : n ≤ 10 = omega (arith, eqb-false n 12 e, eqb-false n 11 f) in omega arith))
+
+pub parted-begin : (s : List ℕ) (n : ℕ) → length s ≡ 681 → n ≤ 12 → Parted s (45 + n * 53) ((681 - (45 + n * 53) + 63) / 64 * 32) (681 - (681 - (45 + n * 53) + 63) / 64 * 32) 0 0
+parted-begin s n h k =
+    let first : ℕ = 45 + n * 53 in
+    let part : ℕ = partOf n in
+    let fits : part ≤ 681 - first = part-fits n k in
+    let all : part - 0 ≡ part = omega arith in
+    let e : 681 - part + 0 ≡ first + (681 - part - first) = omega arith in
+    let l : 681 - part - first ≤ part = omega arith in
     record {
       low = omega arith;
-      first = omega arith;
+      inside = omega arith;
       end = omega arith;
-      rest = rw (add-zero, all, e, ← drop-drop (n / 2) from s) (every-covered isZero half (n / 2) (drop from s) k);
+      rest = rw (add-zero, all, e, ← drop-drop (681 - part - first) first s) (every-covered isZero part (681 - part - first) (drop first s) l);
     }
 
-pub halved-on : {s : List ℕ} {from half second d i : ℕ} → Halved s from half second d i → i < half → Halved s from half second (bitOr (bitOr d (getD s (from + i) 0)) (getD s (second + i) 0)) (i + 1)
+pub parted-on : {s : List ℕ} {first part second d i : ℕ} → Parted s first part second d i → i < part → Parted s first part second (bitOr (bitOr d (getD s (first + i) 0)) (getD s (second + i) 0)) (i + 1)
 unfolding every
-halved-on {s} {from} {half} {second} {d} {i} v h =
-    let x : ℕ = getD s (from + i) 0 in
+parted-on {s} {first} {part} {second} {d} {i} v h =
+    let x : ℕ = getD s (first + i) 0 in
     let y : ℕ = getD s (second + i) 0 in
-    let p : from + i < length s = omega (arith, v .first) in
+    let p : first + i < length s = omega (arith, v .inside) in
     let q : second + i < length s = omega (arith, v .end) in
-    let l : half - i ≡ suc (half - (i + 1)) = omega arith in
-    let m : suc (from + i) ≡ from + (i + 1) = omega arith in
+    let l : part - i ≡ suc (part - (i + 1)) = omega arith in
+    let m : suc (first + i) ≡ first + (i + 1) = omega arith in
     let n : suc (second + i) ≡ second + (i + 1) = omega arith in
-    let t : every isZero (take (half - i) (drop (from + i) s)) ≡ (isZero x && every isZero (take (half - (i + 1)) (drop (from + (i + 1)) s))) = rw (l, drop-cons s (from + i) 0 p, m) in
+    let t : every isZero (take (part - i) (drop (first + i) s)) ≡ (isZero x && every isZero (take (part - (i + 1)) (drop (first + (i + 1)) s))) = rw (l, drop-cons s (first + i) 0 p, m) in
     let r : every isZero (drop (second + i) s) ≡ (isZero y && every isZero (drop (second + (i + 1)) s)) =
     ap (every isZero) (drop-cons s (second + i) 0 q) ∙ ap (λ (j : ℕ). isZero y && every isZero (drop j s)) n
     in
     record {
       low = omega arith;
-      first = v .first;
+      inside = v .inside;
       end = v .end;
       rest =
           v .rest
-          ∙ rw (t, r, or-zero (bitOr d x) y, or-zero d x) (by-halves (isZero d) (isZero x) (every isZero (take (half - (i + 1)) (drop (from + (i + 1)) s))) (isZero y) (every isZero (drop (second + (i + 1)) s)));
+          ∙ rw (t, r, or-zero (bitOr d x) y, or-zero d x) (by-parts (isZero d) (isZero x) (every isZero (take (part - (i + 1)) (drop (first + (i + 1)) s))) (isZero y) (every isZero (drop (second + (i + 1)) s)));
     }
 
-pub halved-all : {s : List ℕ} {from half second d i : ℕ} → Halved s from half second d i → half ≤ i → eqb d 0 ≡ every isZero (drop from s)
+pub parted-all : {s : List ℕ} {first part second d i : ℕ} → Parted s first part second d i → part ≤ i → eqb d 0 ≡ every isZero (drop first s)
 unfolding every
-halved-all {s} {from} {half} {second} {d} {i} v h =
-    let e : half - i ≡ 0 = omega arith in
+parted-all {s} {first} {part} {second} {d} {i} v h =
+    let e : part - i ≡ 0 = omega arith in
     let l : length s ≤ second + i = omega (arith, v .end) in
     sym (v .rest ∙ rw (e, drop-of-length-le s l) (and-true (isZero d)))
 
 -- ---- a credential's row
+four-zero : (x : List ℕ) → length x ≡ 5 → isZero (bitOr (bitOr (bitOr (getD x 1 0) (getD x 2 0)) (getD x 3 0)) (getD x 4 0)) ≡ every isZero (drop 1 x)
+unfolding every
+four-zero (a ∷ (b ∷ (c ∷ (d ∷ (e ∷ []))))) h =
+    or-zero (bitOr (bitOr b c) d) e ∙ rw (or-zero (bitOr b c) d, or-zero b c) (four-tests (isZero b) (isZero c) (isZero d) (isZero e))
+four-zero [] h = absurd (omega arith)
+four-zero (a ∷ []) h = absurd (omega arith)
+four-zero (a ∷ (b ∷ [])) h = absurd (omega arith)
+four-zero (a ∷ (b ∷ (c ∷ []))) h = absurd (omega arith)
+four-zero (a ∷ (b ∷ (c ∷ (d ∷ [])))) h = absurd (omega arith)
+four-zero (a ∷ (b ∷ (c ∷ (d ∷ (e ∷ (f ∷ x)))))) h = absurd (omega arith)
+
 module _ (x : List ℕ) where
   pub grants-high : 1 < getD x 0 0 → false ≡ grantsFit x
   unfolding grantsFit
@@ -121,9 +154,9 @@ module _ (x : List ℕ) where
   unfolding grantsFit
   grants-on e = rw e
 
-  pub grants-off : {r : Bool} → r ≡ every isZero (drop 1 x) → getD x 0 0 ≤ 1 → (getD x 0 0 ≡ 1 → ⊥) → r ≡ grantsFit x
+  pub grants-off : length x ≡ 5 → getD x 0 0 ≤ 1 → (getD x 0 0 ≡ 1 → ⊥) → eqb (bitOr (bitOr (bitOr (getD x 1 0) (getD x 2 0)) (getD x 3 0)) (getD x 4 0)) 0 ≡ grantsFit x
   unfolding grantsFit
-  grants-off e h n = e ∙ rw (le-leb (getD x 0 0) 1 h, ne-eqb (getD x 0 0) 1 n)
+  grants-off l h n = rw (le-leb (getD x 0 0) 1 h, ne-eqb (getD x 0 0) 1 n) (four-zero x l)
 
 -- ---- a place
 kind-saved : (n : ℕ) → 2 ≤ n → kindOf n ≡ Saved
@@ -693,4 +726,4 @@ module _ (b : List ℕ) (h : length b ≡ 681) {n : ℕ} (w : Widened (getD b 44
                 let all : take (length b - 0) b ≡ b = take-all (length b - 0) b (omega arith) in
                 m ∙ ap (λ (l : List ℕ). pairwise areApart (map processOf (rows n 53 (drop 45 l)))) all ∙ last x
 
-pub ruleset rules = (needs, length-mapped, grants-high, grants-on, grants-off, process-credential, process-type, process-session, process-user, process-elevation, process-saved, same-begin, same-all, name-first, name-second, name-third, rivals-elsewhere, rivals-other, rivals-users, rivals-last, apart-rivals, apart-name, owner-none, owner-not, owner-saved, owner-nowhere, owner-there, grants-part, place-part, session-on, session-fail, session-all, stands-out, stands-owned, apart-begin, apart-on, apart-fail, holds-short, holds-many, holds-free, holds-sessions, holds-credentials, holds-places, holds-pairs, holds-few, halved-begin, halved-on, halved-all, rows-begin, rows-on, rows-fail, rows-all, records-begin, records-on, records-all, paired-begin, paired-on, paired-fail, paired-all, folded-begin, folded-on, folded-all, seat-user, seat-elevation, seat-saved, marks-begin, marks-on, marks-all, met-at, clear-none)
+pub ruleset rules = (needs, length-mapped, grants-high, grants-on, grants-off, process-credential, process-type, process-session, process-user, process-elevation, process-saved, same-begin, same-all, name-first, name-second, name-third, rivals-elsewhere, rivals-other, rivals-users, rivals-last, apart-rivals, apart-name, owner-none, owner-not, owner-saved, owner-nowhere, owner-there, grants-part, place-part, session-on, session-fail, session-all, stands-out, stands-owned, apart-begin, apart-on, apart-fail, holds-short, holds-many, holds-free, holds-sessions, holds-credentials, holds-places, holds-pairs, holds-few, parted-begin, parted-on, parted-all, rows-begin, rows-on, rows-fail, rows-all, records-begin, records-on, records-all, paired-begin, paired-on, paired-fail, paired-all, folded-begin, folded-on, folded-all, seat-user, seat-elevation, seat-saved, marks-begin, marks-on, marks-all, met-at, clear-none)

@@ -1,7 +1,7 @@
 // Whether a slice holds a state, tested where it lies. docs/STATE.md draws the layout.
 ghost use mathlib.Core.Path.{_≡_};
 ghost use mathlib.Core.List.{map};
-ghost use Prim.Native.Nat.{_+_, _<_, _≤_};
+ghost use Prim.Native.Nat.{_+_, _*_, _<_, _≤_};
 ghost use lib.ListN.{length, take, drop};
 ghost use Rattle.codec.specs.Codec.{rows, every, pairwise, isZero};
 ghost use Rattle.names.specs.Names.{sameBytes};
@@ -10,24 +10,6 @@ ghost use Rattle.state_test.specs.Marks.{nameMark, seatMark, Mark, later
 ghost use Rattle.state_test.specs.Stands.{stands};
 
 // ---- bytes
-
-// Whether every byte from an index on is zero. There is no exit, so that many are read at a time: those of the first half with those of the
-// second. The halves share a byte where the bytes are odd in number.
-fn zero_from(s: &[u8], from: usize) -> bool
-    requires { ⌜ from ≤ length (now s) ⌝ }
-    ensures { λ r. ⌜ r ≡ every isZero (drop from (now (s .entry))) ⌝ }
-{
-    let count = s.len() - from;
-    let half = count - count / 2;
-    let second = s.len() - half;
-    let mut d: u8 = 0;
-    let mut i: usize = 0;
-    while i < half {
-        d = d | s[from + i] | s[second + i];
-        i += 1;
-    }
-    d == 0
-}
 
 // Whether 16 bytes agree, from an index on. There is no exit, so that many are read at a time.
 fn same16<'a>(a: &'a [u8], b: &'a [u8], at: usize) -> bool
@@ -74,7 +56,7 @@ fn grants_fit(row: &[u8]) -> bool
     if flag == 1 {
         return true;
     }
-    zero_from(row, 1)
+    (row[1] | row[2] | row[3] | row[4]) == 0
 }
 
 fn credentials_fit(s: &[u8]) -> bool
@@ -115,6 +97,27 @@ fn process_fits(row: &[u8]) -> bool
         return names::number16(row[3], row[4]) == 0;
     }
     session == 0
+}
+
+// ---- free places
+
+// Whether every byte from the place n on is zero. There is no exit, so that many are read at a time: those of a first part with those of a second.
+// Both are a multiple of 32 long, so that none is read by itself; they may overlap.
+fn are_free(s: &[u8], n: usize) -> bool
+    requires { ⌜ length (now s) ≡ 681 ⌝ }
+    requires { ⌜ n ≤ 12 ⌝ }
+    ensures { λ r. ⌜ r ≡ every isZero (drop (45 + n * 53) (now (s .entry))) ⌝ }
+{
+    let first = 45 + n * 53;
+    let part = (681 - first + 63) / 64 * 32;
+    let second = 681 - part;
+    let mut d: u8 = 0;
+    let mut i: usize = 0;
+    while i < part {
+        d = d | s[first + i] | s[second + i];
+        i += 1;
+    }
+    d == 0
 }
 
 // ---- owners and sessions
@@ -344,7 +347,7 @@ pub fn holds(s: &[u8]) -> bool
     if 12 < n {
         return false;
     }
-    if !zero_from(s, 45 + n * 53) {
+    if !are_free(s, n) {
         return false;
     }
     if !sessions_fit(s) {

@@ -14,14 +14,8 @@ wide-requires c κs = search rules
 returns-2 : tie.Need-returns-2
 returns-2 c = search rules
 
-mul-zero-from : tie.Need-mul-zero-from
-mul-zero-from c = search rules
-
-add-zero-from : tie.Need-add-zero-from
-add-zero-from c = search rules
-
-zero-from-requires : tie.Need-zero-from-requires
-zero-from-requires c κs = search rules
+are-free-requires : tie.Need-are-free-requires
+are-free-requires c κs = search rules
 
 returns-3 : tie.Need-returns-3
 returns-3 c = search rules
@@ -70,9 +64,7 @@ holds-spec =
     shared-slice-read-wide
     wide-requires
     returns-2
-    mul-zero-from
-    add-zero-from
-    zero-from-requires
+    are-free-requires
     returns-3
     sessions-fit-requires
     returns-4

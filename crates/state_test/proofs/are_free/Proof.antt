@@ -1,19 +1,28 @@
 use Prim.Native.Nat.{_-_}
-use Rattle.state_test.proofs.Rules.{Halved, rules}
-use Rattle.state_test.proofs.zero_from.Statement.{statement}
-use Rattle.state_test.proofs.zero_from.Tie as tie
+use Rattle.state_test.proofs.Rules.{Parted, rules}
+use Rattle.state_test.proofs.are_free.Statement.{statement}
+use Rattle.state_test.proofs.are_free.Tie as tie
 
 abbrev Inv-loop : tie.InvT-loop
-Inv-loop s from count half second d₀ i₀ d i = Halved s from half second d i
+Inv-loop s n first part second d₀ i₀ d i = Parted s first part second d i
 
 abbrev μ-loop : tie.MeasureT-loop
-μ-loop s from count half second d₀ i₀ d i = half - i
+μ-loop s n first part second d₀ i₀ d i = part - i
 
-sub-count : tie.Need-sub-count Inv-loop μ-loop
-sub-count c = search rules
+mul-first : tie.Need-mul-first Inv-loop μ-loop
+mul-first c = search rules
 
-sub-half : tie.Need-sub-half Inv-loop μ-loop
-sub-half c = search rules
+add-first : tie.Need-add-first Inv-loop μ-loop
+add-first c = search rules
+
+sub-part : tie.Need-sub-part Inv-loop μ-loop
+sub-part c = search rules
+
+add-part : tie.Need-add-part Inv-loop μ-loop
+add-part c = search rules
+
+mul-part : tie.Need-mul-part Inv-loop μ-loop
+mul-part c = search rules
 
 sub-second : tie.Need-sub-second Inv-loop μ-loop
 sub-second c = search rules
@@ -45,14 +54,17 @@ loop-again c = search rules
 returns : tie.Need-returns Inv-loop μ-loop
 returns c = search rules
 
-pub zero-from-spec : {M : Type 1} → statement M
-zero-from-spec =
+pub are-free-spec : {M : Type 1} → statement M
+are-free-spec =
     tie.close
     (tie.spec
     Inv-loop
     μ-loop
-    sub-count
-    sub-half
+    mul-first
+    add-first
+    sub-part
+    add-part
+    mul-part
     sub-second
     loop-holds
     add-d
