@@ -1,4 +1,4 @@
-.PHONY: help run lib own install test soak faults bench tools clean
+.PHONY: help run lib own install test edits soak faults bench tools clean
 
 SHELL := bash
 .SHELLFLAGS := -o pipefail -c
@@ -37,9 +37,10 @@ help:
 	@echo "              ARCH=x86_64 or ARCH=aarch64: the archive for that machine; with CC a compiler for it, the shared object too"
 	@echo "make install  the same into PREFIX ($(PREFIX)) with a file for pkg-config; DESTDIR goes before it"
 	@echo "make test     the proofs, the wrong builds and the hosts' tests; its last line is 'N passed, 0 failed'"
+	@echo "make edits    how long each wrong build took to refuse in the last run; make edits CRATE=NAME tries those of a crate first"
 	@echo "make soak     the compiled module against the model, until it is stopped; make soak TIME=600 for so many seconds"
 	@echo "make faults   breaks the model in some fifty ways and asks that the comparison tells"
-	@echo "make bench    the record entry against ordinary Rust"
+	@echo "make bench    the record entry against ordinary Rust, and what the other entries cost"
 	@echo "make clean    removes what these have built"
 
 # with line editing where rlwrap is there and somebody types, at a terminal that has a width
@@ -79,6 +80,9 @@ endif
 
 test: tools
 	@tests/gate
+
+edits:
+	@tests/edits $(CRATE)
 
 soak: own
 	@$(CARGO) slavotuk-compare -- soak $(if $(TIME),--seconds $(TIME),--forever)
