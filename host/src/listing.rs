@@ -96,7 +96,7 @@ pub fn write_request(
     credential: impl Into<WireCredential>,
 ) -> Result<&[u8], Refusal> {
     answered(entries::write_request(buffer, credential.into().0))?;
-    Ok(&buffer[..REQUEST_LENGTH])
+    buffer.get(..REQUEST_LENGTH).ok_or(Refusal::Room)
 }
 
 /// One process in a listing.
@@ -147,7 +147,8 @@ impl<'a> Listing<'a> {
 
     /// Its rows, in the order of the process table.
     pub fn rows(&self) -> Rows<'a> {
-        Rows(self.message[HEAD_LENGTH..].chunks_exact(ROW_LENGTH))
+        let rows = self.message.get(HEAD_LENGTH..).unwrap_or_default();
+        Rows(rows.chunks_exact(ROW_LENGTH))
     }
 
     /// The row at a place. Refusals: argument at or past the count.
