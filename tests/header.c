@@ -102,12 +102,17 @@ static void check_version(void)
     EXPECT(slavotuk_version(), SLAVOTUK_VERSION_NUMBER);
 }
 
+/* As document 01's table of numbers has them. */
 static void check_names(void)
 {
-    EXPECT(strcmp(slavotuk_number_name(SLAVOTUK_DONE), "done"), 0);
-    EXPECT(strcmp(slavotuk_number_name(SLAVOTUK_REFUSED_OUT_OF_TURN), "out of turn"), 0);
-    EXPECT(strcmp(slavotuk_number_name(SLAVOTUK_REFUSED_ROOM), "room"), 0);
-    EXPECT(strcmp(slavotuk_number_name(SLAVOTUK_REFUSED_ROOM + 1), "unknown"), 0);
+    static const char *const names[] = {
+        "done",       "argument",       "session", "no version",  "version",     "credential",
+        "no process", "already active", "verdict", "out of turn", "not granted", "full",
+        "name taken", "spent",          "message", "room",        "unknown",
+    };
+    for (uint32_t number = 0; number <= SLAVOTUK_REFUSED_ROOM + 1; number++) {
+        EXPECT(strcmp(slavotuk_number_name(number), names[number]), 0);
+    }
     EXPECT(strcmp(slavotuk_number_name(UINT32_MAX), "unknown"), 0);
 }
 
