@@ -14,6 +14,8 @@ use Rattle.calls.specs.Run.{run}
 use Rattle.calls.proofs.Sequences.{name, session, credential, class, userYes, yes′, computed}
 use Rattle.history.specs.History.{Event, history}
 use Rattle.history.specs.Lives.{Life, Gone, Live, Raised, Kept, counts, ends, shuts, drops, resumes, after, onward, follow, told, nobody}
+use Rattle.history.specs.Demand.{by-end, by-record, TwoRecords}
+use Rattle.history.proofs.Told.{live-not-gone}
 
 -- two names that differ in their last byte
 abbrev P : Name
@@ -98,4 +100,29 @@ examples =
       after-drop = record { of-P = refl; of-Q = refl };
       after-close = record { of-P = refl; of-Q = refl };
       next-is = refl;
+    }
+
+-- ---- two accepted records of one process, as demand 3's `once` speaks of them: the second of them removes it
+abbrev recordedAndEnded : List Call
+recordedAndEnded =
+    Open (session 0)
+    ∷ Select (session 0) 0x10
+    ∷ Start (session 0) (credential 0) P
+    ∷ recorded 0 0 0
+    ∷ End (session 0) (userYes 0 1) false
+    ∷ []
+
+two-records : TwoRecords nobody (history (fresh grants) recordedAndEnded) P
+unfolding computed history counts ends shuts drops resumes after onward follow
+two-records =
+    record {
+      before = history (fresh grants) (Open (session 0) ∷ Select (session 0) 0x10 ∷ Start (session 0) (credential 0) P ∷ []);
+      first = record { call = recorded 0 0 0; answered = 0 };
+      between = [];
+      second = record { call = End (session 0) (userYes 0 1) false; answered = 0 };
+      rest = [];
+      are = refl;
+      one = record { session = session 0; claim = userYes 0 0; carried = by-record (class 4); accepted = refl; before = []; lives = refl };
+      stays = (live-not-gone, tt);
+      two = record { session = session 0; claim = userYes 0 1; carried = by-end false; accepted = refl; before = 0 ∷ []; lives = refl };
     }

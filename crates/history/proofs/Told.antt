@@ -29,10 +29,13 @@ use Rattle.claims.specs.declared.UserClaim.{UserClaim}
 use Rattle.calls.specs.Calls.{Call, number}
 use Rattle.facts.specs.Facts.{processes, Rules}
 use Rattle.facts.proofs.Laws.{apart-turn}
-use Rattle.history.specs.Lives.{Life, Live, accepted, count, down}
+use Rattle.history.specs.Lives.{Life, Gone, Live, accepted, count, down}
 use Rattle.history.specs.Demand.{Carries, by-end, by-record, by-list, by-kill, by-set-word, life, lifeOf, Tells, IsClaimOf}
 use Rattle.history.proofs.Facts.{Claimed, facts}
 use Rattle.history.proofs.Looked.{Distinct, look, look-none}
+
+pub live-not-gone : {s : Session} {c : Credential} {ns : List ℕ} → Live s c ns ≡ Gone → ⊥
+live-not-gone e = let z : _≡_ {A = ℕ} 0 1 = cc in absurd (omega arith)
 
 -- ---- the numbers below one
 pub length-down : (n : ℕ) → length (down n) ≡ n
@@ -92,7 +95,7 @@ live-active Saved t d i s c ns e = cc
 
 look-live : (n : Name) (l : List Process) (s : Session) (c : Credential) (ns : List ℕ) → look n l ≡ Live s c ns → LiveAt n l s c
 unfolding isActive
-look-live n [] s c ns e = let z : _≡_ {A = ℕ} 0 1 = cc in absurd (omega arith)
+look-live n [] s c ns e = absurd (live-not-gone (sym e))
 look-live n (p ∷ l) s c ns e =
     split
     (sameName (p .name) n)

@@ -9,7 +9,6 @@ use mathlib.Core.List.{List, [], _∷_, _++_}
 use native.Mathlib.Omega.{arith}
 use lib.Dec.{eqb, leb}
 use Rattle.lists.proofs.Each.{each-at}
-use Rattle.names.specs.declared.Credential.{Credential}
 use Rattle.names.specs.declared.Session.{Session}
 use Rattle.table.specs.Table.{freePlace, processAt, replaced}
 use Rattle.table.specs.declared.Active.the-variants.{UserOf}
@@ -25,6 +24,7 @@ use Rattle.calls.proofs.Sequences.{P, pairs, session, credential, class, userYe
 use Rattle.history.specs.History.{Event}
 use Rattle.history.specs.Lives.{Gone, Live, told, nobody, accepted, counts, ends, shuts, drops, resumes, after, onward, follow}
 use Rattle.history.specs.Demand.{by-record, TwoRecords, Demand3}
+use Rattle.history.proofs.Told.{live-not-gone}
 
 -- a build: what it answers, and the state that it leaves
 record Build : Type 0 where
@@ -90,9 +90,6 @@ module _ (build : Build) (calls : List Call) (n : ℕ) (ns : List ℕ) where
         stays = (stays, tt);
         two = record { session = session 0; claim = userYes 1 n; carried = by-record (class 4); accepted = refl; before = n ∷ ns; lives = again };
       }
-
-live-not-gone : {s : Session} {c : Credential} {ns : List ℕ} → Live s c ns ≡ Gone → ⊥
-live-not-gone e = let z : _≡_ {A = ℕ} 0 1 = cc in absurd (omega arith)
 
 -- ---- it answers as it should, and does nothing any more once the process of session 0 and credential 1 has one record
 abbrev isServed : State → Bool
