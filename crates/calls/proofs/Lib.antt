@@ -6,3 +6,4 @@ pub mod Worked
 pub mod Orders
 pub mod Conditions
 pub mod Unique
+pub mod Cut

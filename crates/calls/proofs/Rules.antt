@@ -2,7 +2,7 @@
 -- Assumes nothing.
 use Prim.Native.Nat.{ℕ, _+_, _*_, _<_, _≤_}
 use mathlib.Core.Path.{_≡_, refl, sym, ap, _∙_}
-use mathlib.Core.Bool.{Bool, true, false, not}
+use mathlib.Core.Bool.{Bool, true, false, not, _&&_, _||_}
 use mathlib.Core.List.{List, []}
 use native.Mathlib.Omega.{arith}
 use lib.Dec.{eqb, ltb, leb}
@@ -27,8 +27,9 @@ use Rattle.table.specs.declared.Table.{Table}
 use Rattle.table.proofs.Laws.{count-few}
 use Rattle.table.proofs.Searched.{found-at, found-none, found-place}
 use Rattle.claims.specs.Numbers.{_▸_}
-use Rattle.claims.specs.Module.{isCredential, provisioned, granted, closedSession, unprovisioned, hasActive, activePlace, activeProcess}
-use Rattle.claims.specs.Claim.{isSpent, turnNumber, userNumber, claimNumber, admitted, claimant}
+use Rattle.claims.specs.Module.{isCredential, provisioned, wordGrants, granted, closedSession, unprovisioned, hasActive, activePlace, activeProcess}
+use Rattle.claims.specs.Claim.{isSpent, turnNumber, userNumber, claimNumber, admitted, claimant, claimed, admission}
+use Rattle.claims.specs.declared.Admission.{Admission}
 use Rattle.claims.specs.declared.Claim.{Claim}
 use Rattle.claims.specs.declared.Claim.the-variants.{Elevated, ByUser}
 use Rattle.claims.specs.declared.Class.{Class}
@@ -37,7 +38,7 @@ use Rattle.claims.specs.declared.Phase.{Phase}
 use Rattle.claims.specs.declared.Phase.the-variants.{Closed, Opened, Chosen}
 use Rattle.claims.specs.declared.State.{State}
 use Rattle.claims.specs.declared.UserClaim.{UserClaim}
-use Rattle.claims.proofs.Laws.{clear-first, clear-rest, clear-when, stop, pass, rows}
+use Rattle.claims.proofs.Laws.{clear-first, clear-rest, clear-when, stop, pass, rows, admission-place}
 use Rattle.claims.proofs.Rules.{rules as claim-rules}
 use Rattle.calls.specs.declared.Answer.{Answer}
 use Rattle.calls.specs.declared.Answer.the-variants.{Done, RefusedClaim}
@@ -46,8 +47,8 @@ use Rattle.calls.specs.declared.Outcome.{Outcome}
 use Rattle.calls.specs.declared.Wanted.{Wanted}
 use Rattle.calls.specs.declared.Wanted.the-variants.{Every, Only}
 use Rattle.calls.specs.Listing.{amongOf, rowsOf, messageLength}
-use Rattle.calls.specs.Calls.{Call, Open, Close, Select, Start, Continue, Elevate, Drop, End, Record, List′, Kill, SetWord, saveOwn, listOthers, killOthers, isDevice, isVersion, isWanted, isFull, hasNamed, namedPlace, lacksSaving, isOwn, mayList, isShort, reach, number, withTable, withPhase, withWord, userProcess, elevation, activated, saved, oneMore, counted, ended, effect, refusal, outcome, listed, taken, fresh}
-use Rattle.calls.proofs.Laws.{outcome-done, outcome-refused}
+use Rattle.calls.specs.Calls.{Call, Open, Close, Select, Start, Continue, Elevate, Drop, End, Record, List′, Kill, SetWord, saveOwn, listOthers, killOthers, isDevice, isVersion, isWanted, isFull, hasNamed, namedPlace, lacksSaving, isOwn, mayList, isShort, reachOf, reach, number, withTable, withPhase, withWord, userProcess, elevation, activated, saved, oneMore, counted, ended, effect, refusal, outcome, listed, taken, fresh}
+use Rattle.calls.proofs.Laws.{outcome-done, outcome-refused, checked-number, checked-reach, record-number, list-number, kill-number, set-word-number, end-number}
 
 -- ---- a call: refused with its number, or done
 module _ (st : State) (call : Call) {n : ℕ} {r : Outcome} (e : n ≡ number st call) where
@@ -56,6 +57,11 @@ module _ (st : State) (call : Call) {n : ℕ} {r : Outcome} (e : n ≡ number st
 
   pub by-effect : {x : State} → n ≡ 0 → r ≡ record { state = x; answer = Done } → x ≡ effect st call → r ≡ outcome st call
   by-effect z w q = w ∙ rw (outcome-done st call (sym e ∙ z), q)
+
+-- of a protected call: the number is that which the answer has
+pub by-refused-claim : (st : State) (call : Call) {claim : Claim} {n : ℕ} {r : Outcome} → r ≡ record { state = st; answer = RefusedClaim n claim } → n ≡ number st call → (n ≡ 0 → ⊥)
+    → refusal call n ≡ RefusedClaim n claim → r ≡ outcome st call
+by-refused-claim st call w e h q = by-refusal st call e h q w
 
 -- ---- what an accepted row of tests says of a part of it
 pub clear-begin : {n a : ℕ} (b : ℕ) → n ≡ a ▸ b → n ≡ 0 → a ≡ 0
@@ -127,13 +133,11 @@ module _ (class : Class) where
   unfolding isDevice
   device-low h = rw (lt-leb 4 (class .0) h)
 
-module _ (st : State) (c : Credential) {keep : Bool} where
-  pub saving-kept : {b : Bool} → keep ≡ true → b ≡ granted st c saveOwn → not b ≡ lacksSaving st c keep
-  unfolding lacksSaving
+module _ (word : ℕ) {keep : Bool} where
+  pub saving-kept : {b : Bool} → keep ≡ true → b ≡ wordGrants word saveOwn → not b ≡ keep && not (wordGrants word saveOwn)
   saving-kept k e = rw (k, e)
 
-  pub saving-not : keep ≡ false → keep ≡ lacksSaving st c keep
-  unfolding lacksSaving
+  pub saving-not : keep ≡ false → keep ≡ keep && not (wordGrants word saveOwn)
   saving-not k = rw k
 
 module _ {wanted : Wanted} where
@@ -160,13 +164,11 @@ module _ {wanted : Wanted} where
     unfolding isOwn
     own-only e = rw e
 
-module _ (st : State) (c : Credential) (wanted : Wanted) {a : Bool} (e : a ≡ isOwn c wanted) where
-  pub list-own : a ≡ true → a ≡ mayList st c wanted
-  unfolding mayList
+module _ (word : ℕ) (c : Credential) (wanted : Wanted) {a : Bool} (e : a ≡ isOwn c wanted) where
+  pub list-own : a ≡ true → a ≡ isOwn c wanted || wordGrants word listOthers
   list-own h = rw (sym e ∙ h) h
 
-  pub list-others : {b : Bool} → a ≡ false → b ≡ granted st c listOthers → b ≡ mayList st c wanted
-  unfolding mayList
+  pub list-others : {b : Bool} → a ≡ false → b ≡ wordGrants word listOthers → b ≡ isOwn c wanted || wordGrants word listOthers
   list-others h q = q ∙ rw (sym e ∙ h)
 
 -- ---- the listing's length
@@ -189,36 +191,41 @@ unfolding isShort
 short-is st wanted room e = rw e
 
 -- ---- whom a kill reaches
-module _ (st : State) (c : Credential) {b : Bool} (e : b ≡ granted st c killOthers) where
-  pub reach-all : b ≡ true → All ≡ reach st c
-  unfolding reach
+module _ (word : ℕ) (c : Credential) {b : Bool} (e : b ≡ wordGrants word killOthers) where
+  pub reach-all : b ≡ true → All ≡ reachOf word c
   reach-all h = rw (sym e ∙ h)
 
-  pub reach-own : b ≡ false → Of c ≡ reach st c
-  unfolding reach
+  pub reach-own : b ≡ false → Of c ≡ reachOf word c
   reach-own h = rw (sym e ∙ h)
+
+pub named-among : (st : State) (name : Name) {a among : Among} {b : Bool} → a ≡ among → b ≡ hasNamed st name a → b ≡ hasNamed st name among
+named-among st name e q = q ∙ rw e
 
 -- ---- the claim counted
 module _ (st : State) (s : Session) where
-  module _ (u : UserClaim) (z : admitted st s (ByUser u) ≡ 0) where
+  module _ (u : UserClaim) {by : Admission} (e : by ≡ admission st s (ByUser u)) (z : by .number ≡ 0) where
     unspent : isSpent (activeProcess st (UserOf s (u .credential)) .next) ≡ false
     unfolding admitted claimNumber userNumber turnNumber
     unspent =
         let p : Process = activeProcess st (UserOf s (u .credential)) in
-        clear-when 13 tt (isSpent (p .next)) (clear-first _ _ (clear-rest _ _ (clear-rest _ _ (clear-rest _ _ (clear-rest _ _ z)))))
+        let a : admitted st s (ByUser u) ≡ 0 = sym (checked-number st s (ByUser u) e) ∙ z in
+        clear-when 13 tt (isSpent (p .next)) (clear-first _ _ (clear-rest _ _ (clear-rest _ _ (clear-rest _ _ (clear-rest _ _ a)))))
 
-    pub next-fits : {k : ℕ} {p : Process} → k ≡ activePlace st (UserOf s (u .credential)) → p ≡ processAt (st .table) k → p .next < 65536 → Fits w16 (p .next + 1)
+    pub claim-place : by .place ≡ activePlace st (UserOf s (u .credential))
+    unfolding claimed
+    claim-place = rw e (admission-place st s (ByUser u) (sym (checked-number st s (ByUser u) e) ∙ z))
+
+    pub next-fits : {p : Process} → p ≡ processAt (st .table) (by .place) → p .next < 65536 → Fits w16 (p .next + 1)
     unfolding isSpent activeProcess
-    next-fits {k} {p} a e f =
-        let q : p ≡ activeProcess st (UserOf s (u .credential)) = e ∙ ap (processAt (st .table)) a in
-        let g : p .next ≡ 65535 → ⊥ = eqb-false (p .next) 65535 (ap (λ (x : Process). isSpent (x .next)) q ∙ unspent) in
+    next-fits {p} q f =
+        let h : p ≡ activeProcess st (UserOf s (u .credential)) = q ∙ ap (processAt (st .table)) claim-place in
+        let g : p .next ≡ 65535 → ⊥ = eqb-false (p .next) 65535 (ap (λ (x : Process). isSpent (x .next)) h ∙ unspent) in
         omega (arith, g)
 
-    pub counted-is : {k : ℕ} {p : Process} {t : Table} {r : State}
-        → k ≡ activePlace st (UserOf s (u .credential)) → p ≡ processAt (st .table) k → t ≡ replaced (st .table) k (oneMore p) → r ≡ withTable st t
+    pub counted-is : {p : Process} {t : Table} {r : State} → p ≡ processAt (st .table) (by .place) → t ≡ replaced (st .table) (by .place) (oneMore p) → r ≡ withTable st t
         → r ≡ counted st s (ByUser u)
     unfolding counted activeProcess
-    counted-is a b c d = d ∙ rw (c, b, a)
+    counted-is b c d = d ∙ rw (c, b, claim-place)
 
   module _ {claim : Claim} where
     pub counted-elevated : claim ≡ Elevated → st ≡ counted st s claim
@@ -228,8 +235,8 @@ module _ (st : State) (s : Session) where
     pub counted-user : {u : UserClaim} {r : State} → claim ≡ ByUser u → r ≡ counted st s (ByUser u) → r ≡ counted st s claim
     counted-user e q = q ∙ rw e
 
-    pub admitted-user : (u : UserClaim) → claim ≡ ByUser u → admitted st s claim ≡ 0 → admitted st s (ByUser u) ≡ 0
-    admitted-user u e z = rw e at z
+    pub admission-user : (u : UserClaim) {by : Admission} → claim ≡ ByUser u → by ≡ admission st s claim → by ≡ admission st s (ByUser u)
+    admission-user u e z = rw (← e) z
 
 -- ---- the process at a place saved or removed
 module _ (st : State) (at : ℕ) {keep : Bool} {t : Table} {r : State} where
@@ -293,17 +300,17 @@ module _ (st : State) {x : State} where
     effect-drop s a b = w ∙ rw (b, a)
 
   module _ {y : State} where
-    pub effect-end : (s : Session) (u : UserClaim) (keep : Bool) {at : ℕ}
-        → at ≡ activePlace st (UserOf s (u .credential)) → y ≡ counted st s (ByUser u) → x ≡ ended y at keep → x ≡ effect st (End s u keep)
+    pub effect-end : (s : Session) (u : UserClaim) (keep : Bool) {by : Admission} → by ≡ admission st s (ByUser u) → by .number ≡ 0
+        → y ≡ counted st s (ByUser u) → x ≡ ended y (by .place) keep → x ≡ effect st (End s u keep)
     unfolding effect
-    effect-end s u keep a b c = c ∙ rw (b, a)
+    effect-end s u keep e z b c = c ∙ rw (b, claim-place st s u e z)
 
     module _ (s : Session) (claim : Claim) (e : y ≡ counted st s claim) where
-      pub effect-kill : (name : Name) {c : Credential} {among : Among} {at : ℕ} {t : Table}
-          → c ≡ claimant st s claim → among ≡ reach st c → at ≡ namedPlace st name among → t ≡ removed (y .table) at → x ≡ withTable y t
+      pub effect-kill : (name : Name) {by : Admission} {among : Among} {at : ℕ} {t : Table}
+          → by ≡ admission st s claim → among ≡ reachOf (by .word) (by .credential) → at ≡ namedPlace st name among → t ≡ removed (y .table) at → x ≡ withTable y t
           → x ≡ effect st (Kill s claim name)
       unfolding effect
-      effect-kill name a b d f g = g ∙ rw (f, d, b, a, e)
+      effect-kill name a b d f g = g ∙ rw (f, d, b ∙ checked-reach st s claim a, e)
 
       pub effect-set-word : (c : Credential) (word : ℕ) → x ≡ withWord y c word → x ≡ effect st (SetWord s claim c word)
       unfolding effect
@@ -326,15 +333,4 @@ module _ (st : State) (s : Session) (claim : Claim) (wanted : Wanted) (room : �
       let z : number st (List′ s claim wanted room) ≡ 0 = sym e ∙ h in
       rw (q, a, m, outcome-done st (List′ s claim wanted room) z, eq-eqb (number st (List′ s claim wanted room)) 0 z)
 
--- ---- a test of the claimant, whom the code has in a local
-module _ (st : State) {c d : Credential} {b : Bool} (e : c ≡ d) where
-  pub granted-by : (class : Class) → b ≡ granted st c class → b ≡ granted st d class
-  granted-by class q = q ∙ rw e
-
-  pub list-by : (wanted : Wanted) → b ≡ mayList st c wanted → b ≡ mayList st d wanted
-  list-by wanted q = q ∙ rw e
-
-  pub kill-by : (name : Name) {among : Among} → among ≡ reach st c → b ≡ hasNamed st name among → b ≡ hasNamed st name (reach st d)
-  kill-by name a q = q ∙ rw (a, e)
-
-pub ruleset rules = (claim-rules, by-refusal, by-effect, clear-begin, clear-second, known-stop, known-pass, phase-outside, word-outside, active-none, active-some, active-placed, named-none, named-some, named-placed, full-is, version-is, device-high, device-low, saving-kept, saving-not, wanted-every, wanted-only, among-every, among-only, own-every, own-only, list-own, list-others, length-fits, length-whole, length-is, short-is, reach-all, reach-own, next-fits, counted-is, counted-elevated, counted-user, admitted-user, ended-kept, ended-removed, taken-whole, taken-zero, mapped-none, take-on, fresh-is, effect-open, effect-select, effect-close, effect-start, effect-elevate, effect-continue, effect-drop, effect-end, effect-kill, effect-set-word, effect-record, list-refused, list-done, granted-by, list-by, kill-by)
+pub ruleset rules = (claim-rules, by-refusal, by-refused-claim, by-effect, clear-begin, clear-second, known-stop, known-pass, phase-outside, word-outside, active-none, active-some, active-placed, named-none, named-some, named-placed, full-is, version-is, device-high, device-low, saving-kept, saving-not, wanted-every, wanted-only, among-every, among-only, own-every, own-only, list-own, list-others, length-fits, length-whole, length-is, short-is, reach-all, reach-own, named-among, next-fits, counted-is, counted-elevated, counted-user, admission-user, ended-kept, ended-removed, taken-whole, taken-zero, mapped-none, take-on, fresh-is, effect-open, effect-select, effect-close, effect-start, effect-elevate, effect-continue, effect-drop, effect-end, effect-kill, effect-set-word, effect-record, list-refused, list-done, record-number, list-number, kill-number, set-word-number, end-number)

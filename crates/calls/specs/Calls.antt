@@ -18,7 +18,7 @@ use Rattle.table.specs.declared.Process.{Process}
 use Rattle.table.specs.declared.Table.{Table}
 use Rattle.claims.specs.Numbers as No
 use Rattle.claims.specs.Numbers.{_when_, _unless_, _▸_}
-use Rattle.claims.specs.Module.{isHandle, closedSession, phaseOf, isClosed, isCredential, unprovisioned, provisioned, granted, hasActive, activePlace, activeProcess}
+use Rattle.claims.specs.Module.{isHandle, closedSession, phaseOf, isClosed, isCredential, unprovisioned, provisioned, wordGrants, granted, hasActive, activePlace, activeProcess}
 use Rattle.claims.specs.Claim.{entered, admitted, claimant}
 use Rattle.claims.specs.declared.Claim.{Claim}
 use Rattle.claims.specs.declared.Claim.the-variants.{Elevated, ByUser}
@@ -105,6 +105,9 @@ unfoldable pub isShort : State → Wanted → ℕ → Bool
 isShort st wanted room = ltb room (messageLength (length (rowsOf st wanted)))
 
 -- "It may kill its own credential's processes of every type, and all when class 1 is granted."
+abbrev pub reachOf : ℕ → Credential → Among
+reachOf word c = cond (wordGrants word killOthers) All (Of c)
+
 unfoldable pub reach : State → Credential → Among
 reach st c = cond (granted st c killOthers) All (Of c)
 

@@ -1,15 +1,17 @@
 // What each call asks: its tests in their order, and the number that it answers. What a call does where that is 0 is in `outcomes`.
 ghost use mathlib.Core.Path.{_≡_};
+ghost use mathlib.Core.Bool.{not, _&&_, _||_};
 ghost use lib.ListN.{length};
 ghost use Rattle.claims.specs.Numbers.{_when_, _unless_, _▸_};
 ghost use Rattle.claims.specs.Numbers as No;
-ghost use Rattle.claims.specs.Module.{isCredential, provisioned, hasActive, activePlace};
+ghost use Rattle.claims.specs.Module.{isCredential, provisioned, wordGrants, hasActive, activePlace};
 ghost use Rattle.claims.specs.Claim.{entered};
 ghost use Rattle.table.specs.declared.Among.the-variants.{All};
 ghost use Rattle.calls.specs.Listing.{amongOf, rowsOf, messageLength};
-ghost use Rattle.calls.specs.Calls.{Open, Close, Select, Start, Continue, Elevate, Drop, End, Record, List′, Kill, SetWord, isDevice, isVersion, isWanted, isFull, hasNamed, namedPlace, lacksSaving, isOwn, mayList, isShort, reach, number, answerNumber};
+ghost use Rattle.calls.specs.Calls.{Open, Close, Select, Start, Continue, Elevate, Drop, saveOwn, listOthers, setWords, isDevice, isVersion, isWanted, isFull, hasNamed, namedPlace, isOwn, isShort, reachOf, number, answerNumber};
 use claims::ALREADY_ACTIVE;
 use claims::ARGUMENT;
+use claims::Admission;
 use claims::CREDENTIAL;
 use claims::Claim;
 use claims::Class;
@@ -25,7 +27,6 @@ use claims::SAVE_OWN;
 use claims::SESSION;
 use claims::SET_WORDS;
 use claims::State;
-use claims::UserClaim;
 use claims::VERDICT;
 use claims::VERSION;
 use names::Credential;
@@ -253,21 +254,20 @@ pub fn drop_number(st: State, s: Session) -> u8
 
 // ---- end
 
-fn lacks_saving(st: State, c: Credential, keep: bool) -> bool
-    ensures { λ r. ⌜ r ≡ lacksSaving st c keep ⌝ }
+fn lacks_saving(word: u32, keep: bool) -> bool
+    ensures { λ r. ⌜ r ≡ keep && not (wordGrants word saveOwn) ⌝ }
 {
-    keep && !claims::granted(st, c, Class(SAVE_OWN))
+    keep && !claims::word_grants(word, Class(SAVE_OWN))
 }
 
-pub fn end_number(st: State, s: Session, u: UserClaim, keep: bool) -> u8
-    ensures { λ r. ⌜ r ≡ number st (End s u keep) ⌝ }
+// Of a protected call: its tests go on where the check of its claim ended.
+pub fn end_number(by: Admission, keep: bool) -> u8
+    ensures { λ r. ⌜ r ≡ by .number ▸ No.notGranted when (keep && not (wordGrants (by .word) saveOwn)) ⌝ }
 {
-    let n = claims::admitted(st, s, Claim::ByUser(u));
-    if n != DONE {
-        return n;
+    if by.number != DONE {
+        return by.number;
     }
-    let c = u.credential;
-    if lacks_saving(st, c, keep) {
+    if lacks_saving(by.word, keep) {
         return NOT_GRANTED;
     }
     DONE
@@ -281,18 +281,16 @@ pub fn is_device(class: Class) -> bool
     4 <= class.0 && class.0 <= 31
 }
 
-pub fn record_number(st: State, s: Session, claim: Claim, class: Class) -> u8
-    ensures { λ r. ⌜ r ≡ number st (Record s claim class) ⌝ }
+pub fn record_number(by: Admission, class: Class) -> u8
+    ensures { λ r. ⌜ r ≡ No.argument unless isDevice class ▸ by .number ▸ No.notGranted unless wordGrants (by .word) class ⌝ }
 {
     if !is_device(class) {
         return ARGUMENT;
     }
-    let n = claims::admitted(st, s, claim);
-    if n != DONE {
-        return n;
+    if by.number != DONE {
+        return by.number;
     }
-    let c = claims::claimant(st, s, claim);
-    if !claims::granted(st, c, class) {
+    if !claims::word_grants(by.word, class) {
         return NOT_GRANTED;
     }
     DONE
@@ -328,10 +326,11 @@ fn is_own(c: Credential, wanted: Wanted) -> bool
     }
 }
 
-fn may_list(st: State, c: Credential, wanted: Wanted) -> bool
-    ensures { λ r. ⌜ r ≡ mayList st c wanted ⌝ }
+fn may_list(by: Admission, wanted: Wanted) -> bool
+    ensures { λ r. ⌜ r ≡ isOwn (by .credential) wanted || wordGrants (by .word) listOthers ⌝ }
 {
-    is_own(c, wanted) || claims::granted(st, c, Class(LIST_OTHERS))
+    let c = by.credential;
+    is_own(c, wanted) || claims::word_grants(by.word, Class(LIST_OTHERS))
 }
 
 pub fn message_length(st: State, wanted: Wanted) -> usize
@@ -347,18 +346,16 @@ fn is_short(st: State, wanted: Wanted, room: usize) -> bool
     room < message_length(st, wanted)
 }
 
-pub fn list_number(st: State, s: Session, claim: Claim, wanted: Wanted, room: usize) -> u8
-    ensures { λ r. ⌜ r ≡ number st (List′ s claim wanted room) ⌝ }
+pub fn list_number(st: State, by: Admission, wanted: Wanted, room: usize) -> u8
+    ensures { λ r. ⌜ r ≡ No.argument unless isWanted wanted ▸ by .number ▸ No.notGranted unless (isOwn (by .credential) wanted || wordGrants (by .word) listOthers) ▸ No.room when isShort st wanted room ⌝ }
 {
     if !is_wanted(wanted) {
         return ARGUMENT;
     }
-    let n = claims::admitted(st, s, claim);
-    if n != DONE {
-        return n;
+    if by.number != DONE {
+        return by.number;
     }
-    let c = claims::claimant(st, s, claim);
-    if !may_list(st, c, wanted) {
+    if !may_list(by, wanted) {
         return NOT_GRANTED;
     }
     if is_short(st, wanted, room) {
@@ -369,25 +366,24 @@ pub fn list_number(st: State, s: Session, claim: Claim, wanted: Wanted, room: us
 
 // ---- kill
 
-// Which processes a credential may kill.
-pub fn reach(st: State, by: Credential) -> Among
-    ensures { λ r. ⌜ r ≡ reach st by ⌝ }
+// Which processes a claim may kill.
+pub fn reach(by: Admission) -> Among
+    ensures { λ r. ⌜ r ≡ reachOf (by .word) (by .credential) ⌝ }
 {
-    if claims::granted(st, by, Class(KILL_OTHERS)) {
-        Among::All
-    } else {
-        Among::Of(by)
+    if claims::word_grants(by.word, Class(KILL_OTHERS)) {
+        return Among::All;
     }
+    let c = by.credential;
+    Among::Of(c)
 }
 
-pub fn kill_number(st: State, s: Session, claim: Claim, name: Name) -> u8
-    ensures { λ r. ⌜ r ≡ number st (Kill s claim name) ⌝ }
+pub fn kill_number(st: State, by: Admission, name: Name) -> u8
+    ensures { λ r. ⌜ r ≡ by .number ▸ No.noProcess unless hasNamed st name (reachOf (by .word) (by .credential)) ⌝ }
 {
-    let n = claims::admitted(st, s, claim);
-    if n != DONE {
-        return n;
+    if by.number != DONE {
+        return by.number;
     }
-    let among = reach(st, claims::claimant(st, s, claim));
+    let among = reach(by);
     if !has_named(st, name, among) {
         return NO_PROCESS; // to a stranger's name too, so that nobody learns that it exists
     }
@@ -396,18 +392,16 @@ pub fn kill_number(st: State, s: Session, claim: Claim, name: Name) -> u8
 
 // ---- set word
 
-pub fn set_word_number(st: State, s: Session, claim: Claim, target: Credential, word: u32) -> u8
-    ensures { λ r. ⌜ r ≡ number st (SetWord s claim target word) ⌝ }
+pub fn set_word_number(st: State, by: Admission, target: Credential) -> u8
+    ensures { λ r. ⌜ r ≡ No.argument unless isCredential target ▸ by .number ▸ No.notGranted unless wordGrants (by .word) setWords ▸ No.credential unless provisioned st target ⌝ }
 {
     if !claims::is_credential(target) {
         return ARGUMENT;
     }
-    let n = claims::admitted(st, s, claim);
-    if n != DONE {
-        return n;
+    if by.number != DONE {
+        return by.number;
     }
-    let by = claims::claimant(st, s, claim);
-    if !claims::granted(st, by, Class(SET_WORDS)) {
+    if !claims::word_grants(by.word, Class(SET_WORDS)) {
         return NOT_GRANTED;
     }
     if !claims::provisioned(st, target) {

@@ -8,9 +8,10 @@ use lib.Dec.{T, eqb, ltb, leb, ltb→lt}
 use lib.ListN.{length, getD, List·getD-eq-default}
 use borrow.Author.Needs.{needs}
 use borrow.Author.Tests.{not-true, not-false, le-leb, lt-leb}
-use Rattle.lists.specs.Lists.{firstIndex}
 use Rattle.lists.proofs.Lists.{length-mapped}
+use Rattle.claims.specs.declared.Admission.{Admission}
 use Rattle.claims.specs.declared.Class.{Class}
+use Rattle.claims.specs.declared.ClaimView.{ClaimView}
 use Rattle.claims.specs.declared.Grants.{Grants}
 use Rattle.claims.specs.declared.SessionState.{SessionState}
 use Rattle.claims.specs.declared.State.{State}
@@ -21,17 +22,17 @@ use Rattle.claims.specs.declared.Phase.{Phase}
 use Rattle.claims.specs.declared.Phase.the-variants.{Closed, Opened, Chosen}
 use Rattle.names.specs.declared.Credential.{Credential}
 use Rattle.names.specs.declared.Session.{Session}
-use Rattle.table.specs.Table.{standing, freePlace, processAt, isActive, firstPlace}
+use Rattle.table.specs.Table.{standing, size, freePlace, processAt, isActive, foundPlace, firstPlace}
 use Rattle.table.specs.declared.Active.{Active}
-use Rattle.table.specs.declared.Active.the-variants.{ElevationIn}
+use Rattle.table.specs.declared.Active.the-variants.{UserOf, ElevationIn}
 use Rattle.table.specs.declared.Found.{Found}
 use Rattle.table.specs.declared.Found.the-variants.{At, Nothing}
 use Rattle.table.specs.declared.Process.{Process}
-use Rattle.table.proofs.Searched.{FoundAt, found-at, found-none}
+use Rattle.table.specs.declared.Table.{Table}
 use Rattle.claims.specs.Numbers.{_when_, _unless_, _▸_}
-use Rattle.claims.specs.Module.{isHandle, closedSession, phaseOf, isClosed, isChosen, isCredential, unprovisioned, provisioned, wordOf, wordGrants, granted, hasActive, activePlace, activeProcess}
-use Rattle.claims.specs.Claim.{phaseNumber, entered, isClaim, isSpent, turnNumber, elevatedNumber, userNumber, claimNumber, elevatedCredential, claimant}
-use Rattle.claims.proofs.Laws.{stop, pass, when-true, when-false, unless-true, unless-false}
+use Rattle.claims.specs.Module.{isHandle, closedSession, phaseOf, isClosed, isChosen, isCredential, unprovisioned, provisioned, wordOf, wordGrants, activeProcess}
+use Rattle.claims.specs.Claim.{phaseNumber, entered, isClaim, isSpent, claimant, claimed, speaksFor, processFound, claimView, isFound, viewedNumber, checkedNumber, checkedClaim, admission}
+use Rattle.claims.proofs.Laws.{stop, pass, when-true, when-false, unless-true, unless-false, view-of}
 
 nonzero : {n : ℕ} → T (ltb 0 n) → n ≡ 0 → ⊥
 nonzero {n} some e = omega (arith, ltb→lt 0 n some)
@@ -133,10 +134,6 @@ module _ (word : ℕ) (class : Class) where
   unfolding wordGrants
   grants-is h = rw (le-leb (class .0) 31 h)
 
-pub granted-is : (st : State) (c : Credential) (class : Class) {w : ℕ} {b : Bool} → w ≡ wordOf st c → b ≡ wordGrants w class → b ≡ granted st c class
-unfolding granted
-granted-is st c class e q = q ∙ rw e
-
 -- ---- a session, by its phase
 module _ (s : Session) (phase : Phase) {b : Bool} (e : b ≡ isHandle s) where
   pub phase-argument : not b ≡ true → 1 ≡ phaseNumber s phase
@@ -160,47 +157,10 @@ pub entered-is : (st : State) (s : Session) {phase : Phase} {n : ℕ} → phase 
 unfolding entered
 entered-is st s e q = q ∙ rw e
 
--- ---- the active process, by the search's answer
-module _ (st : State) (which : Active) {f : Found} (e : f ≡ firstPlace (isActive which) (standing (st .table))) where
-  pub none-active : f ≡ Nothing → hasActive st which ≡ false
-  unfolding hasActive
-  none-active q = found-none (isActive which) (standing (st .table)) (sym e ∙ q) .none
-
-  module _ {k : ℕ} (q : f ≡ At k) where
-    here : FoundAt (isActive which) (standing (st .table)) k
-    here = found-at (isActive which) (standing (st .table)) (sym e ∙ q)
-
-    pub place-is : k ≡ activePlace st which
-    unfolding activePlace
-    place-is = here .is
-
-    pub one-active : hasActive st which ≡ true
-    unfolding hasActive
-    one-active = here .some
-
-    pub process-is : {p : Process} → p ≡ processAt (st .table) k → p ≡ activeProcess st which
-    unfolding activeProcess
-    process-is r = r ∙ ap (processAt (st .table)) place-is
-
-  pub missing-stop : (n m : ℕ) → T (ltb 0 n) → f ≡ Nothing → n ≡ n unless hasActive st which ▸ m
-  missing-stop n m some q = rw (unless-false n (none-active q)) (sym (stop m (nonzero some)))
-
-  pub found-pass : (n m : ℕ) {r k : ℕ} → f ≡ At k → r ≡ m → r ≡ n unless hasActive st which ▸ m
-  found-pass n m q a = a ∙ sym (pass m (unless-true n (one-active q)))
-
-  pub missing-last : (n : ℕ) → f ≡ Nothing → n ≡ n unless hasActive st which
-  missing-last n q = sym (unless-false n (none-active q))
-
-  pub found-last : (n : ℕ) {k : ℕ} → f ≡ At k → 0 ≡ n unless hasActive st which
-  found-last n q = sym (unless-true n (one-active q))
-
 -- ---- the claim, by its case
 pub spent-is : (next : ℕ) → eqb next 65535 ≡ isSpent next
 unfolding isSpent
 spent-is next = refl
-
-pub turn-same : {p q : Process} {n : ℕ} (u : UserClaim) → n ≡ turnNumber (p .next) u → p ≡ q → n ≡ turnNumber (q .next) u
-turn-same u h e = h ∙ ap (λ (x : Process). turnNumber (x .next) u) e
 
 pub elevated-fine : {claim : Claim} → claim ≡ Elevated → true ≡ isClaim claim
 unfolding isClaim
@@ -210,34 +170,67 @@ pub user-fine : {claim : Claim} {u : UserClaim} {b : Bool} → claim ≡ ByUser 
 unfolding isClaim
 user-fine e q = q ∙ rw e
 
-module _ (st : State) (s : Session) {f : Found} (e : f ≡ firstPlace (isActive (ElevationIn s)) (standing (st .table))) where
-  pub none-elevated : f ≡ Nothing → _≡_ {A = Credential} (record { 0 = 0 }) (elevatedCredential st s)
-  unfolding elevatedCredential activePlace activeProcess processAt
-  none-elevated q =
-      let past : length (standing (st .table)) ≤ firstIndex (isActive (ElevationIn s)) (standing (st .table)) = found-none (isActive (ElevationIn s)) (standing (st .table)) (sym e ∙ q) .past in
-      ap (λ (p : Process). p .credential) (sym (List·getD-eq-default (standing (st .table)) freePlace past))
+-- ---- the process of a claim
+module _ (s : Session) {claim : Claim} where
+  pub claimed-elevation : claim ≡ Elevated → ElevationIn s ≡ claimed s claim
+  unfolding claimed
+  claimed-elevation e = rw e
 
-  pub one-elevated : {k : ℕ} {p : Process} → f ≡ At k → p ≡ processAt (st .table) k → p .credential ≡ elevatedCredential st s
-  unfolding elevatedCredential
-  one-elevated q r = ap (λ (p : Process). p .credential) (process-is st (ElevationIn s) e q r)
+  pub claimed-user : {u : UserClaim} → claim ≡ ByUser u → UserOf s (u .credential) ≡ claimed s claim
+  unfolding claimed
+  claimed-user e = rw e
 
-module _ (st : State) (s : Session) {claim : Claim} where
-  module _ (e : claim ≡ Elevated) where
-    pub elevated-number : {n : ℕ} → n ≡ elevatedNumber st s → n ≡ claimNumber st s claim
-    unfolding claimNumber
-    elevated-number q = q ∙ rw e
+module _ (owner : Credential) {claim : Claim} where
+  pub speaks-owner : claim ≡ Elevated → owner ≡ speaksFor claim owner
+  speaks-owner e = rw e
 
-    pub elevated-claimant : {c : Credential} → c ≡ elevatedCredential st s → c ≡ claimant st s claim
-    unfolding claimant
-    elevated-claimant q = q ∙ rw e
+  pub speaks-itself : {u : UserClaim} → claim ≡ ByUser u → u .credential ≡ speaksFor claim owner
+  speaks-itself e = rw e
 
-  module _ {u : UserClaim} (e : claim ≡ ByUser u) where
-    pub user-number : {n : ℕ} → n ≡ userNumber st s u → n ≡ claimNumber st s claim
-    unfolding claimNumber
-    user-number q = q ∙ rw e
+module _ (t : Table) {f : Found} {p : Process} where
+  pub process-found-at : {k : ℕ} → f ≡ At k → p ≡ processAt t k → p ≡ processFound t f
+  unfolding processFound
+  process-found-at e q = q ∙ rw e
 
-    pub user-claimant : u .credential ≡ claimant st s claim
-    unfolding claimant
-    user-claimant = rw e
+  pub process-found-none : {n : ℕ} → f ≡ Nothing → n ≡ size t → p ≡ processAt t n → p ≡ processFound t f
+  unfolding processFound processAt size
+  process-found-none {n} e k q = q ∙ rw e (List·getD-eq-default (standing t) freePlace (omega (arith, k)))
 
-pub ruleset rules = (needs, length-mapped, when-hit, when-miss, unless-hit, unless-miss, when-stop, when-pass, unless-stop, unless-pass, part-stop, part-pass, handle-is, credential-is, phase-in, phase-out, closed-closed, closed-opened, closed-chosen, phase-argument, phase-closed, phase-opened, phase-chosen, entered-is, spent-is, turn-same, elevated-fine, elevated-number, elevated-claimant, user-fine, user-number, user-claimant, provisioned-in, word-in, provisioned-out, word-out, process-is, missing-stop, found-pass, missing-last, found-last, none-elevated, one-elevated, grants-not, grants-is, granted-is)
+pub view-is : (st : State) (s : Session) (claim : Claim) {a : Active} {f : Found} {p : Process} {c : Credential} {phase : Phase} {b : Bool} {w : ℕ}
+    → a ≡ claimed s claim → f ≡ firstPlace (isActive a) (standing (st .table)) → p ≡ processFound (st .table) f → c ≡ speaksFor claim (p .credential)
+    → phase ≡ phaseOf st s → b ≡ provisioned st c → w ≡ wordOf st c
+    → _≡_ {A = ClaimView} (record { phase = phase; provisioned = b; found = f; next = p .next; credential = c; word = w }) (claimView st s claim)
+view-is st s claim ea ef ep ec h eb ew =
+    view-of st s claim ea ef (ap (λ (q : Process). q .credential) ep) (ap (λ (q : Process). q .next) ep) ec h eb ew
+
+-- ---- its check
+module _ (view : ClaimView) {f : Found} (e : f ≡ view .found) where
+  pub missing-stop : (n m : ℕ) → T (ltb 0 n) → f ≡ Nothing → n ≡ n unless isFound (view .found) ▸ m
+  missing-stop n m some q = rw (← e, q) (sym (stop m (λ z. nonzero some (sym (unless-false n {b = false} refl) ∙ z)) ∙ unless-false n {b = false} refl))
+
+  pub found-pass : (n m : ℕ) {r k : ℕ} → f ≡ At k → r ≡ m → r ≡ n unless isFound (view .found) ▸ m
+  found-pass n m q a = a ∙ rw (← e, q) (sym (pass m (unless-true n {b = true} refl)))
+
+  pub missing-last : (n : ℕ) → f ≡ Nothing → n ≡ n unless isFound (view .found)
+  missing-last n q = rw (← e, q) (sym (unless-false n {b = false} refl))
+
+  pub found-last : (n : ℕ) {k : ℕ} → f ≡ At k → 0 ≡ n unless isFound (view .found)
+  found-last n q = rw (← e, q) (sym (unless-true n {b = true} refl))
+
+module _ (view : ClaimView) {claim : Claim} {n : ℕ} where
+  pub viewed-elevated : claim ≡ Elevated → n ≡ viewedNumber Elevated view → n ≡ viewedNumber claim view
+  viewed-elevated e q = q ∙ rw e
+
+  pub viewed-user : {u : UserClaim} → claim ≡ ByUser u → n ≡ viewedNumber (ByUser u) view → n ≡ viewedNumber claim view
+  viewed-user e q = q ∙ rw e
+
+pub checked-is : (s : Session) (claim : Claim) (view : ClaimView) {n at : ℕ} {f : Found} → n ≡ checkedNumber s claim view → f ≡ view .found → at ≡ foundPlace 0 f
+    → _≡_ {A = Admission} (record { number = n; place = at; next = view .next; credential = view .credential; word = view .word }) (checkedClaim s claim view)
+unfolding checkedClaim
+checked-is s claim view a b c = rw (a, c, b)
+
+pub admission-is : (st : State) (s : Session) (claim : Claim) {view : ClaimView} {by : Admission} → view ≡ claimView st s claim → by ≡ checkedClaim s claim view → by ≡ admission st s claim
+unfolding admission
+admission-is st s claim e q = q ∙ rw e
+
+pub ruleset rules = (needs, length-mapped, when-hit, when-miss, unless-hit, unless-miss, when-stop, when-pass, unless-stop, unless-pass, part-stop, part-pass, handle-is, credential-is, phase-in, phase-out, closed-closed, closed-opened, closed-chosen, phase-argument, phase-closed, phase-opened, phase-chosen, entered-is, spent-is, elevated-fine, user-fine, provisioned-in, word-in, provisioned-out, word-out, claimed-elevation, claimed-user, speaks-owner, speaks-itself, process-found-at, process-found-none, view-is, missing-stop, found-pass, missing-last, found-last, viewed-elevated, viewed-user, checked-is, admission-is, grants-not, grants-is)

@@ -1,11 +1,12 @@
 // What the module holds, whom it grants what, and the check of a claim.
 ghost use mathlib.Core.Path.{_≡_};
-ghost use Rattle.claims.specs.Module.{isHandle, isCredential, phaseOf, isClosed, isChosen, provisioned, wordOf, wordGrants, granted};
-ghost use Rattle.claims.specs.Claim.{phaseNumber, entered, isClaim, isSpent, turnNumber, userNumber, elevatedNumber, claimNumber, admitted, elevatedCredential, claimant};
+ghost use Rattle.claims.specs.Module.{isHandle, isCredential, phaseOf, isClosed, isChosen, provisioned, wordOf, wordGrants};
+ghost use Rattle.claims.specs.Claim.{phaseNumber, entered, isClaim, isSpent, turnNumber, claimed, speaksFor, processFound, claimView, viewedNumber, checkedNumber, checkedClaim, admission};
 use names::Credential;
 use names::Session;
 use table::Active;
 use table::Found;
+use table::Process;
 use table::Table;
 
 // The numbers that a call can answer.
@@ -85,6 +86,25 @@ pub enum Claim {
     ByUser(UserClaim),
 }
 
+// What a state tells of a claim that is made in a session: all that its check asks.
+pub struct ClaimView {
+    pub phase: Phase,
+    pub provisioned: bool,
+    pub found: Found,
+    pub next: u16,
+    pub credential: Credential,
+    pub word: u32,
+}
+
+// What the check of a claim comes to: its number, and what a call goes on with where that is 0.
+pub struct Admission {
+    pub number: u8,
+    pub place: usize,
+    pub next: u16,
+    pub credential: Credential,
+    pub word: u32,
+}
+
 pub fn is_handle(s: Session) -> bool
     ensures { λ r. ⌜ r ≡ isHandle s ⌝ }
 {
@@ -158,15 +178,8 @@ pub fn word_grants(word: u32, class: Class) -> bool
     (word >> bit) % 2 == 1
 }
 
-// Whether a credential's word grants a class.
-pub fn granted(st: State, c: Credential, class: Class) -> bool
-    ensures { λ r. ⌜ r ≡ granted st c class ⌝ }
-{
-    word_grants(word_of(st, c), class)
-}
-
 // The tests that all calls but open, close and select begin with, of a session in a phase.
-pub fn phase_number(s: Session, phase: Phase) -> u8
+fn phase_number(s: Session, phase: Phase) -> u8
     ensures { λ r. ⌜ r ≡ phaseNumber s phase ⌝ }
 {
     if !is_handle(s) {
@@ -186,24 +199,13 @@ pub fn entered(st: State, s: Session) -> u8
 }
 
 // Whether a claim's credential, where it has one, is in its range.
-pub fn is_claim(claim: Claim) -> bool
+fn is_claim(claim: Claim) -> bool
     ensures { λ r. ⌜ r ≡ isClaim claim ⌝ }
 {
     match claim {
         Claim::Elevated => true,
         Claim::ByUser(u) => is_credential(u.credential),
     }
-}
-
-fn elevated_number(st: State, s: Session) -> u8
-    ensures { λ r. ⌜ r ≡ elevatedNumber st s ⌝ }
-{
-    let t = st.table;
-    let found = table::find_active(t, Active::ElevationIn(s));
-    let Found::At(_) = found else {
-        return NO_PROCESS;
-    };
-    DONE
 }
 
 fn is_spent(next: u16) -> bool
@@ -213,7 +215,7 @@ fn is_spent(next: u16) -> bool
 }
 
 // The tests that ask for the turn, of a process with that next number.
-pub fn turn_number(next: u16, u: UserClaim) -> u8
+fn turn_number(next: u16, u: UserClaim) -> u8
     ensures { λ r. ⌜ r ≡ turnNumber next u ⌝ }
 {
     if is_spent(next) {
@@ -229,63 +231,124 @@ pub fn turn_number(next: u16, u: UserClaim) -> u8
     DONE
 }
 
-fn user_number(st: State, s: Session, u: UserClaim) -> u8
-    ensures { λ r. ⌜ r ≡ userNumber st s u ⌝ }
-{
-    let c = u.credential;
-    if !provisioned(st, c) {
-        return CREDENTIAL;
-    }
-    let t = st.table;
-    let found = table::find_active(t, Active::UserOf(s, c));
-    let Found::At(at) = found else {
-        return NO_PROCESS;
-    };
-    let p = table::process_at(t, at);
-    turn_number(p.next, u)
-}
-
-fn claim_number(st: State, s: Session, claim: Claim) -> u8
-    ensures { λ r. ⌜ r ≡ claimNumber st s claim ⌝ }
+// The active process under which a claim is made.
+pub fn claimed(s: Session, claim: Claim) -> Active
+    ensures { λ r. ⌜ r ≡ claimed s claim ⌝ }
 {
     match claim {
-        Claim::Elevated => elevated_number(st, s),
-        Claim::ByUser(u) => user_number(st, s, u),
+        Claim::Elevated => Active::ElevationIn(s),
+        Claim::ByUser(u) => {
+            let c = u.credential;
+            Active::UserOf(s, c)
+        }
     }
 }
 
-// The tests that all protected calls begin with: the claim's check is the last of them.
-pub fn admitted(st: State, s: Session, claim: Claim) -> u8
-    ensures { λ r. ⌜ r ≡ admitted st s claim ⌝ }
+// Whom a claim speaks for, by the owner of the process under which it is made.
+pub fn speaks_for(claim: Claim, owner: Credential) -> Credential
+    ensures { λ r. ⌜ r ≡ speaksFor claim owner ⌝ }
+{
+    match claim {
+        Claim::Elevated => owner,
+        Claim::ByUser(u) => u.credential,
+    }
+}
+
+// The process that a search found; a free place where it found none.
+fn process_found(t: Table, found: Found) -> Process
+    ensures { λ r. ⌜ r ≡ processFound t found ⌝ }
+{
+    match found {
+        Found::At(at) => table::process_at(t, at),
+        Found::Nothing => table::process_at(t, table::size(t)),
+    }
+}
+
+pub fn claim_view(st: State, s: Session, claim: Claim) -> ClaimView
+    ensures { λ r. ⌜ r ≡ claimView st s claim ⌝ }
+{
+    let t = st.table;
+    let found = table::find_active(t, claimed(s, claim));
+    let p = process_found(t, found);
+    let owner = p.credential;
+    let c = speaks_for(claim, owner);
+    ClaimView {
+        phase: phase_of(st, s),
+        provisioned: provisioned(st, c),
+        found: found,
+        next: p.next,
+        credential: c,
+        word: word_of(st, c),
+    }
+}
+
+// ---- the check of a claim
+
+fn elevated_number(view: ClaimView) -> u8
+    ensures { λ r. ⌜ r ≡ viewedNumber Claim.Elevated view ⌝ }
+{
+    let found = view.found;
+    let Found::At(_) = found else {
+        return NO_PROCESS;
+    };
+    DONE
+}
+
+fn user_number(u: UserClaim, view: ClaimView) -> u8
+    ensures { λ r. ⌜ r ≡ viewedNumber (Claim.ByUser u) view ⌝ }
+{
+    if !view.provisioned {
+        return CREDENTIAL;
+    }
+    let found = view.found;
+    let Found::At(_) = found else {
+        return NO_PROCESS;
+    };
+    turn_number(view.next, u)
+}
+
+fn viewed_number(claim: Claim, view: ClaimView) -> u8
+    ensures { λ r. ⌜ r ≡ viewedNumber claim view ⌝ }
+{
+    match claim {
+        Claim::Elevated => elevated_number(view),
+        Claim::ByUser(u) => user_number(u, view),
+    }
+}
+
+fn checked_number(s: Session, claim: Claim, view: ClaimView) -> u8
+    ensures { λ r. ⌜ r ≡ checkedNumber s claim view ⌝ }
 {
     if !is_claim(claim) {
         return ARGUMENT;
     }
-    let entry = entered(st, s);
+    let phase = view.phase;
+    let entry = phase_number(s, phase);
     if entry != DONE {
         return entry;
     }
-    claim_number(st, s, claim)
+    viewed_number(claim, view)
 }
 
-fn elevated_credential(st: State, s: Session) -> Credential
-    ensures { λ r. ⌜ r ≡ elevatedCredential st s ⌝ }
+// The tests that all protected calls begin with, the claim's check the last of them, wherever the state lies that the view is of.
+pub fn check_claim(s: Session, claim: Claim, view: ClaimView) -> Admission
+    ensures { λ r. ⌜ r ≡ checkedClaim s claim view ⌝ }
 {
-    let t = st.table;
-    let found = table::find_active(t, Active::ElevationIn(s));
-    let Found::At(at) = found else {
-        return Credential(0);
-    };
-    let p = table::process_at(t, at);
-    p.credential
-}
-
-// The credential that an admitted claim speaks for.
-pub fn claimant(st: State, s: Session, claim: Claim) -> Credential
-    ensures { λ r. ⌜ r ≡ claimant st s claim ⌝ }
-{
-    match claim {
-        Claim::Elevated => elevated_credential(st, s),
-        Claim::ByUser(u) => u.credential,
+    let number = checked_number(s, claim, view);
+    let found = view.found;
+    let place = table::found_place(found, 0);
+    let c = view.credential;
+    Admission {
+        number: number,
+        place: place,
+        next: view.next,
+        credential: c,
+        word: view.word,
     }
+}
+
+pub fn admit(st: State, s: Session, claim: Claim) -> Admission
+    ensures { λ r. ⌜ r ≡ admission st s claim ⌝ }
+{
+    check_claim(s, claim, claim_view(st, s, claim))
 }

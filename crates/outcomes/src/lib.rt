@@ -1,11 +1,12 @@
 // The calls: state in by value, answer and state out by value. Each call asks its tests for the number, and does what it does where that is 0.
 ghost use mathlib.Core.Path.{_≡_};
-ghost use Rattle.claims.specs.Claim.{admitted};
+ghost use Rattle.claims.specs.Claim.{admission};
 ghost use Rattle.calls.specs.Calls.{Open, Close, Select, Start, Continue, Elevate, Drop, End, Record, Kill, SetWord, withTable, withPhase, withWord, userProcess, elevation, activated, saved, counted, ended, outcome, listed, taken, fresh};
 use calls::Answer;
 use calls::Listed;
 use calls::Outcome;
 use calls::Wanted;
+use claims::Admission;
 use claims::Claim;
 use claims::Class;
 use claims::DONE;
@@ -157,26 +158,25 @@ fn saved(p: Process) -> Process
     }
 }
 
-fn counted_user(st: State, s: Session, u: UserClaim) -> State
-    requires { ⌜ admitted st s (Claim.ByUser u) ≡ 0 ⌝ }
+fn counted_user(st: State, s: Session, u: UserClaim, by: Admission) -> State
+    requires { ⌜ (by ≡ admission st s (Claim.ByUser u)) × (by .number ≡ 0) ⌝ }
     ensures { λ r. ⌜ r ≡ counted st s (Claim.ByUser u) ⌝ }
 {
-    let c = u.credential;
     let t = st.table;
-    let at = calls::active_place(st, Active::UserOf(s, c));
+    let at = by.place;
     let mut p = table::process_at(t, at);
     p.next = p.next + 1;
     with_table(st, table::replaced(t, at, p))
 }
 
 // The claim counted: an admitted user claim adds one to its process's next number.
-fn counted(st: State, s: Session, claim: Claim) -> State
-    requires { ⌜ admitted st s claim ≡ 0 ⌝ }
+fn counted(st: State, s: Session, claim: Claim, by: Admission) -> State
+    requires { ⌜ (by ≡ admission st s claim) × (by .number ≡ 0) ⌝ }
     ensures { λ r. ⌜ r ≡ counted st s claim ⌝ }
 {
     match claim {
         Claim::Elevated => st,
-        Claim::ByUser(u) => counted_user(st, s, u),
+        Claim::ByUser(u) => counted_user(st, s, u, by),
     }
 }
 
@@ -282,13 +282,13 @@ fn ended(st: State, at: usize, keep: bool) -> State
 pub fn end(st: State, s: Session, u: UserClaim, keep: bool) -> Outcome
     ensures { λ r. ⌜ r ≡ outcome st (End s u keep) ⌝ }
 {
-    let n = calls::end_number(st, s, u, keep);
+    let by = claims::admit(st, s, Claim::ByUser(u));
+    let n = calls::end_number(by, keep);
     if n != DONE {
         return refused_claim(st, n, Claim::ByUser(u));
     }
-    let c = u.credential;
-    let at = calls::active_place(st, Active::UserOf(s, c));
-    accepted(ended(counted_user(st, s, u), at, keep))
+    let next = counted_user(st, s, u, by);
+    accepted(ended(next, by.place, keep))
 }
 
 // ---- record
@@ -296,11 +296,12 @@ pub fn end(st: State, s: Session, u: UserClaim, keep: bool) -> Outcome
 pub fn record(st: State, s: Session, claim: Claim, class: Class) -> Outcome
     ensures { λ r. ⌜ r ≡ outcome st (Record s claim class) ⌝ }
 {
-    let n = calls::record_number(st, s, claim, class);
+    let by = claims::admit(st, s, claim);
+    let n = calls::record_number(by, class);
     if n != DONE {
         return refused_claim(st, n, claim);
     }
-    accepted(counted(st, s, claim))
+    accepted(counted(st, s, claim, by))
 }
 
 // ---- list
@@ -309,7 +310,8 @@ pub fn record(st: State, s: Session, claim: Claim, class: Class) -> Outcome
 pub fn list(st: State, s: Session, claim: Claim, wanted: Wanted, room: usize) -> Listed
     ensures { λ r. ⌜ r ≡ listed st s claim wanted room ⌝ }
 {
-    let n = calls::list_number(st, s, claim, wanted, room);
+    let by = claims::admit(st, s, claim);
+    let n = calls::list_number(st, by, wanted, room);
     if n != DONE {
         return Listed {
             outcome: refused_claim(st, n, claim),
@@ -317,7 +319,7 @@ pub fn list(st: State, s: Session, claim: Claim, wanted: Wanted, room: usize) ->
         };
     }
     Listed {
-        outcome: accepted(counted(st, s, claim)),
+        outcome: accepted(counted(st, s, claim, by)),
         length: calls::message_length(st, wanted),
     }
 }
@@ -327,13 +329,13 @@ pub fn list(st: State, s: Session, claim: Claim, wanted: Wanted, room: usize) ->
 pub fn kill(st: State, s: Session, claim: Claim, name: Name) -> Outcome
     ensures { λ r. ⌜ r ≡ outcome st (Kill s claim name) ⌝ }
 {
-    let n = calls::kill_number(st, s, claim, name);
+    let by = claims::admit(st, s, claim);
+    let n = calls::kill_number(st, by, name);
     if n != DONE {
         return refused_claim(st, n, claim);
     }
-    let among = calls::reach(st, claims::claimant(st, s, claim));
-    let at = calls::named_place(st, name, among);
-    let next = counted(st, s, claim);
+    let at = calls::named_place(st, name, calls::reach(by));
+    let next = counted(st, s, claim, by);
     let t = next.table;
     accepted(with_table(next, table::removed(t, at)))
 }
@@ -343,11 +345,12 @@ pub fn kill(st: State, s: Session, claim: Claim, name: Name) -> Outcome
 pub fn set_word(st: State, s: Session, claim: Claim, target: Credential, word: u32) -> Outcome
     ensures { λ r. ⌜ r ≡ outcome st (SetWord s claim target word) ⌝ }
 {
-    let n = calls::set_word_number(st, s, claim, target, word);
+    let by = claims::admit(st, s, claim);
+    let n = calls::set_word_number(st, by, target);
     if n != DONE {
         return refused_claim(st, n, claim);
     }
-    accepted(with_word(counted(st, s, claim), target, word))
+    accepted(with_word(counted(st, s, claim, by), target, word))
 }
 
 // ---- a fresh module

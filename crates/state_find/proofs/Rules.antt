@@ -23,15 +23,19 @@ use Rattle.names.specs.declared.Session.{Session}
 use Rattle.table.specs.Table.{standing, freePlace, size, isUser, isElevation, isActive, firstPlace, processAt}
 use Rattle.table.specs.declared.Active.{Active}
 use Rattle.table.specs.declared.Active.the-variants.{UserOf, ElevationIn}
+use Rattle.table.specs.declared.Found.{Found}
 use Rattle.table.specs.declared.Found.the-variants.{At, Nothing}
 use Rattle.table.specs.declared.Process.{Process}
+use Rattle.table.specs.declared.Table.{Table}
 use Rattle.table.proofs.Laws.{standing-of, size-few}
 use Rattle.table.proofs.Rules.{noProcess, size-part, size-all, Searching, begin, on, hit, none, process-got, process-none}
 use Rattle.claims.specs.Module.{closedSession, phaseOf, unprovisioned, provisioned, wordOf}
+use Rattle.claims.specs.Claim.{processFound}
 use Rattle.claims.specs.declared.Grants.{Grants}
 use Rattle.claims.specs.declared.Phase.{Phase}
 use Rattle.claims.specs.declared.Phase.the-variants.{Closed}
 use Rattle.claims.specs.declared.SessionState.{SessionState}
+use Rattle.claims.proofs.Laws.{view-of}
 use Rattle.layout.specs.Layout.{phaseNumbered, sessionOf, grantsOf, processOf, countIn, placesIn, stateOf}
 use Rattle.layout.proofs.Laws.{state-in, state-not-in}
 use Rattle.layout.proofs.Parts.{grants-part, place-part, word-in, next-in}
@@ -266,4 +270,23 @@ module _ (s : List ℕ) where
           in
           q ∙ sym next ∙ ap (λ (p : Process). p .next) (process-read low k)
 
-pub ruleset rules = (needs, length-mapped, phase-short, phase-past, phase-read, provisioned-short, provisioned-past, provisioned-read, word-short, word-past, word-read, active-no-user, active-elsewhere, active-user, active-no-elevation, active-elevation, find-short, next-short, size-some, size-every, find-begin, find-on, find-hit, find-none, next-past, next-none, next-read, owner-short, owner-past, owner-none, owner-read, place-part)
+-- ---- the process that the search found
+module _ (t : Table) {f : Found} where
+  module _ {k : ℕ} (e : f ≡ At k) where
+    pub owner-found : {c : Credential} → c ≡ processAt t k .credential → c ≡ processFound t f .credential
+    unfolding processFound
+    owner-found q = q ∙ rw e
+
+    pub next-found : {n : ℕ} → n ≡ processAt t k .next → n ≡ processFound t f .next
+    unfolding processFound
+    next-found q = q ∙ rw e
+
+  pub owner-missing : f ≡ Nothing → noOwner ≡ processFound t f .credential
+  unfolding processFound
+  owner-missing e = rw e
+
+  pub next-missing : f ≡ Nothing → 0 ≡ processFound t f .next
+  unfolding processFound
+  next-missing e = rw e
+
+pub ruleset rules = (needs, length-mapped, phase-short, phase-past, phase-read, provisioned-short, provisioned-past, provisioned-read, word-short, word-past, word-read, active-no-user, active-elsewhere, active-user, active-no-elevation, active-elevation, find-short, next-short, size-some, size-every, find-begin, find-on, find-hit, find-none, next-past, next-none, next-read, owner-short, owner-past, owner-none, owner-read, place-part, owner-found, next-found, owner-missing, next-missing, view-of)

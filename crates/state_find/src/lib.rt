@@ -1,9 +1,12 @@
-// Single fields of the state that a slice says, read where they lie: for an entry that need not read the whole. docs/STATE.md draws the layout.
+// What the check of a claim asks of the state that a slice says, read where it lies: for an entry that need not read the whole. docs/STATE.md draws the layout.
 ghost use mathlib.Core.Path.{_≡_};
 ghost use lib.ListN.{length};
 ghost use Rattle.table.specs.Table.{size, isActive, findActive, processAt};
 ghost use Rattle.claims.specs.Module.{phaseOf, provisioned, wordOf};
+ghost use Rattle.claims.specs.Claim.{processFound, claimView};
 ghost use Rattle.layout.specs.Layout.{processOf, stateOf};
+use claims::Claim;
+use claims::ClaimView;
 use claims::Phase;
 use names::Credential;
 use names::Session;
@@ -13,7 +16,7 @@ use table::Found;
 // ---- sessions and credentials
 
 // The phase of a session; closed where there is no such session.
-pub fn phase_of(s: &[u8], session: Session) -> Phase
+fn phase_of(s: &[u8], session: Session) -> Phase
     ensures { λ r. ⌜ r ≡ phaseOf (stateOf (now (s .entry))) session ⌝ }
 {
     let at = session.0 as usize;
@@ -27,7 +30,7 @@ pub fn phase_of(s: &[u8], session: Session) -> Phase
 }
 
 // Whether a credential is provisioned; not, where there is no such credential.
-pub fn provisioned(s: &[u8], c: Credential) -> bool
+fn provisioned(s: &[u8], c: Credential) -> bool
     ensures { λ r. ⌜ r ≡ provisioned (stateOf (now (s .entry))) c ⌝ }
 {
     let at = c.0 as usize;
@@ -41,7 +44,7 @@ pub fn provisioned(s: &[u8], c: Credential) -> bool
 }
 
 // The grant word of a credential; 0, where there is no such credential.
-pub fn word_of(s: &[u8], c: Credential) -> u32
+fn word_of(s: &[u8], c: Credential) -> u32
     ensures { λ r. ⌜ r ≡ wordOf (stateOf (now (s .entry))) c ⌝ }
 {
     let at = c.0 as usize;
@@ -92,7 +95,7 @@ fn is_active(row: &[u8], which: Active) -> bool
 }
 
 // The first process that is active so.
-pub fn find_active(s: &[u8], which: Active) -> Found
+fn find_active(s: &[u8], which: Active) -> Found
     ensures { λ r. ⌜ r ≡ findActive (stateOf (now (s .entry)) .table) which ⌝ }
 {
     if s.len() != 681 {
@@ -119,7 +122,7 @@ pub fn find_active(s: &[u8], which: Active) -> Found
 }
 
 // The next number of the process at a place; 0 where none stands there.
-pub fn next_number(s: &[u8], at: usize) -> u16
+fn next_number(s: &[u8], at: usize) -> u16
     ensures { λ r. ⌜ r ≡ processAt (stateOf (now (s .entry)) .table) at .next ⌝ }
 {
     if s.len() != 681 {
@@ -136,7 +139,7 @@ pub fn next_number(s: &[u8], at: usize) -> u16
 }
 
 // The credential of the process at a place; 0 where none stands there.
-pub fn credential_at(s: &[u8], at: usize) -> Credential
+fn credential_at(s: &[u8], at: usize) -> Credential
     ensures { λ r. ⌜ r ≡ processAt (stateOf (now (s .entry)) .table) at .credential ⌝ }
 {
     if s.len() != 681 {
@@ -150,4 +153,41 @@ pub fn credential_at(s: &[u8], at: usize) -> Credential
     }
     let a = 45 + at * 53;
     Credential(state_read::wide16(s[a]))
+}
+
+// ---- what the check of a claim asks
+
+fn owner_found(s: &[u8], found: Found) -> Credential
+    ensures { λ r. ⌜ r ≡ processFound (stateOf (now (s .entry)) .table) found .credential ⌝ }
+{
+    match found {
+        Found::At(at) => credential_at(s, at),
+        Found::Nothing => Credential(0),
+    }
+}
+
+fn next_found(s: &[u8], found: Found) -> u16
+    ensures { λ r. ⌜ r ≡ processFound (stateOf (now (s .entry)) .table) found .next ⌝ }
+{
+    match found {
+        Found::At(at) => next_number(s, at),
+        Found::Nothing => 0,
+    }
+}
+
+// What the state tells of a claim that is made in a session.
+pub fn claim_view(s: &[u8], session: Session, claim: Claim) -> ClaimView
+    ensures { λ r. ⌜ r ≡ claimView (stateOf (now (s .entry))) session claim ⌝ }
+{
+    let found = find_active(s, claims::claimed(session, claim));
+    let next = next_found(s, found);
+    let c = claims::speaks_for(claim, owner_found(s, found));
+    ClaimView {
+        phase: phase_of(s, session),
+        provisioned: provisioned(s, c),
+        found: found,
+        next: next,
+        credential: c,
+        word: word_of(s, c),
+    }
 }

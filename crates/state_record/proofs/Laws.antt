@@ -17,12 +17,11 @@ use Rattle.table.specs.declared.Active.{Active}
 use Rattle.table.specs.declared.Active.the-variants.{UserOf}
 use Rattle.claims.specs.Numbers.{_unless_, _▸_}
 use Rattle.claims.specs.Module.{hasActive, activePlace, activeProcess}
-use Rattle.claims.specs.Claim.{userNumber, claimNumber, admitted}
+use Rattle.claims.specs.Claim.{admitted, claimed}
 use Rattle.claims.specs.declared.Claim.{Claim}
 use Rattle.claims.specs.declared.Claim.the-variants.{Elevated, ByUser}
 use Rattle.claims.specs.declared.State.{State}
-use Rattle.claims.specs.declared.UserClaim.{UserClaim}
-use Rattle.claims.proofs.Laws.{clear-first, clear-rest, clear-unless}
+use Rattle.claims.proofs.Laws.{claim-stands}
 use Rattle.calls.specs.Calls.{Call, number, counted, outcome}
 use Rattle.calls.proofs.Laws.{refusal-leaves}
 use Rattle.layout.specs.Layout.{stateOf, stateBytes, holdsState}
@@ -56,19 +55,14 @@ pub entry-refused : (fine : Bool) (before : List ℕ) (call : Call) {h : Bool} �
 entry-refused fine before call {h} e k q z = entry-made fine before call (sym (e .is) ∙ not-false h k) q (sym (refusal-bytes e k call (λ w. z (q ∙ w))))
 
 -- ---- the count
--- an admitted user claim has its process
-pub user-stands : (st : State) (s : Session) (u : UserClaim) → admitted st s (ByUser u) ≡ 0 → hasActive st (UserOf s (u .credential)) ≡ true
-unfolding admitted claimNumber userNumber
-user-stands st s u z = clear-unless 6 tt _ (clear-first _ _ (clear-rest _ _ (clear-rest _ _ (clear-rest _ _ z))))
-
 inside : (st : State) (which : Active) → hasActive st which ≡ true → activePlace st which < length (standing (st .table))
 unfolding hasActive activePlace
 inside st which h = first-inside (isActive which) (standing (st .table)) h
 
 pub counted-held : (b : List ℕ) → Bytes b → holdsState b ≡ true → (s : Session) (claim : Claim) → admitted (stateOf b) s claim ≡ 0
     → countedIn b s claim ≡ stateBytes (counted (stateOf b) s claim)
-unfolding countedIn counted activeProcess
+unfolding countedIn counted activeProcess claimed
 counted-held b g e s Elevated z = sym (one-form b e g)
 counted-held b g e s (ByUser u) z =
     let which : Active = UserOf s (u .credential) in
-    next-held b (activePlace (stateOf b) which) (activeProcess (stateOf b) which .next + 1) g e (inside (stateOf b) which (user-stands (stateOf b) s u z))
+    next-held b (activePlace (stateOf b) which) (activeProcess (stateOf b) which .next + 1) g e (inside (stateOf b) which (claim-stands (stateOf b) s (ByUser u) z))

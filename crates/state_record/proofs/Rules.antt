@@ -8,63 +8,44 @@ use borrow.Author.Tests.{not-true, not-false}
 use mir.Val.{Fits}
 use mir.Syntax.{w16}
 use Rattle.lists.specs.Bytes.{Bytes}
-use Rattle.lists.proofs.Tests.{clash}
-use Rattle.names.specs.declared.Credential.{Credential}
 use Rattle.names.specs.declared.Session.{Session}
-use Rattle.table.specs.Table.{standing, processAt, isActive, firstPlace}
-use Rattle.table.specs.declared.Active.{Active}
-use Rattle.table.specs.declared.Active.the-variants.{UserOf, ElevationIn}
-use Rattle.table.specs.declared.Found.{Found}
-use Rattle.table.specs.declared.Found.the-variants.{At, Nothing}
+use Rattle.table.specs.Table.{processAt}
+use Rattle.table.specs.declared.Active.the-variants.{UserOf}
 use Rattle.table.specs.declared.Process.{Process}
-use Rattle.claims.specs.Module.{activePlace, activeProcess}
-use Rattle.claims.specs.Claim.{turnNumber, admitted, elevatedCredential}
+use Rattle.claims.specs.Numbers.{_unless_, _▸_}
+use Rattle.claims.specs.Module.{wordGrants, activeProcess}
+use Rattle.claims.specs.Claim.{claimed, admission}
+use Rattle.claims.specs.declared.Admission.{Admission}
 use Rattle.claims.specs.declared.Claim.{Claim}
 use Rattle.claims.specs.declared.Claim.the-variants.{Elevated, ByUser}
 use Rattle.claims.specs.declared.Class.{Class}
-use Rattle.claims.specs.declared.State.{State}
 use Rattle.claims.specs.declared.UserClaim.{UserClaim}
-use Rattle.claims.proofs.Laws.{clear-first, clear-rest}
-use Rattle.claims.proofs.Rules.{none-active, place-is, process-is}
-use Rattle.calls.specs.Calls.{Call, number, Record, effect}
+use Rattle.claims.proofs.Laws.{admission-next}
+use Rattle.calls.specs.Calls.{Call, number, Record, isDevice, effect}
 use Rattle.calls.specs.declared.Outcome.{Outcome}
-use Rattle.calls.proofs.Laws.{outcome-done}
-use Rattle.calls.proofs.Rules.{next-fits, rules as call-rules}
+use Rattle.calls.proofs.Laws.{outcome-done, checked-number, record-number}
+use Rattle.calls.proofs.Rules.{clear-second, claim-place, next-fits, rules as call-rules}
 use Rattle.layout.specs.Layout.{stateOf, stateBytes, holdsState, nextWritten}
 use Rattle.state_record.specs.Entry.{isMade, Ready, Entry}
 use Rattle.state_record.specs.Recorded.{countedIn}
-use Rattle.state_record.proofs.Laws.{entry-none, entry-made, made-holds, entry-refused, user-stands, counted-held}
-
--- ---- the process that the search found
-module _ (st : State) (which : Active) {f : Found} (e : f ≡ firstPlace (isActive which) (standing (st .table))) {k : ℕ} (q : f ≡ At k) where
-  found-process : processAt (st .table) k ≡ activeProcess st which
-  found-process = process-is st which e q refl
-
-  pub turn-found : {next n : ℕ} (u : UserClaim) → next ≡ processAt (st .table) k .next → n ≡ turnNumber next u → n ≡ turnNumber (activeProcess st which .next) u
-  turn-found u a b = b ∙ rw (a, found-process)
-
-pub owner-found : (st : State) (s : Session) {f : Found} → f ≡ firstPlace (isActive (ElevationIn s)) (standing (st .table))
-    → {k : ℕ} {c : Credential} → f ≡ At k → c ≡ processAt (st .table) k .credential → c ≡ elevatedCredential st s
-unfolding elevatedCredential
-owner-found st s e q a = a ∙ ap (λ (p : Process). p .credential) (found-process st (ElevationIn s) e q)
+use Rattle.state_record.proofs.Laws.{entry-none, entry-made, made-holds, entry-refused, counted-held}
 
 -- ---- the count
-module _ (b : List ℕ) (s : Session) (u : UserClaim) (z : admitted (stateOf b) s (ByUser u) ≡ 0) {f : Found}
-    (e : f ≡ firstPlace (isActive (UserOf s (u .credential))) (standing (stateOf b .table)))
-  where
-    pub count-nowhere : f ≡ Nothing → b ≡ countedIn b s (ByUser u)
-    count-nowhere q = clash (user-stands (stateOf b) s u z) (none-active (stateOf b) (UserOf s (u .credential)) e q)
+module _ (b : List ℕ) (s : Session) (u : UserClaim) {by : Admission} (e : by ≡ admission (stateOf b) s (ByUser u)) (z : by .number ≡ 0) where
+  count-next : by .next ≡ activeProcess (stateOf b) (UserOf s (u .credential)) .next
+  unfolding claimed
+  count-next = rw e (admission-next (stateOf b) s (ByUser u))
 
-    module _ {k : ℕ} (q : f ≡ At k) where
-      place : k ≡ activePlace (stateOf b) (UserOf s (u .credential))
-      place = place-is (stateOf b) (UserOf s (u .credential)) e q
+  pub one-more-fits : by .next < 65536 → Fits w16 (by .next + 1)
+  unfolding activeProcess
+  one-more-fits h =
+      let p : Process = processAt (stateOf b .table) (by .place) in
+      let q : by .next ≡ p .next = count-next ∙ ap (λ (k : ℕ). processAt (stateOf b .table) k .next) (sym (claim-place (stateOf b) s u e z)) in
+      rw (← q) at (next-fits (stateOf b) s u e z refl (rw (← q) h))
 
-      pub one-more-fits : {next : ℕ} → next ≡ processAt (stateOf b .table) k .next → next < 65536 → Fits w16 (next + 1)
-      one-more-fits a h = rw (← a) at (next-fits (stateOf b) s u z place refl (rw (← a) h))
-
-      pub count-found : {next : ℕ} {after : List ℕ} → next ≡ processAt (stateOf b .table) k .next → after ≡ nextWritten b k (next + 1) → after ≡ countedIn b s (ByUser u)
-      unfolding countedIn
-      count-found a w = w ∙ rw (a, found-process (stateOf b) (UserOf s (u .credential)) e q, place)
+  pub count-written : {after : List ℕ} → after ≡ nextWritten b (by .place) (by .next + 1) → after ≡ countedIn b s (ByUser u)
+  unfolding countedIn
+  count-written w = w ∙ rw (count-next, claim-place (stateOf b) s u e z)
 
 module _ (b : List ℕ) (s : Session) {claim : Claim} where
   pub count-elevated : claim ≡ Elevated → b ≡ countedIn b s claim
@@ -75,10 +56,6 @@ module _ (b : List ℕ) (s : Session) {claim : Claim} where
   count-by-user e q = q ∙ rw e
 
 -- ---- the record
-record-admitted : (st : State) (s : Session) (claim : Claim) (class : Class) → number st (Record s claim class) ≡ 0 → admitted st s claim ≡ 0
-unfolding number
-record-admitted st s claim class z = clear-first _ _ (clear-rest _ _ z)
-
 module _ (b : List ℕ) (s : Session) (claim : Claim) (class : Class) {h : Bool} (e : Ready true b h) where
   abbrev call : Call
   call = Record s claim class
@@ -86,7 +63,10 @@ module _ (b : List ℕ) (s : Session) (claim : Claim) (class : Class) {h : Bool}
   pub record-none : not h ≡ true → Entry true b (Record s claim class) 1 b
   record-none k = entry-none true b call (sym (e .is) ∙ not-true h k)
 
-  module _ (k : not h ≡ false) {n : ℕ} (q : n ≡ number (stateOf b) (Record s claim class)) where
+  module _ (k : not h ≡ false) {by : Admission} (a : by ≡ admission (stateOf b) s claim) {n : ℕ} (c : n ≡ 1 unless isDevice class ▸ by .number ▸ 10 unless wordGrants (by .word) class) where
+    q : n ≡ number (stateOf b) (Record s claim class)
+    q = record-number (stateOf b) s claim a class c
+
     pub record-refused : (n ≡ 0 → ⊥) → Entry true b (Record s claim class) n b
     record-refused z = entry-refused true b call e k q z
 
@@ -96,7 +76,7 @@ module _ (b : List ℕ) (s : Session) (claim : Claim) (class : Class) {h : Bool}
         let m : number (stateOf b) call ≡ 0 = sym q ∙ z in
         entry-made true b call (sym (e .is) ∙ not-false h k) (sym m)
         (w
-        ∙ counted-held b (e .bytes) (made-holds e k) s claim (record-admitted (stateOf b) s claim class m)
+        ∙ counted-held b (e .bytes) (made-holds e k) s claim (sym (checked-number (stateOf b) s claim a) ∙ clear-second (1 unless isDevice class) (10 unless wordGrants (by .word) class) c z)
         ∙ ap (λ (o : Outcome). stateBytes (o .state)) (sym (outcome-done (stateOf b) call m)))
 
 -- ---- whether a call is made
@@ -109,4 +89,4 @@ module _ {fine : Bool} (b : List ℕ) (g : Bytes b) where
   unfolding isMade
   ready-not f = record { is = rw f; bytes = g }
 
-pub ruleset rules = (call-rules, turn-found, owner-found, count-nowhere, one-more-fits, count-found, count-elevated, count-by-user, record-none, record-refused, record-done)
+pub ruleset rules = (call-rules, one-more-fits, count-written, count-elevated, count-by-user, record-none, record-refused, record-done)

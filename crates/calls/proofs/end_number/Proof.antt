@@ -3,9 +3,6 @@ use Rattle.calls.proofs.Rules.{rules}
 use Rattle.calls.proofs.end_number.Statement.{statement}
 use Rattle.calls.proofs.end_number.Tie as tie
 
-admitted-requires : tie.Need-admitted-requires
-admitted-requires c κs = search rules
-
 returns : tie.Need-returns
 unfolding number
 returns c = search rules
@@ -22,5 +19,4 @@ unfolding number
 returns-3 c = search rules
 
 pub end-number-spec : {M : Type 1} → statement M
-end-number-spec =
-    tie.close (tie.spec admitted-requires returns lacks-saving-requires returns-2 returns-3)
+end-number-spec = tie.close (tie.spec returns lacks-saving-requires returns-2 returns-3)

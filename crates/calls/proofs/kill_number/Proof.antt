@@ -3,15 +3,9 @@ use Rattle.calls.proofs.Rules.{rules}
 use Rattle.calls.proofs.kill_number.Statement.{statement}
 use Rattle.calls.proofs.kill_number.Tie as tie
 
-admitted-requires : tie.Need-admitted-requires
-admitted-requires c κs = search rules
-
 returns : tie.Need-returns
 unfolding number
 returns c = search rules
-
-claimant-requires : tie.Need-claimant-requires
-claimant-requires c κs = search rules
 
 reach-requires : tie.Need-reach-requires
 reach-requires c κs = search rules
@@ -29,12 +23,4 @@ returns-3 c = search rules
 
 pub kill-number-spec : {M : Type 1} → statement M
 kill-number-spec =
-    tie.close
-    (tie.spec
-    admitted-requires
-    returns
-    claimant-requires
-    reach-requires
-    has-named-requires
-    returns-2
-    returns-3)
+    tie.close (tie.spec returns reach-requires has-named-requires returns-2 returns-3)

@@ -2,8 +2,8 @@ use Rattle.calls.proofs.Rules.{rules}
 use Rattle.calls.proofs.lacks_saving.Statement.{statement}
 use Rattle.calls.proofs.lacks_saving.Tie as tie
 
-granted-requires : tie.Need-granted-requires
-granted-requires c κs = search rules
+word-grants-requires : tie.Need-word-grants-requires
+word-grants-requires c κs = search rules
 
 returns : tie.Need-returns
 returns c = search rules
@@ -12,4 +12,4 @@ returns-2 : tie.Need-returns-2
 returns-2 c = search rules
 
 pub lacks-saving-spec : {M : Type 1} → statement M
-lacks-saving-spec = tie.close (tie.spec granted-requires returns returns-2)
+lacks-saving-spec = tie.close (tie.spec word-grants-requires returns returns-2)

@@ -10,15 +10,9 @@ returns : tie.Need-returns
 unfolding number
 returns c = search rules
 
-admitted-requires : tie.Need-admitted-requires
-admitted-requires c κs = search rules
-
 returns-2 : tie.Need-returns-2
 unfolding number
 returns-2 c = search rules
-
-claimant-requires : tie.Need-claimant-requires
-claimant-requires c κs = search rules
 
 may-list-requires : tie.Need-may-list-requires
 may-list-requires c κs = search rules
@@ -44,9 +38,7 @@ list-number-spec =
     (tie.spec
     is-wanted-requires
     returns
-    admitted-requires
     returns-2
-    claimant-requires
     may-list-requires
     returns-3
     is-short-requires

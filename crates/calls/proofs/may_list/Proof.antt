@@ -5,8 +5,8 @@ use Rattle.calls.proofs.may_list.Tie as tie
 is-own-requires : tie.Need-is-own-requires
 is-own-requires c κs = search rules
 
-granted-requires : tie.Need-granted-requires
-granted-requires c κs = search rules
+word-grants-requires : tie.Need-word-grants-requires
+word-grants-requires c κs = search rules
 
 returns : tie.Need-returns
 returns c = search rules
@@ -15,4 +15,4 @@ returns-2 : tie.Need-returns-2
 returns-2 c = search rules
 
 pub may-list-spec : {M : Type 1} → statement M
-may-list-spec = tie.close (tie.spec is-own-requires granted-requires returns returns-2)
+may-list-spec = tie.close (tie.spec is-own-requires word-grants-requires returns returns-2)

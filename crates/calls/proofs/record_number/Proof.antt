@@ -10,18 +10,12 @@ returns : tie.Need-returns
 unfolding number
 returns c = search rules
 
-admitted-requires : tie.Need-admitted-requires
-admitted-requires c κs = search rules
-
 returns-2 : tie.Need-returns-2
 unfolding number
 returns-2 c = search rules
 
-claimant-requires : tie.Need-claimant-requires
-claimant-requires c κs = search rules
-
-granted-requires : tie.Need-granted-requires
-granted-requires c κs = search rules
+word-grants-requires : tie.Need-word-grants-requires
+word-grants-requires c κs = search rules
 
 returns-3 : tie.Need-returns-3
 unfolding number
@@ -34,12 +28,4 @@ returns-4 c = search rules
 pub record-number-spec : {M : Type 1} → statement M
 record-number-spec =
     tie.close
-    (tie.spec
-    is-device-requires
-    returns
-    admitted-requires
-    returns-2
-    claimant-requires
-    granted-requires
-    returns-3
-    returns-4)
+    (tie.spec is-device-requires returns returns-2 word-grants-requires returns-3 returns-4)

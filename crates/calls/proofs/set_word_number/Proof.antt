@@ -10,18 +10,12 @@ returns : tie.Need-returns
 unfolding number
 returns c = search rules
 
-admitted-requires : tie.Need-admitted-requires
-admitted-requires c κs = search rules
-
 returns-2 : tie.Need-returns-2
 unfolding number
 returns-2 c = search rules
 
-claimant-requires : tie.Need-claimant-requires
-claimant-requires c κs = search rules
-
-granted-requires : tie.Need-granted-requires
-granted-requires c κs = search rules
+word-grants-requires : tie.Need-word-grants-requires
+word-grants-requires c κs = search rules
 
 returns-3 : tie.Need-returns-3
 unfolding number
@@ -44,10 +38,8 @@ set-word-number-spec =
     (tie.spec
     is-credential-requires
     returns
-    admitted-requires
     returns-2
-    claimant-requires
-    granted-requires
+    word-grants-requires
     returns-3
     provisioned-requires
     returns-4

@@ -1,10 +1,7 @@
-use Rattle.claims.specs.Claim.{elevatedNumber}
+use Rattle.claims.specs.Claim.{viewedNumber}
 use Rattle.claims.proofs.Rules.{rules}
 use Rattle.claims.proofs.elevated_number.Statement.{statement}
 use Rattle.claims.proofs.elevated_number.Tie as tie
-
-find-active-requires : tie.Need-find-active-requires
-find-active-requires c κs = search rules
 
 enum-told : tie.Need-enum-told
 enum-told c = search rules
@@ -13,13 +10,12 @@ enum-told-2 : tie.Need-enum-told-2
 enum-told-2 c = search rules
 
 returns : tie.Need-returns
-unfolding elevatedNumber
+unfolding viewedNumber
 returns c = search rules
 
 returns-2 : tie.Need-returns-2
-unfolding elevatedNumber
+unfolding viewedNumber
 returns-2 c = search rules
 
 pub elevated-number-spec : {M : Type 1} → statement M
-elevated-number-spec =
-    tie.close (tie.spec find-active-requires enum-told enum-told-2 returns returns-2)
+elevated-number-spec = tie.close (tie.spec enum-told enum-told-2 returns returns-2)

@@ -1,7 +1,3 @@
-use Prim.Native.Nat.{ℕ, _+_, _-_, _*_, _≤_, _<_}
-use mathlib.Core.Path.{_≡_, refl, sym, ap, _∙_}
-use mathlib.Core.Logic.{⊎-elim}
-use native.Mathlib.Omega.{arith}
 use Rattle.claims.proofs.Rules.{rules}
 use Rattle.claims.proofs.word_grants.Statement.{statement}
 use Rattle.claims.proofs.word_grants.Tie as tie

@@ -2,9 +2,6 @@ use Rattle.calls.proofs.Rules.{rules}
 use Rattle.outcomes.proofs.counted_user.Statement.{statement}
 use Rattle.outcomes.proofs.counted_user.Tie as tie
 
-active-place-requires : tie.Need-active-place-requires
-active-place-requires c κs = search rules
-
 process-at-requires : tie.Need-process-at-requires
 process-at-requires c κs = search rules
 
@@ -22,11 +19,4 @@ returns c = search rules
 
 pub counted-user-spec : {M : Type 1} → statement M
 counted-user-spec =
-    tie.close
-    (tie.spec
-    active-place-requires
-    process-at-requires
-    add-p
-    replaced-requires
-    with-table-requires
-    returns)
+    tie.close (tie.spec process-at-requires add-p replaced-requires with-table-requires returns)

@@ -1,8 +1,10 @@
-use Rattle.calls.specs.Calls.{number}
 use Rattle.calls.specs.Calls.{refusal}
 use Rattle.calls.proofs.Rules.{rules}
 use Rattle.outcomes.proofs.end.Statement.{statement}
 use Rattle.outcomes.proofs.end.Tie as tie
+
+admit-requires : tie.Need-admit-requires
+admit-requires c κs = search rules
 
 end-number-requires : tie.Need-end-number-requires
 end-number-requires c κs = search rules
@@ -14,11 +16,7 @@ returns : tie.Need-returns
 unfolding refusal
 returns c = search rules
 
-active-place-requires : tie.Need-active-place-requires
-active-place-requires c κs = search rules
-
 counted-user-requires : tie.Need-counted-user-requires
-unfolding number
 counted-user-requires c κs = search rules
 
 ended-requires : tie.Need-ended-requires
@@ -34,10 +32,10 @@ pub end-spec : {M : Type 1} → statement M
 end-spec =
     tie.close
     (tie.spec
+    admit-requires
     end-number-requires
     refused-claim-requires
     returns
-    active-place-requires
     counted-user-requires
     ended-requires
     accepted-requires

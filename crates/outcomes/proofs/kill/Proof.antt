@@ -1,8 +1,10 @@
-use Rattle.calls.specs.Calls.{number}
 use Rattle.calls.specs.Calls.{refusal}
 use Rattle.calls.proofs.Rules.{rules}
 use Rattle.outcomes.proofs.kill.Statement.{statement}
 use Rattle.outcomes.proofs.kill.Tie as tie
+
+admit-requires : tie.Need-admit-requires
+admit-requires c κs = search rules
 
 kill-number-requires : tie.Need-kill-number-requires
 kill-number-requires c κs = search rules
@@ -14,9 +16,6 @@ returns : tie.Need-returns
 unfolding refusal
 returns c = search rules
 
-claimant-requires : tie.Need-claimant-requires
-claimant-requires c κs = search rules
-
 reach-requires : tie.Need-reach-requires
 reach-requires c κs = search rules
 
@@ -24,7 +23,6 @@ named-place-requires : tie.Need-named-place-requires
 named-place-requires c κs = search rules
 
 counted-requires : tie.Need-counted-requires
-unfolding number
 counted-requires c κs = search rules
 
 removed-requires : tie.Need-removed-requires
@@ -43,10 +41,10 @@ pub kill-spec : {M : Type 1} → statement M
 kill-spec =
     tie.close
     (tie.spec
+    admit-requires
     kill-number-requires
     refused-claim-requires
     returns
-    claimant-requires
     reach-requires
     named-place-requires
     counted-requires

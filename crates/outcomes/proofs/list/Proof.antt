@@ -1,7 +1,9 @@
-use Rattle.calls.specs.Calls.{number}
 use Rattle.calls.proofs.Rules.{rules}
 use Rattle.outcomes.proofs.list.Statement.{statement}
 use Rattle.outcomes.proofs.list.Tie as tie
+
+admit-requires : tie.Need-admit-requires
+admit-requires c κs = search rules
 
 list-number-requires : tie.Need-list-number-requires
 list-number-requires c κs = search rules
@@ -13,7 +15,6 @@ returns : tie.Need-returns
 returns c = search rules
 
 counted-requires : tie.Need-counted-requires
-unfolding number
 counted-requires c κs = search rules
 
 accepted-requires : tie.Need-accepted-requires
@@ -29,6 +30,7 @@ pub list-spec : {M : Type 1} → statement M
 list-spec =
     tie.close
     (tie.spec
+    admit-requires
     list-number-requires
     refused-claim-requires
     returns

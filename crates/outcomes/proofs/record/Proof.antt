@@ -1,8 +1,10 @@
-use Rattle.calls.specs.Calls.{number}
 use Rattle.calls.specs.Calls.{refusal}
 use Rattle.calls.proofs.Rules.{rules}
 use Rattle.outcomes.proofs.record.Statement.{statement}
 use Rattle.outcomes.proofs.record.Tie as tie
+
+admit-requires : tie.Need-admit-requires
+admit-requires c κs = search rules
 
 record-number-requires : tie.Need-record-number-requires
 record-number-requires c κs = search rules
@@ -15,7 +17,6 @@ unfolding refusal
 returns c = search rules
 
 counted-requires : tie.Need-counted-requires
-unfolding number
 counted-requires c κs = search rules
 
 accepted-requires : tie.Need-accepted-requires
@@ -28,6 +29,7 @@ pub record-spec : {M : Type 1} → statement M
 record-spec =
     tie.close
     (tie.spec
+    admit-requires
     record-number-requires
     refused-claim-requires
     returns

@@ -1,8 +1,10 @@
-use Rattle.calls.specs.Calls.{number}
 use Rattle.calls.specs.Calls.{refusal}
 use Rattle.calls.proofs.Rules.{rules}
 use Rattle.outcomes.proofs.set_word.Statement.{statement}
 use Rattle.outcomes.proofs.set_word.Tie as tie
+
+admit-requires : tie.Need-admit-requires
+admit-requires c κs = search rules
 
 set-word-number-requires : tie.Need-set-word-number-requires
 set-word-number-requires c κs = search rules
@@ -15,7 +17,6 @@ unfolding refusal
 returns c = search rules
 
 counted-requires : tie.Need-counted-requires
-unfolding number
 counted-requires c κs = search rules
 
 with-word-requires : tie.Need-with-word-requires
@@ -31,6 +32,7 @@ pub set-word-spec : {M : Type 1} → statement M
 set-word-spec =
     tie.close
     (tie.spec
+    admit-requires
     set-word-number-requires
     refused-claim-requires
     returns

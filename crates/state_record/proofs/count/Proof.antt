@@ -1,7 +1,3 @@
-use Prim.Native.Nat.{ℕ, _+_, _-_, _*_, _≤_, _<_}
-use mathlib.Core.Path.{_≡_, refl, sym, ap, _∙_}
-use mathlib.Core.Logic.{⊎-elim}
-use native.Mathlib.Omega.{arith}
 use Rattle.state_record.proofs.Rules.{rules}
 use Rattle.state_record.proofs.count.Statement.{statement}
 use Rattle.state_record.proofs.count.Tie as tie

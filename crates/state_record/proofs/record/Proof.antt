@@ -1,8 +1,4 @@
 use Rattle.calls.specs.Calls.{number}
-use Prim.Native.Nat.{ℕ, _+_, _-_, _*_, _≤_, _<_}
-use mathlib.Core.Path.{_≡_, refl, sym, ap, _∙_}
-use mathlib.Core.Logic.{⊎-elim}
-use native.Mathlib.Omega.{arith}
 use Rattle.state_record.proofs.Rules.{rules}
 use Rattle.state_record.proofs.record.Statement.{statement}
 use Rattle.state_record.proofs.record.Tie as tie
@@ -15,6 +11,9 @@ same-length c = search rules
 
 returns : tie.Need-returns
 returns c = search rules
+
+admit-requires : tie.Need-admit-requires
+admit-requires c κs = search rules
 
 record-number-requires : tie.Need-record-number-requires
 record-number-requires c κs = search rules
@@ -42,6 +41,7 @@ record-spec =
     is-ready-requires
     same-length
     returns
+    admit-requires
     record-number-requires
     same-length-2
     returns-2
