@@ -6,7 +6,7 @@ use mathlib.Core.Bool.{true, false}
 use mathlib.Core.List.{List, [], _∷_, _++_, map}
 use lib.ListN.{replicate}
 use Rattle.lists.specs.Lists.{any, firstIndex, reject, select, join, removeAt, padded}
-use Rattle.lists.specs.Bytes.{bytesOf}
+use Rattle.rows.specs.Bytes.{bytesOf}
 use Rattle.names.specs.Names.{sameBytes, sameName}
 use Rattle.names.specs.declared.Credential.{Credential}
 use Rattle.names.specs.declared.Name.{Name}

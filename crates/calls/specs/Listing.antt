@@ -3,8 +3,8 @@ use Prim.Native.Nat.{ℕ, _+_, _*_}
 use mathlib.Core.List.{List, _∷_, _++_, map}
 use lib.ListN.{length}
 use Rattle.lists.specs.Lists.{select, join}
-use Rattle.lists.specs.Bytes.{bytesOf}
-use Rattle.names.specs.Names.{rowBytes}
+use Rattle.rows.specs.Bytes.{bytesOf}
+use Rattle.names.specs.Names.{typeOf, rowBytes}
 use Rattle.names.specs.declared.Row.{Row}
 use Rattle.table.specs.Table.{standing, isAmong}
 use Rattle.table.specs.declared.Among.{Among}
@@ -20,7 +20,7 @@ amongOf Every = All
 amongOf (Only c) = Of c
 
 abbrev pub rowOf : Process → Row
-rowOf p = record { credential = p .credential; kind = p .kind; name = p .name }
+rowOf p = record { credential = p .credential; kind = typeOf (p .kind); name = p .name }
 
 -- "in table order"; "none is an empty list"
 unfoldable pub rowsOf : State → Wanted → List Row

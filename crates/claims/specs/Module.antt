@@ -1,5 +1,5 @@
 -- "What the module holds"
-use Prim.Native.Nat.{ℕ, _/_, _%_, _^_}
+use Prim.Native.Nat.{ℕ, _/_, _%_, _^_, _+_}
 use mathlib.Core.Bool.{Bool, true, false, _&&_}
 use mathlib.Core.List.{List}
 use lib.Dec.{eqb, leb}
@@ -19,8 +19,14 @@ use Rattle.claims.specs.declared.SessionState.{SessionState}
 use Rattle.claims.specs.declared.State.{State}
 
 -- ---- "Four sessions, handles 0 to 3. Each is closed, or open without a version, or open with version 1.0."
+abbrev pub lastHandle : ℕ
+lastHandle = 3
+
+abbrev pub sessionCount : ℕ
+sessionCount = lastHandle + 1
+
 unfoldable pub isHandle : Session → Bool
-isHandle s = leb (s .0) 3
+isHandle s = leb (s .0) lastHandle
 
 abbrev pub closedSession : SessionState
 closedSession = record { phase = Closed }
@@ -39,8 +45,14 @@ isChosen Opened = false
 isChosen Chosen = true
 
 -- ---- "Eight credentials, 0 to 7. Each is provisioned or not, and has a grant word of 32 bits; bit k grants class k."
+abbrev pub lastCredential : ℕ
+lastCredential = 7
+
+abbrev pub credentialCount : ℕ
+credentialCount = lastCredential + 1
+
 unfoldable pub isCredential : Credential → Bool
-isCredential c = leb (c .0) 7
+isCredential c = leb (c .0) lastCredential
 
 abbrev pub unprovisioned : Grants
 unprovisioned = record { provisioned = false; word = 0 }

@@ -54,6 +54,15 @@ pub const SAVE_OWN: u8 = 2;
 
 pub const SET_WORDS: u8 = 3;
 
+// Handles are 0 to 3, credentials 0 to 7.
+pub const SESSIONS: usize = 4;
+
+pub const LAST_HANDLE: u8 = 3;
+
+pub const CREDENTIALS: usize = 8;
+
+pub const LAST_CREDENTIAL: u16 = 7;
+
 pub enum Phase {
     Closed,
     Opened,
@@ -70,8 +79,8 @@ pub struct Grants {
 }
 
 pub struct State {
-    pub sessions: [SessionState; 4],
-    pub credentials: [Grants; 8],
+    pub sessions: [SessionState; SESSIONS],
+    pub credentials: [Grants; CREDENTIALS],
     pub table: Table,
 }
 
@@ -108,13 +117,13 @@ pub struct Admission {
 pub fn is_handle(s: Session) -> bool
     ensures { λ r. ⌜ r ≡ isHandle s ⌝ }
 {
-    s.0 <= 3
+    s.0 <= LAST_HANDLE
 }
 
 pub fn is_credential(c: Credential) -> bool
     ensures { λ r. ⌜ r ≡ isCredential c ⌝ }
 {
-    c.0 <= 7
+    c.0 <= LAST_CREDENTIAL
 }
 
 // The phase of a session; a handle that there is none of is closed.
@@ -122,7 +131,7 @@ pub fn phase_of(st: State, s: Session) -> Phase
     ensures { λ r. ⌜ r ≡ phaseOf st s ⌝ }
 {
     let at = s.0 as usize;
-    if at < 4 {
+    if at < SESSIONS {
         let sessions = st.sessions;
         let one = sessions[at];
         one.phase
@@ -145,7 +154,7 @@ pub fn provisioned(st: State, c: Credential) -> bool
     ensures { λ r. ⌜ r ≡ provisioned st c ⌝ }
 {
     let at = c.0 as usize;
-    if at < 8 {
+    if at < CREDENTIALS {
         let credentials = st.credentials;
         let one = credentials[at];
         one.provisioned
@@ -158,7 +167,7 @@ fn word_of(st: State, c: Credential) -> u32
     ensures { λ r. ⌜ r ≡ wordOf st c ⌝ }
 {
     let at = c.0 as usize;
-    if at < 8 {
+    if at < CREDENTIALS {
         let credentials = st.credentials;
         let one = credentials[at];
         one.word

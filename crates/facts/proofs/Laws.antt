@@ -12,11 +12,12 @@ use Rattle.names.specs.declared.Kind.{Kind}
 use Rattle.names.specs.declared.Kind.the-variants.{User, Elevation, Saved}
 use Rattle.names.specs.declared.Session.{Session}
 use Rattle.table.specs.Table.{size, freePlace, processAt}
+use Rattle.table.specs.Table as T
 use Rattle.table.specs.declared.Active.the-variants.{UserOf, ElevationIn}
 use Rattle.table.specs.declared.Process.{Process}
 use Rattle.table.proofs.Laws.{standing-few}
 use Rattle.table.proofs.Searched.{of-user, in-elevation}
-use Rattle.claims.specs.Module.{closedSession, phaseOf, isChosen, unprovisioned, provisioned}
+use Rattle.claims.specs.Module.{closedSession, phaseOf, isChosen, unprovisioned, provisioned, sessionCount, credentialCount, lastHandle, lastCredential}
 use Rattle.claims.specs.declared.Grants.{Grants}
 use Rattle.claims.specs.declared.SessionState.{SessionState}
 use Rattle.claims.specs.declared.State.{State}
@@ -56,14 +57,14 @@ by-places st v =
 
 -- ---- the ranges of a process's credential and session follow from the rules: who shows that a state keeps these has not to show those
 module _ (st : State) where
-  pub provisioned-low : (c : Credential) → length (st .credentials) ≡ 8 → provisioned st c ≡ true → c .0 ≤ 7
+  pub provisioned-low : (c : Credential) → length (st .credentials) ≡ credentialCount → provisioned st c ≡ true → c .0 ≤ lastCredential
   unfolding provisioned
   provisioned-low c h e = omega (arith, inside (λ (g : Grants). g .provisioned) (st .credentials) (c .0) unprovisioned refl e, h)
 
-  pub chosen-low : (s : Session) → length (st .sessions) ≡ 4 → isChosen (phaseOf st s) ≡ true → s .0 ≤ 3
+  pub chosen-low : (s : Session) → length (st .sessions) ≡ sessionCount → isChosen (phaseOf st s) ≡ true → s .0 ≤ lastHandle
   unfolding phaseOf isChosen
   chosen-low s h e = omega (arith, inside (λ (x : SessionState). isChosen (x .phase)) (st .sessions) (s .0) closedSession refl e, h)
 
 -- ---- so many stand as there are places, at most
-pub formed-few : {st : State} → Formed st → length (processes st) ≤ 12
+pub formed-few : {st : State} → Formed st → length (processes st) ≤ T.places
 formed-few {st} f = standing-few (st .table) (f .places)

@@ -9,11 +9,13 @@ use Rattle.lists.specs.Each.{Each, Pairs}
 use Rattle.names.specs.declared.Kind.{Kind}
 use Rattle.names.specs.declared.Kind.the-variants.{User, Elevation, Saved}
 use Rattle.table.specs.Table.{standing, size, processAt, tableOf, isUser, isElevation, isActive}
+use Rattle.table.specs.Table as T
 use Rattle.table.specs.declared.Active.{Active}
 use Rattle.table.specs.declared.Process.{Process}
-use Rattle.claims.specs.Module.{phaseOf, isChosen, provisioned}
+use Rattle.claims.specs.Module.{phaseOf, isChosen, provisioned, sessionCount, credentialCount, lastHandle, lastCredential}
 use Rattle.claims.specs.declared.Grants.{Grants}
 use Rattle.claims.specs.declared.State.{State}
+use Rattle.names.specs.Names.{nameLength}
 
 abbrev pub processes : State → List Process
 processes st = standing (st .table)
@@ -40,7 +42,7 @@ pub record Apart (p q : Process) : Type 0 where
 
 pub record Rules (st : State) : Type 0 where
   -- "at most 12 processes"
-  pub few : length (processes st) ≤ 12
+  pub few : length (processes st) ≤ T.places
   pub each : Each (Owned st) (processes st)
   pub pairs : Pairs Apart (processes st)
 
@@ -53,7 +55,7 @@ module _ (st : State) where
   at i = processAt (st .table) i
 
 pub record RulesByPlaces (st : State) : Type 0 where
-  pub few : size (st .table) ≤ 12
+  pub few : size (st .table) ≤ T.places
   pub names : (i j : ℕ) → IsTaken st i → IsTaken st j → i ≢ j → at st i .name .bytes ≢ at st j .name .bytes
   pub owners : (i : ℕ) → IsTaken st i → provisioned st (at st i .credential) ≡ true
   pub sessions : (i : ℕ) → IsTaken st i → at st i .kind ≢ Saved → isChosen (phaseOf st (at st i .session)) ≡ true
@@ -68,20 +70,20 @@ pub record FormedGrants (g : Grants) : Type 0 where
   pub kept : g .provisioned ≡ false → g .word ≡ 0
 
 pub record FormedProcess (p : Process) : Type 0 where
-  pub credential : p .credential .0 ≤ 7
-  pub session : p .session .0 ≤ 3
+  pub credential : p .credential .0 ≤ lastCredential
+  pub session : p .session .0 ≤ lastHandle
   -- "The number has 16 bits."
   pub next : p .next < 256 ^ 2
-  pub name : length (p .name .bytes) ≡ 48
+  pub name : length (p .name .bytes) ≡ nameLength
   -- "An elevation's next number, a saved process's session .. mean nothing and are kept zero."
   pub saved : p .kind ≡ Saved → p .session .0 ≡ 0
   pub elevation : p .kind ≡ Elevation → p .next ≡ 0
 
 pub record Formed (st : State) : Type 0 where
   -- "Four sessions", "Eight credentials", "A table of at most 12 processes"
-  pub sessions : length (st .sessions) ≡ 4
-  pub credentials : length (st .credentials) ≡ 8
-  pub places : length (st .table .places) ≡ 12
+  pub sessions : length (st .sessions) ≡ sessionCount
+  pub credentials : length (st .credentials) ≡ credentialCount
+  pub places : length (st .table .places) ≡ T.places
   pub words : Each FormedGrants (st .credentials)
   pub each : Each FormedProcess (processes st)
   -- "the places past the count mean nothing and are kept zero"
@@ -98,11 +100,11 @@ pub record WideGrants (g : Grants) : Type 0 where
 
 pub record WideProcess (p : Process) : Type 0 where
   pub next : p .next < 256 ^ 2
-  pub name : length (p .name .bytes) ≡ 48
+  pub name : length (p .name .bytes) ≡ nameLength
 
 pub record Wide (st : State) : Type 0 where
-  pub sessions : length (st .sessions) ≡ 4
-  pub credentials : length (st .credentials) ≡ 8
-  pub places : length (st .table .places) ≡ 12
+  pub sessions : length (st .sessions) ≡ sessionCount
+  pub credentials : length (st .credentials) ≡ credentialCount
+  pub places : length (st .table .places) ≡ T.places
   pub words : Each WideGrants (st .credentials)
   pub each : Each WideProcess (st .table .places)

@@ -10,7 +10,7 @@ use lib.ListN.{length, drop, getD, set, replicate, drop-of-length-le}
 use borrow.Author.Needs.{needs}
 use borrow.Author.Tests.{eqb-true, eq-eqb, ne-eqb, lt-ltb, le-ltb, lt-leb, le-leb}
 use Rattle.lists.proofs.Tests.{split, clash, and-right, and-left}
-use Rattle.names.specs.Names.{typeNumber, nameIn}
+use Rattle.names.specs.Names.{typeNumber, nameIn, nameLength}
 use Rattle.names.specs.declared.Credential.{Credential}
 use Rattle.names.specs.declared.NameRead.{NameRead}
 use Rattle.names.specs.declared.Session.{Session}
@@ -24,12 +24,13 @@ use Rattle.claims.specs.declared.UserClaim.{UserClaim}
 use Rattle.claims.proofs.Laws.{stop, pass, unless-true, unless-false}
 use Rattle.calls.specs.Calls.{Call, Open, Close, Select, Start, Continue, Elevate, Drop, End, Record, Kill, SetWord, number, outcome, answerNumber, List′, listed, fresh}
 use Rattle.calls.specs.declared.Answer.{Answer}
+use Rattle.rows.specs.Bytes.{byteOf}
 use Rattle.calls.specs.declared.Listed.{Listed}
 use Rattle.calls.specs.declared.Outcome.{Outcome}
 use Rattle.calls.specs.declared.Wanted.{Wanted}
 use Rattle.calls.specs.declared.Wanted.the-variants.{Every, Only}
 use Rattle.calls.proofs.Laws.{answer-number}
-use Rattle.layout.specs.Layout.{stateOf, stateBytes, stateWritten, holdsState, byteOf}
+use Rattle.layout.specs.Layout.{stateLength, stateOf, stateBytes, stateWritten, holdsState}
 use Rattle.layout.proofs.Laws.{holds-shape, state-written}
 use Rattle.state_record.specs.Entry.{holdsNumber, isMade, Ready, Entry}
 use Rattle.state_record.proofs.Laws.{entry-none, entry-made, made-holds, refusal-bytes}
@@ -40,8 +41,8 @@ use Rattle.wire.specs.declared.RowAnswer.{RowAnswer}
 use lib.Seq.{drop-cons}
 use native.Mathlib.Numerals.{add-one}
 use Rattle.lists.proofs.Loops.{Copied, copied-none, copied-more, copied-all}
-use Rattle.codec.specs.Codec.{every}
-use Rattle.claims.specs.Module.{unprovisioned}
+use Rattle.rows.specs.Rows.{every}
+use Rattle.claims.specs.Module.{unprovisioned, credentialCount}
 use Rattle.claims.specs.declared.Grants.{Grants}
 use Rattle.host.specs.Fresh.{pairsOf, arePairs, canFresh, FreshEntry}
 use Rattle.host.specs.Arguments.{sessionOf, classOf, credentialOf, wantedOf, isFlag, userClaimOf, claimOf, isClaimed}
@@ -51,14 +52,6 @@ use Rattle.host.specs.Version.{versionNumber, libraryVersion}
 
 -- ---- arguments
 module _ (n : ℕ) where
-  pub byte-in : n < 256 → n ≡ byteOf n
-  unfolding byteOf
-  byte-in h = rw (lt-ltb n 256 h)
-
-  pub byte-out : 256 ≤ n → 255 ≡ byteOf n
-  unfolding byteOf
-  byte-out h = rw (le-ltb n 256 h)
-
   pub session-is : {b : ℕ} → b ≡ byteOf n → _≡_ {A = Session} (record { 0 = b }) (sessionOf n)
   unfolding sessionOf
   session-is e = rw e
@@ -144,7 +137,7 @@ not-false false e = clash refl e
 
 -- ---- a slice on which a call is made: a refusal's state stands there already
 module _ {tested h : Bool} {before : List ℕ} (e : Ready tested before h) (n : not h ≡ false) where
-  whole-length : length before ≡ 681
+  whole-length : length before ≡ stateLength
   whole-length = holds-shape before (made-holds e n) .long
 
   leaves : (call : Call) {o : Outcome} → o ≡ outcome (stateOf before) call → LeavesRefused before o
@@ -234,7 +227,7 @@ module _ {read other : CountRead} (e : read ≡ other) where
 
 -- ---- a row handed out
 module _ (message : List ℕ) (at credential kind : ℕ) (name : List ℕ) {read : RowAnswer} (e : read ≡ readRowAt message at) where
-  row-number : {n : ℕ} → n ≡ read .number ▸ 1 unless eqb (length name) 48 → n ≡ rowEntryNumber message at name
+  row-number : {n : ℕ} → n ≡ read .number ▸ 1 unless eqb (length name) nameLength → n ≡ rowEntryNumber message at name
   unfolding rowEntryNumber
   row-number q = q ∙ rw e
 
@@ -244,18 +237,18 @@ module _ (message : List ℕ) (at credential kind : ℕ) (name : List ℕ) {read
       record { number-is = q; credential-is = rw z; kind-is = rw z; name-is = rw z }
 
   pub row-refused : (read .number ≡ 0 → ⊥) → RowEntry message at credential kind name (read .number) credential kind name
-  row-refused h = row-kept (row-number (sym (stop (1 unless eqb (length name) 48) h))) h
+  row-refused h = row-kept (row-number (sym (stop (1 unless eqb (length name) nameLength) h))) h
 
   module _ (z : read .number ≡ 0) where
-    pub row-nowhere : (length name ≡ 48 → ⊥) → RowEntry message at credential kind name 1 credential kind name
+    pub row-nowhere : (length name ≡ nameLength → ⊥) → RowEntry message at credential kind name 1 credential kind name
     row-nowhere h =
-        let q : 1 ≡ read .number ▸ 1 unless eqb (length name) 48 = sym (pass (1 unless eqb (length name) 48) z ∙ unless-false 1 (ne-eqb (length name) 48 h)) in
+        let q : 1 ≡ read .number ▸ 1 unless eqb (length name) nameLength = sym (pass (1 unless eqb (length name) nameLength) z ∙ unless-false 1 (ne-eqb (length name) nameLength h)) in
         row-kept (row-number q) (λ (w : 1 ≡ 0). absurd (omega arith))
 
-    pub row-done : {k : ℕ} {name₁ : List ℕ} → length name ≡ 48 → k ≡ typeNumber (read .row .kind) → name₁ ≡ nameIn name (read .row .name)
+    pub row-done : {k : ℕ} {name₁ : List ℕ} → length name ≡ nameLength → k ≡ typeNumber (read .row .kind) → name₁ ≡ nameIn name (read .row .name)
         → RowEntry message at credential kind name 0 (read .row .credential .0) k name₁
     row-done h a b =
-        let q : 0 ≡ rowEntryNumber message at name = row-number (sym (pass (1 unless eqb (length name) 48) z ∙ unless-true 1 (eq-eqb (length name) 48 h))) in
+        let q : 0 ≡ rowEntryNumber message at name = row-number (sym (pass (1 unless eqb (length name) nameLength) z ∙ unless-true 1 (eq-eqb (length name) nameLength h))) in
         let g : eqb (rowEntryNumber message at name) 0 ≡ true = rw (← q) in
         record {
           number-is = q;
@@ -289,27 +282,27 @@ module _ {l : List ℕ} {i : ℕ} (v : Flags l i) where
   flags-all h = sym (v .rest ∙ rw (drop-of-length-le l h))
 
 module _ (flags words : List ℕ) where
-  pub pairs-flags : (length flags ≡ 8 → ⊥) → false ≡ arePairs flags words
+  pub pairs-flags : (length flags ≡ credentialCount → ⊥) → false ≡ arePairs flags words
   unfolding arePairs
-  pairs-flags h = rw (ne-eqb (length flags) 8 h)
+  pairs-flags h = rw (ne-eqb (length flags) credentialCount h)
 
-  module _ (k : length flags ≡ 8) where
-    pub pairs-words : (length words ≡ 8 → ⊥) → false ≡ arePairs flags words
+  module _ (k : length flags ≡ credentialCount) where
+    pub pairs-words : (length words ≡ credentialCount → ⊥) → false ≡ arePairs flags words
     unfolding arePairs
-    pairs-words h = rw (eq-eqb (length flags) 8 k, ne-eqb (length words) 8 h)
+    pairs-words h = rw (eq-eqb (length flags) credentialCount k, ne-eqb (length words) credentialCount h)
 
-    pub pairs-are : {b : Bool} → length words ≡ 8 → b ≡ every isFlag flags → b ≡ arePairs flags words
+    pub pairs-are : {b : Bool} → length words ≡ credentialCount → b ≡ every isFlag flags → b ≡ arePairs flags words
     unfolding arePairs
-    pairs-are h e = e ∙ rw (eq-eqb (length flags) 8 k, eq-eqb (length words) 8 h)
+    pairs-are h e = e ∙ rw (eq-eqb (length flags) credentialCount k, eq-eqb (length words) credentialCount h)
 
   module _ (e : arePairs flags words ≡ true) where
-    pub flags-long : length flags ≡ 8
+    pub flags-long : length flags ≡ credentialCount
     unfolding arePairs
-    flags-long = eqb-true (length flags) 8 (and-left (eqb (length flags) 8) _ e)
+    flags-long = eqb-true (length flags) credentialCount (and-left (eqb (length flags) credentialCount) _ e)
 
-    pub words-long : length words ≡ 8
+    pub words-long : length words ≡ credentialCount
     unfolding arePairs
-    words-long = eqb-true (length words) 8 (and-left (eqb (length words) 8) _ (and-right (eqb (length flags) 8) _ e))
+    words-long = eqb-true (length words) credentialCount (and-left (eqb (length words) credentialCount) _ (and-right (eqb (length flags) credentialCount) _ e))
 
 pub pairs-length : (flags words : List ℕ) → length flags ≡ length words → length (pairsOf flags words) ≡ length flags
 unfolding pairsOf
@@ -324,50 +317,50 @@ pairs-at (f ∷ flags) [] i h k = absurd (omega arith)
 pairs-at (f ∷ flags) (w ∷ words) zero h k = refl
 pairs-at (f ∷ flags) (w ∷ words) (suc i) h k = pairs-at flags words i (omega arith) (omega arith)
 
-module _ (flags words : List ℕ) (a : length flags ≡ 8) (b : length words ≡ 8) where
-  long-8 : length (pairsOf flags words) ≡ 8
-  long-8 = pairs-length flags words (a ∙ sym b) ∙ a
+module _ (flags words : List ℕ) (a : length flags ≡ credentialCount) (b : length words ≡ credentialCount) where
+  long-pairs : length (pairsOf flags words) ≡ credentialCount
+  long-pairs = pairs-length flags words (a ∙ sym b) ∙ a
 
-  pub pairs-begin : Copied (pairsOf flags words) (replicate 8 unprovisioned) (replicate 8 unprovisioned) 0
-  pairs-begin = copied-none (pairsOf flags words) (replicate 8 unprovisioned) (sym long-8)
+  pub pairs-begin : Copied (pairsOf flags words) (replicate credentialCount unprovisioned) (replicate credentialCount unprovisioned) 0
+  pairs-begin = copied-none (pairsOf flags words) (replicate credentialCount unprovisioned) (sym long-pairs)
 
   module _ {d l : List Grants} {i : ℕ} (v : Copied (pairsOf flags words) d l i) where
-    pub pairs-on : i < 8 → Copied (pairsOf flags words) d (set l i (record { provisioned = eqb (getD flags i 0) 1; word = getD words i 0 })) (i + 1)
+    pub pairs-on : i < credentialCount → Copied (pairsOf flags words) d (set l i (record { provisioned = eqb (getD flags i 0) 1; word = getD words i 0 })) (i + 1)
     pairs-on h =
         let e : getD (pairsOf flags words) i unprovisioned ≡ record { provisioned = eqb (getD flags i 0) 1; word = getD words i 0 } = pairs-at flags words i (a ∙ sym b) (rw a h) in
-        rw e at (copied-more v unprovisioned (rw long-8 h))
+        rw e at (copied-more v unprovisioned (rw long-pairs h))
 
-    pub pairs-all : 8 ≤ i → l ≡ pairsOf flags words
-    pairs-all h = copied-all v (rw long-8 h)
+    pub pairs-all : credentialCount ≤ i → l ≡ pairsOf flags words
+    pairs-all h = copied-all v (rw long-pairs h)
 
 module _ (before flags words : List ℕ) where
   fresh-kept : canFresh before flags words ≡ false → FreshEntry before flags words 1 before
   unfolding _unless_
   fresh-kept z = record { number-is = rw z; bytes-are = rw z }
 
-  pub fresh-long : (length before ≡ 681 → ⊥) → FreshEntry before flags words 1 before
+  pub fresh-long : (length before ≡ stateLength → ⊥) → FreshEntry before flags words 1 before
   unfolding canFresh
-  fresh-long h = fresh-kept (rw (ne-eqb (length before) 681 h))
+  fresh-long h = fresh-kept (rw (ne-eqb (length before) stateLength h))
 
-  module _ (k : length before ≡ 681) {h : Bool} (e : h ≡ arePairs flags words) where
+  module _ (k : length before ≡ stateLength) {h : Bool} (e : h ≡ arePairs flags words) where
     pub fresh-refused : not h ≡ true → FreshEntry before flags words 1 before
     unfolding canFresh
-    fresh-refused n = fresh-kept (rw (eq-eqb (length before) 681 k, ← e, not-true h n))
+    fresh-refused n = fresh-kept (rw (eq-eqb (length before) stateLength k, ← e, not-true h n))
 
     pub fresh-made : {pairs : List Grants} {st : State} {after : List ℕ} → not h ≡ false → pairs ≡ pairsOf flags words → st ≡ fresh pairs → after ≡ stateWritten before st → FreshEntry before flags words 0 after
     unfolding canFresh _unless_
     fresh-made n p q w =
         let z : arePairs flags words ≡ true = sym e ∙ not-false h n in
         record {
-          number-is = rw (eq-eqb (length before) 681 k, z);
-          bytes-are = w ∙ rw (state-written before _ k, q, p, eq-eqb (length before) 681 k, z);
+          number-is = rw (eq-eqb (length before) stateLength k, z);
+          bytes-are = w ∙ rw (state-written before _ k, q, p, eq-eqb (length before) stateLength k, z);
         }
 
 module _ (flags words : List ℕ) {h : Bool} (e : h ≡ arePairs flags words) (n : not h ≡ false) where
-  pub eight-flags : length flags ≡ 8
+  pub eight-flags : length flags ≡ credentialCount
   eight-flags = flags-long flags words (sym e ∙ not-false h n)
 
-  pub eight-words : length words ≡ 8
+  pub eight-words : length words ≡ credentialCount
   eight-words = words-long flags words (sym e ∙ not-false h n)
 
 -- ---- calls with equal arguments
@@ -428,4 +421,4 @@ pub version-is : 65536 ≡ libraryVersion
 unfolding libraryVersion versionNumber
 version-is = refl
 
-pub ruleset rules = (needs, byte-in, byte-out, session-is, class-is, credential-in, credential-out, wanted-every, wanted-only, flag-is, user-claim-is, claim-elevated, claim-user, claimed-elevated, claimed-user, claimed-none, both-true, both-false, stored-done, stored-refused, call-leaves, list-leaves, call-none, call-made, record-unclaimed, record-claimed, same-open, same-close, same-select, same-drop, same-start, same-continue, same-elevate, same-end, same-record, same-kill, same-set-word, fine-fits, fine-both, list-none, list-called, given-refused, given-done, request-number, request-credential, count-number, count-count, row-refused, row-nowhere, row-done, flags-begin, flags-on, flags-fail, flags-all, pairs-flags, pairs-words, pairs-are, pairs-begin, pairs-on, pairs-all, eight-flags, eight-words, fresh-long, fresh-refused, fresh-made, holds-done, holds-none, version-is)
+pub ruleset rules = (needs, session-is, class-is, credential-in, credential-out, wanted-every, wanted-only, flag-is, user-claim-is, claim-elevated, claim-user, claimed-elevated, claimed-user, claimed-none, both-true, both-false, stored-done, stored-refused, call-leaves, list-leaves, call-none, call-made, record-unclaimed, record-claimed, same-open, same-close, same-select, same-drop, same-start, same-continue, same-elevate, same-end, same-record, same-kill, same-set-word, fine-fits, fine-both, list-none, list-called, given-refused, given-done, request-number, request-credential, count-number, count-count, row-refused, row-nowhere, row-done, flags-begin, flags-on, flags-fail, flags-all, pairs-flags, pairs-words, pairs-are, pairs-begin, pairs-on, pairs-all, eight-flags, eight-words, fresh-long, fresh-refused, fresh-made, holds-done, holds-none, version-is)

@@ -2,6 +2,7 @@
 use Prim.Native.Nat.{ℕ}
 use mathlib.Core.Bool.{Bool, cond, _&&_, _||_}
 use lib.Dec.{eqb, ltb, leb}
+use Rattle.rows.specs.Bytes.{byteOf}
 use Rattle.names.specs.declared.Credential.{Credential}
 use Rattle.names.specs.declared.Session.{Session}
 use Rattle.claims.specs.declared.Claim.{Claim}
@@ -10,7 +11,6 @@ use Rattle.claims.specs.declared.Class.{Class}
 use Rattle.claims.specs.declared.UserClaim.{UserClaim}
 use Rattle.calls.specs.declared.Wanted.{Wanted}
 use Rattle.calls.specs.declared.Wanted.the-variants.{Every, Only}
-use Rattle.layout.specs.Layout.{byteOf}
 
 -- A number too large for its type is handed on as the largest, which is out of every range
 unfoldable pub sessionOf : ℕ → Session

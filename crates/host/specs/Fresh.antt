@@ -5,13 +5,14 @@ use mathlib.Core.Bool.{Bool, cond, _&&_}
 use mathlib.Core.List.{List, [], _∷_}
 use lib.Dec.{eqb}
 use lib.ListN.{length}
-use Rattle.codec.specs.Codec.{every}
+use Rattle.rows.specs.Rows.{every}
 use Rattle.claims.specs.Numbers as No
 use Rattle.claims.specs.Numbers.{_unless_}
 use Rattle.claims.specs.declared.Grants.{Grants}
 use Rattle.calls.specs.Calls.{fresh}
 use Rattle.layout.specs.Layout.{stateLength, stateBytes}
 use Rattle.host.specs.Arguments.{isFlag, flagOf}
+use Rattle.claims.specs.Module.{credentialCount}
 
 unfoldable pub pairsOf : List ℕ → List ℕ → List Grants
 pairsOf [] words = []
@@ -20,7 +21,7 @@ pairsOf (flag ∷ flags) (word ∷ words) = record { provisioned = flagOf flag; 
 
 -- eight flags, each 0 or 1, and eight words
 unfoldable pub arePairs : List ℕ → List ℕ → Bool
-arePairs flags words = eqb (length flags) 8 && (eqb (length words) 8 && every isFlag flags)
+arePairs flags words = eqb (length flags) credentialCount && (eqb (length words) credentialCount && every isFlag flags)
 
 -- "Making a fresh module tests only the length"
 unfoldable pub canFresh : List ℕ → List ℕ → List ℕ → Bool

@@ -5,7 +5,7 @@ use mathlib.Core.Bool.{Bool, cond}
 use mathlib.Core.List.{List}
 use lib.Dec.{eqb}
 use lib.ListN.{length}
-use Rattle.names.specs.Names.{typeNumber}
+use Rattle.names.specs.Names.{typeNumber, nameLength}
 use Rattle.names.specs.declared.Session.{Session}
 use Rattle.claims.specs.Numbers as No
 use Rattle.claims.specs.Numbers.{_unless_, _▸_}
@@ -37,7 +37,7 @@ pub record ListEntry (fine : Bool) (before : List ℕ) (s : Session) (claim : Cl
 unfoldable pub rowEntryNumber : List ℕ → ℕ → List ℕ → ℕ
 rowEntryNumber message at name =
     readRowAt message at .number
-    ▸ No.argument unless eqb (length name) 48
+    ▸ No.argument unless eqb (length name) nameLength
 
 pub record RowEntry (message : List ℕ) (at credential kind : ℕ) (name : List ℕ) (answer credential₁ kind₁ : ℕ) (name₁ : List ℕ) : Type 0 where
   pub number-is : answer ≡ rowEntryNumber message at name

@@ -2,47 +2,44 @@
 ghost use mathlib.Core.Path.{_≡_};
 ghost use mathlib.Core.Bool.{true, _&&_};
 ghost use lib.ListN.{length};
-ghost use Rattle.codec.specs.Codec.{every};
+ghost use Rattle.rows.specs.Bytes.{byteOf};
+ghost use Rattle.rows.specs.Rows.{every, over};
 ghost use Rattle.names.specs.Names.{readName};
 ghost use Rattle.calls.specs.Calls.{Open, Close, Select, Start, Continue, Elevate, Drop, End, Record, Kill, SetWord};
-ghost use Rattle.layout.specs.Layout.{byteOf};
 ghost use Rattle.state_record.specs.Entry.{holdsNumber, Entry};
-ghost use Rattle.wire.specs.Bytes.{over};
 ghost use Rattle.wire.specs.Wire.{request, readRequest, requestRoom, readCount};
 ghost use Rattle.host.specs.Arguments.{sessionOf, classOf, credentialOf, wantedOf, isFlag, flagOf, userClaimOf, claimOf, isClaimed};
 ghost use Rattle.host.specs.Fresh.{pairsOf, arePairs, FreshEntry};
 ghost use Rattle.host.specs.Messages.{Given, ListEntry, RowEntry};
 ghost use Rattle.host.specs.Stored.{LeavesRefused, Stored};
 ghost use Rattle.host.specs.Version.{libraryVersion};
+ghost use Rattle.claims.specs.Module.{credentialCount};
 use calls::Outcome;
 use calls::Wanted;
 use claims::ARGUMENT;
+use claims::CREDENTIALS;
 use claims::Claim;
 use claims::Class;
 use claims::DONE;
 use claims::Grants;
 use claims::UserClaim;
+use layout::STATE_LENGTH;
 use names::Credential;
+use names::NAME_LENGTH;
 use names::Session;
 
 // ---- arguments
 
-fn byte_of(n: u32) -> u8
-    ensures { λ r. ⌜ r ≡ byteOf n ⌝ }
-{
-    if n < 256 { n as u8 } else { 255 }
-}
-
 fn session_of(n: u32) -> Session
     ensures { λ r. ⌜ r ≡ sessionOf n ⌝ }
 {
-    Session(byte_of(n))
+    Session(rows::byte_of(n as usize))
 }
 
 fn class_of(n: u32) -> Class
     ensures { λ r. ⌜ r ≡ classOf n ⌝ }
 {
-    Class(byte_of(n))
+    Class(rows::byte_of(n as usize))
 }
 
 fn credential_of(n: u32) -> Credential
@@ -160,7 +157,7 @@ pub extern "C" fn slavotuk_select(state: &mut [u8], session: u32, version: u32) 
     let st = state_read::read(state);
     stored(
         state,
-        outcomes::select_version(st, session_of(session), byte_of(version)),
+        outcomes::select_version(st, session_of(session), rows::byte_of(version as usize)),
     )
 }
 
@@ -436,7 +433,7 @@ pub extern "C" fn slavotuk_read_row(
     if found.number != DONE {
         return found.number as u32;
     }
-    if name.len() != 48 {
+    if name.len() != NAME_LENGTH {
         return ARGUMENT as u32;
     }
     let row = found.row;
@@ -468,26 +465,26 @@ fn are_all_flags(l: &[u8]) -> bool
 fn are_pairs(provisioned: &[u8], words: &[u32]) -> bool
     ensures { λ r. ⌜ r ≡ arePairs (now (provisioned .entry)) (now (words .entry)) ⌝ }
 {
-    if provisioned.len() != 8 {
+    if provisioned.len() != CREDENTIALS {
         return false;
     }
-    if words.len() != 8 {
+    if words.len() != CREDENTIALS {
         return false;
     }
     are_all_flags(provisioned)
 }
 
-fn pairs_of(provisioned: &[u8], words: &[u32]) -> [Grants; 8]
-    requires { ⌜ (length (now provisioned) ≡ 8) × (length (now words) ≡ 8) ⌝ }
+fn pairs_of(provisioned: &[u8], words: &[u32]) -> [Grants; CREDENTIALS]
+    requires { ⌜ (length (now provisioned) ≡ credentialCount) × (length (now words) ≡ credentialCount) ⌝ }
     ensures { λ r. ⌜ r ≡ pairsOf (now (provisioned .entry)) (now (words .entry)) ⌝ }
 {
     let none = Grants {
         provisioned: false,
         word: 0,
     };
-    let mut pairs = [none; 8];
+    let mut pairs = [none; CREDENTIALS];
     let mut i: usize = 0;
-    while i < 8 {
+    while i < CREDENTIALS {
         pairs[i] = Grants {
             provisioned: provisioned[i] == 1,
             word: words[i],
@@ -501,7 +498,7 @@ fn pairs_of(provisioned: &[u8], words: &[u32]) -> [Grants; 8]
 pub extern "C" fn slavotuk_fresh(state: &mut [u8], provisioned: &[u8], words: &[u32]) -> u32
     ensures { λ r. ⌜ FreshEntry (now (state .entry)) (now (provisioned .entry)) (now (words .entry)) r (now (state .exit)) ⌝ }
 {
-    if state.len() != 681 {
+    if state.len() != STATE_LENGTH {
         return ARGUMENT as u32;
     }
     if !are_pairs(provisioned, words) {

@@ -6,8 +6,8 @@ use mathlib.Core.Bool.{Bool, true, false}
 use mathlib.Core.List.{List, [], _∷_, _++_}
 use lib.ListN.{length, replicate, set, take}
 use Rattle.lists.specs.Lists.{join, padded}
-use Rattle.lists.specs.Bytes.{bytesOf, number}
-use Rattle.codec.specs.Codec.{rows, every, pairwise}
+use Rattle.rows.specs.Bytes.{bytesOf, numberOf, numberAt, byteOf}
+use Rattle.rows.specs.Rows.{rows, every, pairwise}
 use Rattle.names.specs.Names.{sameBytes, sameName}
 use Rattle.names.specs.declared.Kind.{Kind}
 use Rattle.names.specs.declared.Kind.the-variants.{User, Elevation, Saved}
@@ -16,7 +16,7 @@ use Rattle.table.specs.declared.Process.{Process}
 use Rattle.claims.specs.Module.{closedSession, unprovisioned, provisioned, phaseOf, isChosen}
 use Rattle.claims.specs.declared.Phase.the-variants.{Opened, Chosen}
 use Rattle.claims.specs.declared.State.{State}
-use Rattle.layout.specs.Layout.{byteOf, sessionBytes, sessionOf, sessionFits, grantsBytes, grantsOf, grantsFit, processBytes, processOf, processFits, countIn, placesIn, stateBytes, nothingHeld, stateOf, isOwned, areRivals, areApart, sound, shaped, holdsState}
+use Rattle.layout.specs.Layout.{sessionBytes, sessionFrom, sessionFits, grantsBytes, grantsFrom, grantsFit, processBytes, processFrom, processFits, countIn, placesIn, stateBytes, nothingHeld, stateOf, isOwned, areRivals, areApart, sound, shaped, holdsState}
 
 -- document 01: "P is 16 zero bytes then 32 of 0x11; Q is 16 zero bytes then 32 of 0x22; R is P with its last byte 0x12."
 abbrev P : List ℕ
@@ -67,7 +67,7 @@ pub record Drawn : Type 0 where
   pub nothing-written : stateBytes nothingHeld ≡ replicate 681 0
 
 pub drawn-is : Drawn
-unfolding join padded bytesOf number rows every pairwise sameBytes sameName standing tableOf isActive isActiveIn provisioned phaseOf isChosen byteOf sessionBytes sessionOf sessionFits grantsBytes grantsOf grantsFit processBytes processOf processFits countIn placesIn stateBytes stateOf isOwned areRivals areApart sound shaped holdsState
+unfolding join padded bytesOf numberOf numberAt rows every pairwise sameBytes sameName standing tableOf isActive isActiveIn provisioned phaseOf isChosen byteOf sessionBytes sessionFrom sessionFits grantsBytes grantsFrom grantsFit processBytes processFrom processFits countIn placesIn stateBytes stateOf isOwned areRivals areApart sound shaped holdsState
 drawn-is = record { written = refl; read = refl; long = refl; held = refl; nothing-held = refl; nothing-written = refl }
 
 -- a byte changed: the place, and what it holds then
@@ -106,9 +106,9 @@ pub record Held : Type 0 where
   pub fourth-named : holdsState (set (set (set bytes 44 4) 205 2) 256 7) ≡ true
 
 pub refused : Refused
-unfolding join padded bytesOf number rows every pairwise sameBytes sameName standing tableOf isActive isActiveIn provisioned phaseOf isChosen byteOf sessionBytes sessionOf sessionFits grantsBytes grantsOf grantsFit processBytes processOf processFits countIn placesIn stateBytes stateOf isOwned areRivals areApart sound shaped holdsState
+unfolding join padded bytesOf numberOf numberAt rows every pairwise sameBytes sameName standing tableOf isActive isActiveIn provisioned phaseOf isChosen byteOf sessionBytes sessionFrom sessionFits grantsBytes grantsFrom grantsFit processBytes processFrom processFits countIn placesIn stateBytes stateOf isOwned areRivals areApart sound shaped holdsState
 refused = record { short = refl; long = refl; phase-3 = refl; flag-2 = refl; count-13 = refl; credential-8 = refl; type-3 = refl; session-4 = refl; word-unprovisioned = refl; saved-session = refl; elevation-next = refl; free-place = refl; count-too-low = refl; owner = refl; session-without-version = refl; session-closed = refl; name-twice = refl; user-twice = refl; count-too-high = refl; elevation-twice = refl }
 
 pub held : Held
-unfolding join padded bytesOf number rows every pairwise sameBytes sameName standing tableOf isActive isActiveIn provisioned phaseOf isChosen byteOf sessionBytes sessionOf sessionFits grantsBytes grantsOf grantsFit processBytes processOf processFits countIn placesIn stateBytes stateOf isOwned areRivals areApart sound shaped holdsState
+unfolding join padded bytesOf numberOf numberAt rows every pairwise sameBytes sameName standing tableOf isActive isActiveIn provisioned phaseOf isChosen byteOf sessionBytes sessionFrom sessionFits grantsBytes grantsFrom grantsFit processBytes processFrom processFits countIn placesIn stateBytes stateOf isOwned areRivals areApart sound shaped holdsState
 held = record { user-of-another = refl; fourth-named = refl }

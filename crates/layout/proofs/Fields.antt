@@ -3,19 +3,16 @@
 use Prim.Native.Nat.{ℕ, zero, suc, _^_, _<_, _≤_}
 use mathlib.Core.Path.{_≡_, refl, sym, ap, _∙_}
 use mathlib.Core.Bool.{Bool, true, false, _||_}
-use mathlib.Core.List.{List, [], _∷_, _++_}
+use mathlib.Core.List.{List, [], _∷_, append-nil}
 use native.Mathlib.Omega.{arith}
 use lib.Dec.{eqb, leb}
-use lib.ListN.{length, take, drop, getD, replicate, length-append}
-use lib.Seq.{take-all, take-at}
-use borrow.Author.Tests.{eqb-true, leb-true, lt-ltb, le-ltb, le-leb, eq-eqb}
-use Rattle.lists.specs.Bytes.{bytesOf, number, Bytes}
-use Rattle.lists.proofs.Bytes.{number-back, number-forth, number-small, length-bytes}
-use Rattle.lists.proofs.Tests.{below, clash, and-left, and-right}
-use Rattle.codec.specs.Codec.{every, isZero}
-use Rattle.codec.proofs.Codec.{Codec, number-zeros}
-use Rattle.names.specs.Names.{typeNumber, kindOf}
-use Rattle.names.proofs.Laws.{kind-back, type-back}
+use lib.ListN.{length, drop, getD, replicate, length-append, length-drop}
+use borrow.Author.Tests.{eqb-true, leb-true, le-leb, eq-eqb}
+use Rattle.rows.specs.Bytes.{Bytes, isZero, bytesOf, numberOf, numberAt, byteOf}
+use Rattle.rows.proofs.Bytes.{byte-small, byte-only, length-bytes, number-in, number-low, number-taken, byte-front, part-front, part-last}
+use Rattle.lists.proofs.Tests.{and-left, and-right}
+use Rattle.rows.specs.Rows.{every}
+use Rattle.rows.proofs.Rows.{Codec, number-clear}
 use Rattle.names.specs.declared.Kind.{Kind}
 use Rattle.names.specs.declared.Kind.the-variants.{User, Elevation, Saved}
 use Rattle.table.specs.Table.{freePlace}
@@ -23,41 +20,29 @@ use Rattle.table.specs.declared.Process.{Process}
 use Rattle.claims.specs.declared.Grants.{Grants}
 use Rattle.claims.specs.declared.Phase.{Phase}
 use Rattle.claims.specs.declared.Phase.the-variants.{Closed, Opened, Chosen}
-use Rattle.layout.specs.Layout.{byteOf, phaseNumber, phaseNumbered, sessionBytes, sessionOf, sessionFits, flagNumber, grantsBytes, grantsOf, grantsFit, processBytes, processOf, keptZero, processFits}
+use Rattle.layout.specs.Layout.{flagAt, credentialSize, ownerAt, kindAt, sessionAt, wordAt, nextAt, placeSize, phaseByte, phaseFrom, sessionBytes, sessionFrom, sessionFits, flagNumber, grantsBytes, grantsFrom, grantsFit, processBytes, processFrom, keptZero, processFits, kindByte, kindFrom}
 use Rattle.facts.specs.Facts.{WideGrants, WideProcess, FormedGrants, FormedProcess}
-
--- ---- a number in one byte
-pub byte-small : (n : ℕ) → n < 256 → byteOf n ≡ n
-unfolding byteOf
-byte-small n h = rw (lt-ltb n 256 h)
-
--- a byte below 255 says what was written
-pub byte-only : (n m : ℕ) → m < 255 → byteOf n ≤ m → n ≤ m
-unfolding byteOf
-byte-only n m h k =
-    below n 256
-    (λ s. rw (lt-ltb n 256 s) at k)
-    (λ s. let z : 255 ≤ m = rw (le-ltb n 256 s) at k in absurd (omega arith))
+use Rattle.claims.specs.Module.{lastHandle, lastCredential}
 
 -- ---- a session
-pub phase-forth : (b : ℕ) → b ≤ 2 → phaseNumber (phaseNumbered b) ≡ b
+pub phase-forth : (b : ℕ) → b ≤ 2 → phaseByte (phaseFrom b) ≡ b
 phase-forth zero h = refl
 phase-forth (suc zero) h = refl
 phase-forth (suc (suc zero)) h = refl
 phase-forth (suc (suc (suc n))) h = absurd (omega arith)
 
-pub phase-back : (p : Phase) → phaseNumbered (phaseNumber p) ≡ p
+pub phase-back : (p : Phase) → phaseFrom (phaseByte p) ≡ p
 phase-back Closed = refl
 phase-back Opened = refl
 phase-back Chosen = refl
 
-phase-fits : (p : Phase) → leb (phaseNumber p) 2 ≡ true
+phase-fits : (p : Phase) → leb (phaseByte p) 2 ≡ true
 phase-fits Closed = refl
 phase-fits Opened = refl
 phase-fits Chosen = refl
 
-pub session-codec : Codec 1 sessionBytes sessionOf sessionFits (λ s. Unit) (λ s. Unit)
-unfolding sessionBytes sessionOf sessionFits
+pub session-codec : Codec 1 sessionBytes sessionFrom sessionFits (λ s. Unit) (λ s. Unit)
+unfolding sessionBytes sessionFrom sessionFits
 session-codec =
     record {
       wide = λ s g. g;
@@ -69,7 +54,7 @@ session-codec =
       good = λ b n h e. tt;
     }
   where
-    forth : (b : List ℕ) → length b ≡ 1 → Bytes b → sessionFits b ≡ true → sessionBytes (sessionOf b) ≡ b
+    forth : (b : List ℕ) → length b ≡ 1 → Bytes b → sessionFits b ≡ true → sessionBytes (sessionFrom b) ≡ b
     forth [] n h e = absurd (omega arith)
     forth (x ∷ []) n h e = rw (phase-forth x (leb-true x 2 e))
     forth (x ∷ y ∷ b) n h e = absurd (omega arith)
@@ -84,57 +69,63 @@ flag-forth zero h = refl
 flag-forth (suc zero) h = refl
 flag-forth (suc (suc x)) h = absurd (omega arith)
 
-grants-fits : (f : Bool) (w : ℕ) → (f ≡ false → w ≡ 0) → grantsFit (flagNumber f ∷ bytesOf 4 w) ≡ true
-unfolding grantsFit bytesOf every
-grants-fits true w k = refl
-grants-fits false w k = rw (k refl)
+grants-fits : (g : Grants) → FormedGrants g → (f : Bool) → g .provisioned ≡ f → grantsFit (grantsBytes g) ≡ true
+unfolding grantsFit grantsBytes bytesOf every
+grants-fits g v true e = rw e
+grants-fits g v false e = rw (e, v .kept e)
 
-grants-only : (f : Bool) (w : ℕ) → w < 256 ^ 4 → grantsFit (flagNumber f ∷ bytesOf 4 w) ≡ true → f ≡ false → w ≡ 0
+grants-word : (g : Grants) → g .word < 256 ^ 4 → numberAt 4 wordAt (grantsBytes g) ≡ g .word
+unfolding grantsBytes
+grants-word g h = rw append-nil at (number-in 4 (g .word) (flagNumber (g .provisioned) ∷ []) [] h)
+
+-- a credential that is not provisioned is zeros behind its flag
+grants-clear : (row : List ℕ) → grantsFit row ≡ true → eqb (getD row flagAt 0) 1 ≡ false → every isZero (drop wordAt row) ≡ true
 unfolding grantsFit
-grants-only true w h e q = clash refl q
-grants-only false w h e q = sym (number-back 4 w h) ∙ number-zeros (bytesOf 4 w) e
+grants-clear row e k = rw k at (and-right (leb (getD row flagAt 0) 1) (eqb (getD row flagAt 0) 1 || every isZero (drop wordAt row)) e)
 
-word-in : (b : List ℕ) → length b ≡ 4 → number (take 4 b) ≡ number b
-word-in b m = ap number (take-all 4 b (omega arith))
-
-pub grants-codec : Codec 5 grantsBytes grantsOf grantsFit WideGrants FormedGrants
-unfolding grantsBytes grantsOf grantsFit
+pub grants-codec : Codec credentialSize grantsBytes grantsFrom grantsFit WideGrants FormedGrants
+unfolding grantsBytes grantsFrom grantsFit
 grants-codec =
     record {
       wide = λ g v. record { word = v .word };
       long = λ g v. ap suc (length-bytes 4 (g .word));
-      only = λ g v e. record { word = v .word; kept = grants-only (g .provisioned) (g .word) (v .word) e };
-      back = back;
-      fits = λ g v. grants-fits (g .provisioned) (g .word) (v .kept);
+      only = only;
+      back = λ g v. rw (flag-back (g .provisioned), grants-word g (v .word));
+      fits = λ g v. grants-fits g v (g .provisioned) refl;
       forth = forth;
       good = good;
     }
   where
-    back : (g : Grants) → FormedGrants g → grantsOf (grantsBytes g) ≡ g
-    back g v = rw (flag-back (g .provisioned), word-in (bytesOf 4 (g .word)) (length-bytes 4 (g .word)), number-back 4 (g .word) (v .word))
-
-    forth : (b : List ℕ) → length b ≡ 5 → Bytes b → grantsFit b ≡ true → grantsBytes (grantsOf b) ≡ b
-    forth [] n h e = absurd (omega arith)
-    forth (x ∷ b) n h e =
-        let m : length b ≡ 4 = omega arith in
-        let q : bytesOf 4 (number b) ≡ b = rw (← m) (number-forth b (λ i. h (suc i))) in
-        rw (word-in b m, flag-forth x (leb-true x 1 (and-left (leb x 1) _ e)), q)
-
-    good : (b : List ℕ) → length b ≡ 5 → Bytes b → grantsFit b ≡ true → FormedGrants (grantsOf b)
-    good [] n h e = absurd (omega arith)
-    good (x ∷ b) n h e =
-        let m : length b ≡ 4 = omega arith in
-        let zeros : eqb x 1 ≡ false → every isZero b ≡ true = λ k. rw k at (and-right (leb x 1) (eqb x 1 || every isZero b) e) in
+    only : (g : Grants) → WideGrants g → grantsFit (grantsBytes g) ≡ true → FormedGrants g
+    only g v e =
         record {
-          word = rw (word-in b m) (rw m at (number-small b (λ i. h (suc i))));
-          kept = λ k. rw (word-in b m) (number-zeros b (zeros k));
+          word = v .word;
+          kept = λ k. sym (grants-word g (v .word)) ∙ number-clear 4 wordAt wordAt (grantsBytes g) (grants-clear (grantsBytes g) e (flag-back (g .provisioned) ∙ k)) (omega arith);
         }
 
+    forth : (b : List ℕ) → length b ≡ credentialSize → Bytes b → grantsFit b ≡ true → grantsBytes (grantsFrom b) ≡ b
+    forth b n h e =
+        let f : flagNumber (eqb (getD b flagAt 0) 1) ≡ getD b flagAt 0 = flag-forth (getD b flagAt 0) (leb-true (getD b flagAt 0) 1 (and-left (leb (getD b flagAt 0) 1) _ e)) in
+        rw (f, number-taken 4 wordAt b h (omega arith), part-last 4 wordAt b (omega arith)) (byte-front flagAt b (omega arith))
+
+    good : (b : List ℕ) → length b ≡ credentialSize → Bytes b → grantsFit b ≡ true → FormedGrants (grantsFrom b)
+    good b n h e = record { word = number-low 4 wordAt b h; kept = λ k. number-clear 4 wordAt wordAt b (grants-clear b e k) (omega arith) }
+
 -- ---- a place
-type-fits : (k : Kind) → leb (typeNumber k) 2 ≡ true
-type-fits User = refl
-type-fits Elevation = refl
-type-fits Saved = refl
+kind-back : (k : Kind) → kindFrom (kindByte k) ≡ k
+kind-back User = refl
+kind-back Elevation = refl
+kind-back Saved = refl
+
+kind-forth : (n : ℕ) → n ≤ 2 → kindByte (kindFrom n) ≡ n
+kind-forth zero h = refl
+kind-forth (suc zero) h = refl
+kind-forth (suc (suc n)) h = omega arith
+
+kind-fits : (k : Kind) → leb (kindByte k) 2 ≡ true
+kind-fits User = refl
+kind-fits Elevation = refl
+kind-fits Saved = refl
 
 kept-test : (k : Kind) (s n : ℕ) → (k ≡ Saved → s ≡ 0) → (k ≡ Elevation → n ≡ 0) → keptZero k s n ≡ true
 kept-test User s n a b = refl
@@ -149,53 +140,36 @@ kept-elevation s n e q = eqb-true n 0 (rw q at e)
 
 -- what the test of a place tells, by its five fields
 pub record PlaceFits (c k s n : ℕ) : Type 0 where
-  pub credential : c ≤ 7
+  pub credential : c ≤ lastCredential
   pub type : k ≤ 2
-  pub session : s ≤ 3
-  pub kept : keptZero (kindOf k) s n ≡ true
+  pub session : s ≤ lastHandle
+  pub kept : keptZero (kindFrom k) s n ≡ true
 
-place-fits : (row : List ℕ) → processFits row ≡ true → PlaceFits (getD row 0 0) (getD row 1 0) (getD row 2 0) (number (take 2 (drop 3 row)))
+place-fits : (row : List ℕ) → processFits row ≡ true → PlaceFits (getD row ownerAt 0) (getD row kindAt 0) (getD row sessionAt 0) (numberAt 2 nextAt row)
 unfolding processFits
 place-fits row e =
-    let e₁ = and-right (leb (getD row 0 0) 7) _ e in
-    let e₂ = and-right (leb (getD row 1 0) 2) _ e₁ in
+    let e₁ = and-right (leb (getD row ownerAt 0) lastCredential) _ e in
+    let e₂ = and-right (leb (getD row kindAt 0) 2) _ e₁ in
     record {
-      credential = leb-true (getD row 0 0) 7 (and-left (leb (getD row 0 0) 7) _ e);
-      type = leb-true (getD row 1 0) 2 (and-left (leb (getD row 1 0) 2) _ e₁);
-      session = leb-true (getD row 2 0) 3 (and-left (leb (getD row 2 0) 3) _ e₂);
-      kept = and-right (leb (getD row 2 0) 3) _ e₂;
+      credential = leb-true (getD row ownerAt 0) lastCredential (and-left (leb (getD row ownerAt 0) lastCredential) _ e);
+      type = leb-true (getD row kindAt 0) 2 (and-left (leb (getD row kindAt 0) 2) _ e₁);
+      session = leb-true (getD row sessionAt 0) lastHandle (and-left (leb (getD row sessionAt 0) lastHandle) _ e₂);
+      kept = and-right (leb (getD row sessionAt 0) lastHandle) _ e₂;
     }
 
-next-in : (n : ℕ) (name : List ℕ) → n < 256 ^ 2 → number (take 2 (bytesOf 2 n ++ name)) ≡ n
-next-in n name h = rw (take-at (bytesOf 2 n) name 2 (length-bytes 2 n)) (number-back 2 n h)
+process-next : (p : Process) → p .next < 256 ^ 2 → numberAt 2 nextAt (processBytes p) ≡ p .next
+unfolding processBytes
+process-next p h = number-in 2 (p .next) (byteOf (p .credential .0) ∷ kindByte (p .kind) ∷ p .session .0 ∷ []) (p .name .bytes) h
 
-module _ (c k s x y : ℕ) (name : List ℕ) (h : Bytes (c ∷ k ∷ s ∷ x ∷ y ∷ name)) (e : processFits (c ∷ k ∷ s ∷ x ∷ y ∷ name) ≡ true) where
-  tells : PlaceFits c k s (number (x ∷ y ∷ []))
-  tells = place-fits (c ∷ k ∷ s ∷ x ∷ y ∷ name) e
+process-forth : (b : List ℕ) → length b ≡ placeSize → Bytes b → processFits b ≡ true → processBytes (processFrom b) ≡ b
+unfolding processBytes processFrom
+process-forth b n h e =
+    let t = place-fits b e in
+    rw (byte-small (getD b ownerAt 0) (h 0), kind-forth (getD b kindAt 0) (t .type), number-taken 2 nextAt b h (omega arith), part-front 2 nextAt b, byte-front sessionAt b (omega arith), byte-front kindAt b (omega arith))
+    (byte-front ownerAt b (omega arith))
 
-  next : Bytes (x ∷ y ∷ [])
-  next zero = h 3
-  next (suc zero) = h 4
-  next (suc (suc i)) = omega arith
-
-  forth-at : processBytes (processOf (c ∷ k ∷ s ∷ x ∷ y ∷ name)) ≡ c ∷ k ∷ s ∷ x ∷ y ∷ name
-  unfolding processOf processBytes
-  forth-at = rw (byte-small c (h 0), type-back k (tells .type), number-forth (x ∷ y ∷ []) next)
-
-  formed-at : length name ≡ 48 → FormedProcess (processOf (c ∷ k ∷ s ∷ x ∷ y ∷ name))
-  unfolding processOf
-  formed-at n =
-      record {
-        credential = tells .credential;
-        session = tells .session;
-        next = number-small (x ∷ y ∷ []) next;
-        name = n;
-        saved = kept-saved s (number (x ∷ y ∷ [])) (tells .kept);
-        elevation = kept-elevation s (number (x ∷ y ∷ [])) (tells .kept);
-      }
-
-pub process-codec : Codec 53 processBytes processOf processFits WideProcess FormedProcess
-unfolding processBytes processOf processFits bytesOf
+pub process-codec : Codec placeSize processBytes processFrom processFits WideProcess FormedProcess
+unfolding processBytes processFrom processFits bytesOf
 process-codec =
     record {
       wide = λ p v. record { next = v .next; name = v .name };
@@ -203,16 +177,16 @@ process-codec =
       only = only;
       back = back;
       fits = fits;
-      forth = forth;
+      forth = process-forth;
       good = good;
     }
   where
     only : (p : Process) → WideProcess p → processFits (processBytes p) ≡ true → FormedProcess p
     only p v e =
         let t = place-fits (processBytes p) e in
-        let q : keptZero (p .kind) (p .session .0) (p .next) ≡ true = rw (kind-back (p .kind), next-in (p .next) (p .name .bytes) (v .next)) at (t .kept) in
+        let q : keptZero (p .kind) (p .session .0) (p .next) ≡ true = rw (kind-back (p .kind), process-next p (v .next)) at (t .kept) in
         record {
-          credential = byte-only (p .credential .0) 7 (omega arith) (t .credential);
+          credential = byte-only (p .credential .0) lastCredential (omega arith) (t .credential);
           session = t .session;
           next = v .next;
           name = v .name;
@@ -220,40 +194,36 @@ process-codec =
           elevation = kept-elevation (p .session .0) (p .next) q;
         }
 
-    back : (p : Process) → FormedProcess p → processOf (processBytes p) ≡ p
+    back : (p : Process) → FormedProcess p → processFrom (processBytes p) ≡ p
     back p v =
         let c : byteOf (p .credential .0) ≡ p .credential .0 = byte-small (p .credential .0) (omega (arith, v .credential)) in
-        rw (c, kind-back (p .kind), next-in (p .next) (p .name .bytes) (v .next))
+        rw (process-next p (v .next), c, kind-back (p .kind))
 
     fits : (p : Process) → FormedProcess p → processFits (processBytes p) ≡ true
     fits p v =
         let c : byteOf (p .credential .0) ≡ p .credential .0 = byte-small (p .credential .0) (omega (arith, v .credential)) in
-        rw (c, le-leb (p .credential .0) 7 (v .credential), type-fits (p .kind), le-leb (p .session .0) 3 (v .session), kind-back (p .kind), next-in (p .next) (p .name .bytes) (v .next))
+        rw (process-next p (v .next), c, le-leb (p .credential .0) lastCredential (v .credential), kind-fits (p .kind), le-leb (p .session .0) lastHandle (v .session), kind-back (p .kind))
         (kept-test (p .kind) (p .session .0) (p .next) (v .saved) (v .elevation))
 
-    forth : (b : List ℕ) → length b ≡ 53 → Bytes b → processFits b ≡ true → processBytes (processOf b) ≡ b
-    forth [] n h e = absurd (omega arith)
-    forth (c ∷ []) n h e = absurd (omega arith)
-    forth (c ∷ k ∷ []) n h e = absurd (omega arith)
-    forth (c ∷ k ∷ s ∷ []) n h e = absurd (omega arith)
-    forth (c ∷ k ∷ s ∷ x ∷ []) n h e = absurd (omega arith)
-    forth (c ∷ k ∷ s ∷ x ∷ y ∷ name) n h e = forth-at c k s x y name h e
-
-    good : (b : List ℕ) → length b ≡ 53 → Bytes b → processFits b ≡ true → FormedProcess (processOf b)
-    good [] n h e = absurd (omega arith)
-    good (c ∷ []) n h e = absurd (omega arith)
-    good (c ∷ k ∷ []) n h e = absurd (omega arith)
-    good (c ∷ k ∷ s ∷ []) n h e = absurd (omega arith)
-    good (c ∷ k ∷ s ∷ x ∷ []) n h e = absurd (omega arith)
-    good (c ∷ k ∷ s ∷ x ∷ y ∷ name) n h e = formed-at c k s x y name h e (omega arith)
+    good : (b : List ℕ) → length b ≡ placeSize → Bytes b → processFits b ≡ true → FormedProcess (processFrom b)
+    good b n h e =
+        let t = place-fits b e in
+        record {
+          credential = t .credential;
+          session = t .session;
+          next = number-low 2 nextAt b h;
+          name = simp length-drop (omega arith);
+          saved = kept-saved (getD b sessionAt 0) (numberAt 2 nextAt b) (t .kept);
+          elevation = kept-elevation (getD b sessionAt 0) (numberAt 2 nextAt b) (t .kept);
+        }
 
 -- ---- a free place is zeros, and the other way round
-pub free-row : processBytes freePlace ≡ replicate 53 0
+pub free-row : processBytes freePlace ≡ replicate placeSize 0
 unfolding processBytes bytesOf byteOf
 free-row = refl
 
-pub free-of : processOf (replicate 53 0) ≡ freePlace
-unfolding processOf number
+pub free-of : processFrom (replicate placeSize 0) ≡ freePlace
+unfolding processFrom numberAt numberOf
 free-of = refl
 
 pub free-formed : FormedProcess freePlace

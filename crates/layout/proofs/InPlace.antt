@@ -8,26 +8,25 @@ use native.Mathlib.Omega.{arith}
 use borrow.Author.Tests.{eq-eqb, lt-ltb}
 use lib.ListN.{length, take, drop, getD, set, replicate, length-append, length-set, List·getD-append}
 use lib.Seq.{length-take-le, set-append-left}
+use Rattle.rows.proofs.Over.{over-middle}
 use Rattle.lists.specs.Lists.{join, padded}
-use Rattle.lists.specs.Bytes.{bytesOf, Bytes}
-use Rattle.lists.proofs.Bytes.{length-bytes}
-use Rattle.codec.specs.Codec.{over}
-use Rattle.codec.proofs.Codec.{each-take, array-long, join-at, join-set}
-use Rattle.codec.proofs.Loops.{over-middle}
-use Rattle.table.specs.Table.{standing, tableOf, freePlace, processAt, replaced}
+use Rattle.rows.specs.Bytes.{bytesOf, Bytes, byteOf}
+use Rattle.rows.proofs.Bytes.{length-bytes}
+use Rattle.rows.specs.Rows.{over}
+use Rattle.rows.proofs.Rows.{each-take, array-long, join-at, join-set}
+use Rattle.table.specs.Table.{standing, tableOf, freePlace, processAt, replaced, places}
 use Rattle.table.specs.declared.Process.{Process}
 use Rattle.claims.specs.declared.State.{State}
-use Rattle.layout.specs.Layout.{stateLength, byteOf, sessionBytes, grantsBytes, processBytes, stateBytes, stateOf, numbered, withNext, nextWritten, holdsState}
+use Rattle.layout.specs.Layout.{nextAt, placeSize, placesAt, stateLength, sessionBytes, grantsBytes, kindByte, processBytes, stateBytes, stateOf, numbered, withNext, nextWritten, holdsState}
 use Rattle.facts.specs.Facts.{Wide, Formed}
 use Rattle.facts.proofs.Laws.{formed-few}
-use Rattle.names.specs.Names.{typeNumber}
 use Rattle.layout.proofs.Fields.{process-codec}
 use Rattle.layout.proofs.Laws.{formed-wide, sessions-long, credentials-long, bytes-long, one-form, holds-is, places-are, count-is}
 
 -- the bytes of a state from its parts, with a next number n in one place
 glue : (s g x y : List ℕ) (c : ℕ) (p : Process) (n : ℕ)
     → s ++ (g ++ (c ∷ (x ++ (processBytes (numbered p n) ++ y))))
-    ≡ (s ++ (g ++ (c ∷ (x ++ (byteOf (p .credential .0) ∷ typeNumber (p .kind) ∷ p .session .0 ∷ []))))) ++ (bytesOf 2 n ++ (p .name .bytes ++ y))
+    ≡ (s ++ (g ++ (c ∷ (x ++ (byteOf (p .credential .0) ∷ kindByte (p .kind) ∷ p .session .0 ∷ []))))) ++ (bytesOf 2 n ++ (p .name .bytes ++ y))
 unfolding processBytes
 glue s g x y c p n = simp append-assoc
 
@@ -37,14 +36,14 @@ module _ {st : State} (f : Formed st) (at : ℕ) (h : at < length (standing (st 
   unfolding processAt
   place-is =
       sym (ap (λ (l : List Process). getD l at freePlace) (places-are f)
-      ∙ List·getD-append (standing (st .table)) (replicate (12 - length (standing (st .table))) freePlace) freePlace at h)
+      ∙ List·getD-append (standing (st .table)) (replicate (places - length (standing (st .table))) freePlace) freePlace at h)
 
   replaced-places : (p : Process) → replaced (st .table) at p .places ≡ set (st .table .places) at p
   unfolding replaced tableOf padded
   replaced-places p =
       rw length-set
       (sym (ap (λ (l : List Process). set l at p) (places-are f)
-      ∙ set-append-left (standing (st .table)) (replicate (12 - length (standing (st .table))) freePlace) at p h))
+      ∙ set-append-left (standing (st .table)) (replicate (places - length (standing (st .table))) freePlace) at p h))
 
   replaced-count : (p : Process) → replaced (st .table) at p .count ≡ st .table .count
   unfolding replaced tableOf
@@ -56,24 +55,24 @@ module _ {st : State} (f : Formed st) (at : ℕ) (h : at < length (standing (st 
       let w : Wide st = formed-wide f in
       let l : List Process = st .table .places in
       let p : Process = getD l at freePlace in
-      let room : at < 12 = omega (arith, formed-few f) in
+      let room : at < places = omega (arith, formed-few f) in
       let inside : at < length l = omega (arith, w .places) in
       let s : List ℕ = join (map sessionBytes (st .sessions)) in
       let g : List ℕ = join (map grantsBytes (st .credentials)) in
       let x : List ℕ = join (map processBytes (take at l)) in
       let y : List ℕ = join (map processBytes (drop (suc at) l)) in
       let c : ℕ = byteOf (st .table .count) in
-      let front : length x ≡ at * 53 = array-long process-codec (each-take at (w .each)) ∙ rw (length-take-le at l (omega arith)) in
-      let head : List ℕ = s ++ (g ++ (c ∷ (x ++ (byteOf (p .credential .0) ∷ typeNumber (p .kind) ∷ p .session .0 ∷ [])))) in
-      let before : length head ≡ 48 + at * 53 =
+      let front : length x ≡ at * placeSize = array-long process-codec (each-take at (w .each)) ∙ rw (length-take-le at l (omega arith)) in
+      let head : List ℕ = s ++ (g ++ (c ∷ (x ++ (byteOf (p .credential .0) ∷ kindByte (p .kind) ∷ p .session .0 ∷ [])))) in
+      let before : length head ≡ placesAt + at * placeSize + nextAt =
       simp length-append (omega (arith, front, sessions-long w, credentials-long w))
       in
       let new : stateBytes (withNext st at n) ≡ s ++ (g ++ (c ∷ (x ++ (processBytes (numbered p n) ++ y)))) =
       rw (replaced-count (numbered (processAt (st .table) at) n), replaced-places (numbered (processAt (st .table) at) n), place-is, join-set processBytes l at inside (numbered p n))
       in
-      rw (eq-eqb (length (stateBytes st)) stateLength (bytes-long w), lt-ltb at 12 room, join-at processBytes l at inside freePlace, new)
-      (ap (λ (b : List ℕ). over (48 + at * 53) (bytesOf 2 n) b) (glue s g x y c p (p .next))
-      ∙ over-middle head (bytesOf 2 (p .next)) (p .name .bytes ++ y) (bytesOf 2 n) (48 + at * 53) before (length-bytes 2 (p .next) ∙ sym (length-bytes 2 n))
+      rw (eq-eqb (length (stateBytes st)) stateLength (bytes-long w), lt-ltb at places room, join-at processBytes l at inside freePlace, new)
+      (ap (λ (b : List ℕ). over (placesAt + at * placeSize + nextAt) 2 (bytesOf 2 n) b) (glue s g x y c p (p .next))
+      ∙ over-middle (placesAt + at * placeSize + nextAt) 2 head (bytesOf 2 (p .next)) (p .name .bytes ++ y) (bytesOf 2 n) before (length-bytes 2 (p .next))
       ∙ sym (glue s g x y c p n))
 
 -- so in a slice that holds a state

@@ -11,73 +11,76 @@ use lib.Dec.{eqb, leb}
 use lib.ListN.{length, take, drop, getD, replicate, length-append, length-map, length-drop, take-append-drop}
 use lib.Seq.{take-all, drop-at, getD-drop, drop-drop, drop-cons, length-take-le}
 use borrow.Author.Tests.{eqb-true, leb-true, eq-eqb, ne-eqb, le-leb}
+use Rattle.rows.proofs.Bytes.{byte-small, byte-only, bytes-drop}
 use Rattle.lists.specs.Lists.{join, padded}
-use Rattle.lists.specs.Bytes.{Bytes}
+use Rattle.rows.specs.Bytes.{Bytes, isZero, byteOf}
 use Rattle.lists.proofs.Tests.{and-left, and-right, and-both}
-use Rattle.codec.specs.Codec.{rows, every, isZero}
+use Rattle.rows.specs.Rows.{rows, every}
 use Rattle.lists.specs.Each.{Each}
-use Rattle.codec.proofs.Codec.{rows-length, rows-take, rows-drop, join-append, every-split, every-take, each-every, each-append, each-take, each-replicate, each-all, map-append, map-drop, map-take, map-replicate, zeros-are, join-zeros, rows-zeros, bytes-drop, array-wide, array-long, array-back, array-fits, array-only, array-forth, array-good}
-use Rattle.table.specs.Table.{standing, tableOf, freePlace}
+use Rattle.lists.proofs.Each.{each-all}
+use Rattle.rows.proofs.Rows.{rows-length, rows-take, rows-drop, join-append, every-split, every-take, each-every, each-append, each-take, each-replicate, map-append, map-drop, map-take, map-replicate, zeros-are, join-zeros, rows-zeros, array-wide, array-long, array-back, array-fits, array-only, array-forth, array-good}
+use Rattle.table.specs.Table.{standing, tableOf, freePlace, places}
 use Rattle.table.specs.declared.Process.{Process}
 use Rattle.table.specs.declared.Table.{Table}
 use Rattle.claims.specs.declared.State.{State}
-use Rattle.layout.specs.Layout.{stateLength, byteOf, sessionBytes, sessionOf, sessionFits, grantsBytes, grantsOf, grantsFit, processBytes, processOf, processFits, countIn, placesIn, stateBytes, stateIn, nothingHeld, stateOf, stateWritten, shaped, sound, holdsState}
+use Rattle.layout.specs.Layout.{credentialSize, placeSize, sessionSize, credentialsAt, countAt, placesAt, stateLength, sessionBytes, sessionFrom, sessionFits, grantsBytes, grantsFrom, grantsFit, processBytes, processFrom, processFits, countIn, placesIn, stateBytes, stateIn, nothingHeld, stateOf, stateWritten, shaped, sound, holdsState}
 use Rattle.facts.specs.Facts.{FormedGrants, FormedProcess, Formed, IsState, Wide}
 use Rattle.facts.proofs.Laws.{formed-few}
-use Rattle.layout.proofs.Fields.{byte-small, byte-only, session-codec, grants-codec, process-codec, free-row, free-of, free-formed}
+use Rattle.layout.proofs.Fields.{session-codec, grants-codec, process-codec, free-row, free-of, free-formed}
 use Rattle.layout.proofs.Sound.{sound-exactly}
+use Rattle.claims.specs.Module.{sessionCount, credentialCount}
 
--- ---- the parts of the 681 bytes: 4, 40, one, the rest
-module _ (A B P : List ℕ) (c : ℕ) (a : length A ≡ 4) (b : length B ≡ 40) where
-  from-4 : drop 4 (A ++ (B ++ (c ∷ P))) ≡ B ++ (c ∷ P)
-  from-4 = drop-at A (B ++ (c ∷ P)) 4 a
+-- ---- the parts of a slice: sessions, credentials, one, the rest
+module _ (A B P : List ℕ) (c : ℕ) (a : length A ≡ sessionCount) (b : length B ≡ credentialCount * credentialSize) where
+  from-credentials : drop credentialsAt (A ++ (B ++ (c ∷ P))) ≡ B ++ (c ∷ P)
+  from-credentials = drop-at A (B ++ (c ∷ P)) credentialsAt a
 
-  from-44 : drop 44 (A ++ (B ++ (c ∷ P))) ≡ c ∷ P
-  from-44 = sym (drop-drop 40 4 (A ++ (B ++ (c ∷ P)))) ∙ rw from-4 (drop-at B (c ∷ P) 40 b)
+  from-count : drop countAt (A ++ (B ++ (c ∷ P))) ≡ c ∷ P
+  from-count = sym (drop-drop (credentialCount * credentialSize) credentialsAt (A ++ (B ++ (c ∷ P)))) ∙ rw from-credentials (drop-at B (c ∷ P) (credentialCount * credentialSize) b)
 
-  from-45 : drop 45 (A ++ (B ++ (c ∷ P))) ≡ P
-  from-45 = sym (drop-drop 1 44 (A ++ (B ++ (c ∷ P)))) ∙ rw from-44
+  from-places : drop placesAt (A ++ (B ++ (c ∷ P))) ≡ P
+  from-places = sym (drop-drop 1 countAt (A ++ (B ++ (c ∷ P)))) ∙ rw from-count
 
-  at-44 : getD (A ++ (B ++ (c ∷ P))) 44 0 ≡ c
-  at-44 = sym (getD-drop 44 (A ++ (B ++ (c ∷ P))) 0 0) ∙ rw from-44
+  at-count : getD (A ++ (B ++ (c ∷ P))) countAt 0 ≡ c
+  at-count = sym (getD-drop countAt (A ++ (B ++ (c ∷ P))) 0 0) ∙ rw from-count
 
-  whole : length (A ++ (B ++ (c ∷ P))) ≡ 45 + length P
+  whole : length (A ++ (B ++ (c ∷ P))) ≡ placesAt + length P
   whole = simp length-append (omega arith)
 
-parts : (b : List ℕ) → length b ≡ stateLength → b ≡ take 4 b ++ (take 40 (drop 4 b) ++ (getD b 44 0 ∷ drop 45 b))
+parts : (b : List ℕ) → length b ≡ stateLength → b ≡ take credentialsAt b ++ (take (credentialCount * credentialSize) (drop credentialsAt b) ++ (getD b countAt 0 ∷ drop placesAt b))
 parts b h =
-    let k : 44 < length b = omega arith in
-    let d : drop 40 (drop 4 b) ≡ getD b 44 0 ∷ drop 45 b = drop-drop 40 4 b ∙ drop-cons b 44 0 k in
-    sym (rw (← d, take-append-drop 40 (drop 4 b), take-append-drop 4 b))
+    let k : countAt < length b = omega arith in
+    let d : drop (credentialCount * credentialSize) (drop credentialsAt b) ≡ getD b countAt 0 ∷ drop placesAt b = drop-drop (credentialCount * credentialSize) credentialsAt b ∙ drop-cons b countAt 0 k in
+    sym (rw (← d, take-append-drop (credentialCount * credentialSize) (drop credentialsAt b), take-append-drop credentialsAt b))
 
 -- ---- what a slice that is shaped has
 pub record Shape (b : List ℕ) : Type 0 where
   pub long : length b ≡ stateLength
-  pub sessions : every sessionFits (rows 4 1 b) ≡ true
-  pub credentials : every grantsFit (rows 8 5 (drop 4 b)) ≡ true
-  pub room : countIn b ≤ 12
-  pub standing : every processFits (rows (countIn b) 53 (drop 45 b)) ≡ true
-  pub free : every isZero (drop (45 + countIn b * 53) b) ≡ true
+  pub sessions : every sessionFits (rows sessionCount sessionSize b) ≡ true
+  pub credentials : every grantsFit (rows credentialCount credentialSize (drop credentialsAt b)) ≡ true
+  pub room : countIn b ≤ places
+  pub standing : every processFits (rows (countIn b) placeSize (drop placesAt b)) ≡ true
+  pub free : every isZero (drop (placesAt + countIn b * placeSize) b) ≡ true
 
 pub shape : (b : List ℕ) → shaped b ≡ true → Shape b
 unfolding shaped
 shape b e =
     let e₁ = and-right (eqb (length b) stateLength) _ e in
-    let e₂ = and-right (every sessionFits (rows 4 1 b)) _ e₁ in
-    let e₃ = and-right (every grantsFit (rows 8 5 (drop 4 b))) _ e₂ in
-    let e₄ = and-right (leb (countIn b) 12) _ e₃ in
+    let e₂ = and-right (every sessionFits (rows sessionCount sessionSize b)) _ e₁ in
+    let e₃ = and-right (every grantsFit (rows credentialCount credentialSize (drop credentialsAt b))) _ e₂ in
+    let e₄ = and-right (leb (countIn b) places) _ e₃ in
     record {
       long = eqb-true (length b) stateLength (and-left (eqb (length b) stateLength) _ e);
-      sessions = and-left (every sessionFits (rows 4 1 b)) _ e₁;
-      credentials = and-left (every grantsFit (rows 8 5 (drop 4 b))) _ e₂;
-      room = leb-true (countIn b) 12 (and-left (leb (countIn b) 12) _ e₃);
-      standing = and-left (every processFits (rows (countIn b) 53 (drop 45 b))) _ e₄;
-      free = and-right (every processFits (rows (countIn b) 53 (drop 45 b))) _ e₄;
+      sessions = and-left (every sessionFits (rows sessionCount sessionSize b)) _ e₁;
+      credentials = and-left (every grantsFit (rows credentialCount credentialSize (drop credentialsAt b))) _ e₂;
+      room = leb-true (countIn b) places (and-left (leb (countIn b) places) _ e₃);
+      standing = and-left (every processFits (rows (countIn b) placeSize (drop placesAt b))) _ e₄;
+      free = and-right (every processFits (rows (countIn b) placeSize (drop placesAt b))) _ e₄;
     }
 
 pub shape-test : (b : List ℕ) → Shape b → shaped b ≡ true
 unfolding shaped
-shape-test b v = rw (eq-eqb (length b) stateLength (v .long), v .sessions, v .credentials, le-leb (countIn b) 12 (v .room), v .standing) (v .free)
+shape-test b v = rw (eq-eqb (length b) stateLength (v .long), v .sessions, v .credentials, le-leb (countIn b) places (v .room), v .standing) (v .free)
 
 -- ---- reading and writing, by the length of the slice
 module _ (b : List ℕ) where
@@ -102,7 +105,7 @@ module _ (b : List ℕ) where
 abbrev tableWith : List Process → ℕ → Table
 tableWith l c = record { places = l; count = c }
 
-tidy-of : (l : List Process) (c : ℕ) → length l ≡ 12 → c ≤ 12 → drop c l ≡ replicate (12 - c) freePlace → tableWith l c ≡ tableOf (take c l)
+tidy-of : (l : List Process) (c : ℕ) → length l ≡ places → c ≤ places → drop c l ≡ replicate (places - c) freePlace → tableWith l c ≡ tableOf (take c l)
 unfolding tableOf padded
 tidy-of l c h k e =
     let n : length (take c l) ≡ c = length-take-le c l (omega arith) in
@@ -110,28 +113,28 @@ tidy-of l c h k e =
 
 module _ {b : List ℕ} (v : Shape b) where
   -- the rows past the count
-  free-rows : drop (countIn b) (rows 12 53 (drop 45 b)) ≡ replicate (12 - countIn b) (replicate 53 0)
+  free-rows : drop (countIn b) (rows places placeSize (drop placesAt b)) ≡ replicate (places - countIn b) (replicate placeSize 0)
   free-rows =
       let c : ℕ = countIn b in
-      let m : ℕ = 12 - c in
-      let t : 12 ≡ c + m = omega (arith, v .room) in
-      let d : drop (c * 53) (drop 45 b) ≡ drop (45 + c * 53) b = drop-drop (c * 53) 45 b in
-      let n : length (drop (45 + c * 53) b) ≡ m * 53 = simp length-drop (omega (arith, v .room, v .long)) in
-      let z : drop (45 + c * 53) b ≡ replicate (m * 53) 0 = zeros-are (drop (45 + c * 53) b) (v .free) ∙ rw n in
-      let e : drop c (rows (c + m) 53 (drop 45 b)) ≡ replicate m (replicate 53 0) = rows-drop c m 53 (drop 45 b) ∙ rw (d, z, rows-zeros m 53) in
+      let m : ℕ = places - c in
+      let t : places ≡ c + m = omega (arith, v .room) in
+      let d : drop (c * placeSize) (drop placesAt b) ≡ drop (placesAt + c * placeSize) b = drop-drop (c * placeSize) placesAt b in
+      let n : length (drop (placesAt + c * placeSize) b) ≡ m * placeSize = simp length-drop (omega (arith, v .room, v .long)) in
+      let z : drop (placesAt + c * placeSize) b ≡ replicate (m * placeSize) 0 = zeros-are (drop (placesAt + c * placeSize) b) (v .free) ∙ rw n in
+      let e : drop c (rows (c + m) placeSize (drop placesAt b)) ≡ replicate m (replicate placeSize 0) = rows-drop c m placeSize (drop placesAt b) ∙ rw (d, z, rows-zeros m placeSize) in
       rw (← t) at e
 
-  all-fit : every processFits (rows 12 53 (drop 45 b)) ≡ true
+  all-fit : every processFits (rows places placeSize (drop placesAt b)) ≡ true
   all-fit =
-      every-split processFits (countIn b) (rows 12 53 (drop 45 b)) (rw (rows-take (countIn b) 12 53 (drop 45 b) (v .room)) (v .standing))
-      (rw free-rows (each-every processFits _ (each-replicate (12 - countIn b) (replicate 53 0) free-fits)))
+      every-split processFits (countIn b) (rows places placeSize (drop placesAt b)) (rw (rows-take (countIn b) places placeSize (drop placesAt b) (v .room)) (v .standing))
+      (rw free-rows (each-every processFits _ (each-replicate (places - countIn b) (replicate placeSize 0) free-fits)))
     where
-      free-fits : processFits (replicate 53 0) ≡ true
+      free-fits : processFits (replicate placeSize 0) ≡ true
       free-fits = rw free-row at (process-codec .fits freePlace free-formed)
 
-  places-length : length (placesIn b) ≡ 12
+  places-length : length (placesIn b) ≡ places
   unfolding placesIn
-  places-length = length-map (rows 12 53 (drop 45 b)) processOf ∙ rows-length 12 53 (drop 45 b)
+  places-length = length-map (rows places placeSize (drop placesAt b)) processFrom ∙ rows-length places placeSize (drop placesAt b)
 
   stand : length (standing (stateIn b .table)) ≡ countIn b
   unfolding standing
@@ -140,35 +143,35 @@ module _ {b : List ℕ} (v : Shape b) where
   shape-tidy : stateIn b .table ≡ tableOf (standing (stateIn b .table))
   unfolding placesIn standing
   shape-tidy =
-      tidy-of (placesIn b) (countIn b) places-length (v .room) (rw (map-drop processOf (countIn b) (rows 12 53 (drop 45 b)), free-rows, map-replicate, free-of))
+      tidy-of (placesIn b) (countIn b) places-length (v .room) (rw (map-drop processFrom (countIn b) (rows places placeSize (drop placesAt b)), free-rows, map-replicate, free-of))
 
   module _ (g : Bytes b) where
     pub shape-forth : stateBytes (stateOf b) ≡ b
     unfolding stateBytes countIn placesIn
     shape-forth =
-        let s : join (map sessionBytes (map sessionOf (rows 4 1 b))) ≡ take 4 b = array-forth session-codec 4 b (omega (arith, v .long)) g (v .sessions) in
-        let q : join (map grantsBytes (map grantsOf (rows 8 5 (drop 4 b)))) ≡ take 40 (drop 4 b) =
-        array-forth grants-codec 8 (drop 4 b) (simp length-drop (omega (arith, v .long))) (bytes-drop 4 b g) (v .credentials)
+        let s : join (map sessionBytes (map sessionFrom (rows sessionCount sessionSize b))) ≡ take credentialsAt b = array-forth session-codec sessionCount b (omega (arith, v .long)) g (v .sessions) in
+        let q : join (map grantsBytes (map grantsFrom (rows credentialCount credentialSize (drop credentialsAt b)))) ≡ take (credentialCount * credentialSize) (drop credentialsAt b) =
+        array-forth grants-codec credentialCount (drop credentialsAt b) (simp length-drop (omega (arith, v .long))) (bytes-drop credentialsAt b g) (v .credentials)
         in
-        let l : length (drop 45 b) ≡ 636 = simp length-drop (omega (arith, v .long)) in
-        let p : join (map processBytes (map processOf (rows 12 53 (drop 45 b)))) ≡ drop 45 b =
-        array-forth process-codec 12 (drop 45 b) (omega arith) (bytes-drop 45 b g) all-fit ∙ take-all 636 (drop 45 b) (omega arith)
+        let l : length (drop placesAt b) ≡ (places * placeSize) = simp length-drop (omega (arith, v .long)) in
+        let p : join (map processBytes (map processFrom (rows places placeSize (drop placesAt b)))) ≡ drop placesAt b =
+        array-forth process-codec places (drop placesAt b) (omega arith) (bytes-drop placesAt b g) all-fit ∙ take-all (places * placeSize) (drop placesAt b) (omega arith)
         in
-        rw (state-in b (v .long), s, q, p, byte-small (getD b 44 0) (g 44)) (sym (parts b (v .long)))
+        rw (state-in b (v .long), s, q, p, byte-small (getD b countAt 0) (g countAt)) (sym (parts b (v .long)))
 
     pub shape-formed : Formed (stateOf b)
     unfolding countIn placesIn standing
     shape-formed =
-        let l : length (drop 45 b) ≡ 636 = simp length-drop (omega (arith, v .long)) in
+        let l : length (drop placesAt b) ≡ (places * placeSize) = simp length-drop (omega (arith, v .long)) in
         rw (state-in b (v .long)) (record {
-          sessions = length-map (rows 4 1 b) sessionOf ∙ rows-length 4 1 b;
-          credentials = length-map (rows 8 5 (drop 4 b)) grantsOf ∙ rows-length 8 5 (drop 4 b);
+          sessions = length-map (rows sessionCount sessionSize b) sessionFrom ∙ rows-length sessionCount sessionSize b;
+          credentials = length-map (rows credentialCount credentialSize (drop credentialsAt b)) grantsFrom ∙ rows-length credentialCount credentialSize (drop credentialsAt b);
           places = places-length;
-          words = array-good grants-codec 8 (drop 4 b) (simp length-drop (omega (arith, v .long))) (bytes-drop 4 b g) (v .credentials);
+          words = array-good grants-codec credentialCount (drop credentialsAt b) (simp length-drop (omega (arith, v .long))) (bytes-drop credentialsAt b g) (v .credentials);
           tidy = shape-tidy;
           each =
-              rw (map-take processOf (countIn b) (rows 12 53 (drop 45 b)), rows-take (countIn b) 12 53 (drop 45 b) (v .room))
-              (array-good process-codec (countIn b) (drop 45 b) (omega (arith, v .room)) (bytes-drop 45 b g) (v .standing));
+              rw (map-take processFrom (countIn b) (rows places placeSize (drop placesAt b)), rows-take (countIn b) places placeSize (drop placesAt b) (v .room))
+              (array-good process-codec (countIn b) (drop placesAt b) (omega (arith, v .room)) (bytes-drop placesAt b g) (v .standing));
         })
 
 -- ---- the bytes of a state
@@ -183,37 +186,37 @@ placePart st = join (map processBytes (st .table .places))
 
 module _ {st : State} (w : Wide st) where
   all-sessions : Each (λ s. Unit) (st .sessions)
-  all-sessions = each-all (λ s. tt) (st .sessions)
+  all-sessions = each-all (st .sessions) (λ s. tt)
 
-  pub sessions-long : length (sessionPart st) ≡ 4
+  pub sessions-long : length (sessionPart st) ≡ sessionCount
   sessions-long = array-long session-codec all-sessions ∙ rw (w .sessions)
 
-  pub credentials-long : length (credentialPart st) ≡ 40
+  pub credentials-long : length (credentialPart st) ≡ credentialCount * credentialSize
   credentials-long = array-long grants-codec (w .words) ∙ rw (w .credentials)
 
-  places-long : length (placePart st) ≡ 636
+  places-long : length (placePart st) ≡ (places * placeSize)
   places-long = array-long process-codec (w .each) ∙ rw (w .places)
 
   pub bytes-long : length (stateBytes st) ≡ stateLength
   unfolding stateBytes
   bytes-long = whole (sessionPart st) (credentialPart st) (placePart st) (byteOf (st .table .count)) sessions-long credentials-long ∙ rw places-long
 
-  credentials-at : drop 4 (stateBytes st) ≡ credentialPart st ++ (byteOf (st .table .count) ∷ placePart st)
+  credentials-at : drop credentialsAt (stateBytes st) ≡ credentialPart st ++ (byteOf (st .table .count) ∷ placePart st)
   unfolding stateBytes
-  credentials-at = from-4 (sessionPart st) (credentialPart st) (placePart st) (byteOf (st .table .count)) sessions-long credentials-long
+  credentials-at = from-credentials (sessionPart st) (credentialPart st) (placePart st) (byteOf (st .table .count)) sessions-long credentials-long
 
   count-at : countIn (stateBytes st) ≡ byteOf (st .table .count)
   unfolding stateBytes countIn
-  count-at = at-44 (sessionPart st) (credentialPart st) (placePart st) (byteOf (st .table .count)) sessions-long credentials-long
+  count-at = at-count (sessionPart st) (credentialPart st) (placePart st) (byteOf (st .table .count)) sessions-long credentials-long
 
-  places-at : drop 45 (stateBytes st) ≡ placePart st ++ []
+  places-at : drop placesAt (stateBytes st) ≡ placePart st ++ []
   unfolding stateBytes
-  places-at = from-45 (sessionPart st) (credentialPart st) (placePart st) (byteOf (st .table .count)) sessions-long credentials-long ∙ sym (append-nil (placePart st))
+  places-at = from-places (sessionPart st) (credentialPart st) (placePart st) (byteOf (st .table .count)) sessions-long credentials-long ∙ sym (append-nil (placePart st))
 
   -- the bytes of a state whose fields are in their ranges, in every place, are read back
   record Ranged : Type 0 where
     pub words : Each FormedGrants (st .credentials)
-    pub room : st .table .count ≤ 12
+    pub room : st .table .count ≤ places
     pub all : Each FormedProcess (st .table .places)
 
   ranged-count : Ranged → countIn (stateBytes st) ≡ st .table .count
@@ -222,13 +225,13 @@ module _ {st : State} (w : Wide st) where
   ranged-back : Ranged → stateOf (stateBytes st) ≡ st
   unfolding stateBytes placesIn
   ranged-back r =
-      let s : map sessionOf (rows 4 1 (stateBytes st)) ≡ st .sessions =
+      let s : map sessionFrom (rows sessionCount sessionSize (stateBytes st)) ≡ st .sessions =
       rw (w .sessions) at (array-back session-codec (credentialPart st ++ (byteOf (st .table .count) ∷ placePart st)) all-sessions)
       in
-      let q : map grantsOf (rows 8 5 (drop 4 (stateBytes st))) ≡ st .credentials =
+      let q : map grantsFrom (rows credentialCount credentialSize (drop credentialsAt (stateBytes st))) ≡ st .credentials =
       rw credentials-at (rw (w .credentials) at (array-back grants-codec (byteOf (st .table .count) ∷ placePart st) (r .words)))
       in
-      let p : map processOf (rows 12 53 (drop 45 (stateBytes st))) ≡ st .table .places =
+      let p : map processFrom (rows places placeSize (drop placesAt (stateBytes st))) ≡ st .table .places =
       rw places-at (rw (w .places) at (array-back process-codec [] (r .all)))
       in
       state-in (stateBytes st) bytes-long ∙ rw (s, q, p, ranged-count r)
@@ -238,7 +241,7 @@ module _ {st : State} (w : Wide st) where
   shape-ranged v =
       record {
         words = array-only grants-codec (byteOf (st .table .count) ∷ placePart st) (w .words) (rw (w .credentials, ← credentials-at) (v .credentials));
-        room = byte-only (st .table .count) 12 (omega arith) (rw count-at at (v .room));
+        room = byte-only (st .table .count) places (omega arith) (rw count-at at (v .room));
         all = array-only process-codec [] (w .each) (rw (w .places, ← places-at) (all-fit v));
       }
 
@@ -262,12 +265,12 @@ module _ {st : State} (f : Formed st) where
   unfolding tableOf
   count-is = ap (λ (t : Table). t .count) (f .tidy)
 
-  pub places-are : st .table .places ≡ standing (st .table) ++ replicate (12 - length (standing (st .table))) freePlace
+  pub places-are : st .table .places ≡ standing (st .table) ++ replicate (places - length (standing (st .table))) freePlace
   unfolding tableOf padded
   places-are = ap (λ (t : Table). t .places) (f .tidy)
 
   all-formed : Each FormedProcess (st .table .places)
-  all-formed = rw places-are (each-append (f .each) (each-replicate (12 - length (standing (st .table))) freePlace free-formed))
+  all-formed = rw places-are (each-append (f .each) (each-replicate (places - length (standing (st .table))) freePlace free-formed))
 
   pub formed-wide : Wide st
   formed-wide =
@@ -290,20 +293,20 @@ module _ {st : State} (f : Formed st) where
   formed-count = ranged-count formed-wide formed-ranged
 
   -- past the places that stand, zeros
-  free-zeros : every isZero (drop (st .table .count * 53) (placePart st)) ≡ true
+  free-zeros : every isZero (drop (st .table .count * placeSize) (placePart st)) ≡ true
   free-zeros =
       let n : ℕ = length (standing (st .table)) in
-      let t : placePart st ≡ join (map processBytes (standing (st .table))) ++ join (replicate (12 - n) (replicate 53 0)) =
+      let t : placePart st ≡ join (map processBytes (standing (st .table))) ++ join (replicate (places - n) (replicate placeSize 0)) =
       ap (λ (l : List Process). join (map processBytes l)) places-are ∙ rw (map-append, join-append, map-replicate, free-row)
       in
-      let q : length (join (map processBytes (standing (st .table)))) ≡ n * 53 = array-long process-codec (array-wide process-codec (f .each)) in
-      rw (count-is, t, drop-at (join (map processBytes (standing (st .table)))) (join (replicate (12 - n) (replicate 53 0))) (n * 53) q) (join-zeros (12 - n) 53)
+      let q : length (join (map processBytes (standing (st .table)))) ≡ n * placeSize = array-long process-codec (array-wide process-codec (f .each)) in
+      rw (count-is, t, drop-at (join (map processBytes (standing (st .table)))) (join (replicate (places - n) (replicate placeSize 0))) (n * placeSize) q) (join-zeros (places - n) placeSize)
 
   formed-shape : Shape (stateBytes st)
   unfolding stateBytes
   formed-shape =
       let w : Wide st = formed-wide in
-      let p : every processFits (rows 12 53 (drop 45 (stateBytes st))) ≡ true =
+      let p : every processFits (rows places placeSize (drop placesAt (stateBytes st))) ≡ true =
       rw (places-at w) (rw (w .places) at (array-fits process-codec [] all-formed))
       in
       record {
@@ -312,10 +315,10 @@ module _ {st : State} (f : Formed st) where
         credentials = rw (credentials-at w) (rw (w .credentials) at (array-fits grants-codec (byteOf (st .table .count) ∷ placePart st) (f .words)));
         room = rw (formed-count, count-is) (formed-few f);
         standing =
-            rw (formed-count, ← rows-take (st .table .count) 12 53 (drop 45 (stateBytes st)) (formed-ranged .room))
-            (every-take processFits (st .table .count) (rows 12 53 (drop 45 (stateBytes st))) p);
+            rw (formed-count, ← rows-take (st .table .count) places placeSize (drop placesAt (stateBytes st)) (formed-ranged .room))
+            (every-take processFits (st .table .count) (rows places placeSize (drop placesAt (stateBytes st))) p);
         free =
-            rw (formed-count, ← drop-drop (st .table .count * 53) 45 (stateBytes st), places-at w, append-nil) free-zeros;
+            rw (formed-count, ← drop-drop (st .table .count * placeSize) placesAt (stateBytes st), places-at w, append-nil) free-zeros;
       }
 
 -- ---- what callers cite

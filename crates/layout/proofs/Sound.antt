@@ -7,8 +7,8 @@ use borrow.Author.Tests.{not-true, eq-eqb}
 use Prim.Native.Nat.{_≤_}
 use lib.ListN.{length}
 use Rattle.lists.proofs.Tests.{split, clash, and-left, and-right, and-both}
-use Rattle.codec.specs.Codec.{every}
-use Rattle.codec.proofs.Codec.{every-by, by-every, pairwise-by, by-pairwise}
+use Rattle.rows.specs.Rows.{every}
+use Rattle.rows.proofs.Rows.{every-by, by-every, pairwise-by, by-pairwise}
 use Rattle.names.specs.Names.{sameName}
 use Rattle.names.proofs.Laws.{same-iff}
 use Rattle.names.specs.declared.Kind.{Kind}

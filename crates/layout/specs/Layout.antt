@@ -1,4 +1,4 @@
--- "It lends the state as a slice too, in one fixed layout": 681 bytes. 4 sessions of 1; 8 credentials of 5; a count; 12 places of 53.
+-- "It lends the state as a slice too, in one fixed layout": sessions, credentials, a count and places, 681 bytes.
 -- docs/STATE.md draws it.
 use Prim.Native.Nat.{ℕ, zero, suc, _+_, _*_}
 use mathlib.Core.Bool.{Bool, true, false, cond, not, _&&_, _||_}
@@ -6,51 +6,92 @@ use mathlib.Core.List.{List, [], _∷_, _++_, map}
 use lib.Dec.{eqb, leb, ltb}
 use lib.ListN.{length, take, drop, getD, replicate}
 use Rattle.lists.specs.Lists.{join}
-use Rattle.lists.specs.Bytes.{bytesOf, number}
-use Rattle.codec.specs.Codec.{rows, every, pairwise, isZero, over}
-use Rattle.names.specs.Names.{sameName, typeNumber, kindOf}
+use Rattle.rows.specs.Bytes.{isZero, bytesOf, numberAt, byteOf}
+use Rattle.rows.specs.Rows.{rows, every, pairwise, over}
+use Rattle.names.specs.Names.{sameName, nameLength}
 use Rattle.names.specs.declared.Kind.{Kind}
 use Rattle.names.specs.declared.Kind.the-variants.{User, Elevation, Saved}
-use Rattle.table.specs.Table.{standing, tableOf, processAt, replaced, isUser, isElevation, isActive, isActiveIn}
+use Rattle.table.specs.Table.{standing, tableOf, processAt, replaced, isUser, isElevation, isActive, isActiveIn, places}
 use Rattle.table.specs.declared.Active.the-variants.{UserOf, ElevationIn}
 use Rattle.table.specs.declared.Process.{Process}
-use Rattle.claims.specs.Module.{closedSession, phaseOf, isChosen, unprovisioned, provisioned}
+use Rattle.claims.specs.Module.{closedSession, phaseOf, isChosen, unprovisioned, provisioned, sessionCount, credentialCount, lastHandle, lastCredential}
 use Rattle.claims.specs.declared.Grants.{Grants}
 use Rattle.claims.specs.declared.Phase.{Phase}
 use Rattle.claims.specs.declared.Phase.the-variants.{Closed, Opened, Chosen}
 use Rattle.claims.specs.declared.SessionState.{SessionState}
 use Rattle.claims.specs.declared.State.{State}
 
+-- ---- where the fields of a credential lie: each begins where the one before it ends. `src/lib.rt` has these names for the code
+abbrev pub flagAt : ℕ
+flagAt = 0
+
+abbrev pub wordAt : ℕ
+wordAt = flagAt + 1
+
+abbrev pub credentialSize : ℕ
+credentialSize = wordAt + 4
+
+-- ---- of a place
+abbrev pub ownerAt : ℕ
+ownerAt = 0
+
+abbrev pub kindAt : ℕ
+kindAt = ownerAt + 1
+
+abbrev pub sessionAt : ℕ
+sessionAt = kindAt + 1
+
+abbrev pub nextAt : ℕ
+nextAt = sessionAt + 1
+
+abbrev pub nameAt : ℕ
+nameAt = nextAt + 2
+
+abbrev pub placeSize : ℕ
+placeSize = nameAt + nameLength
+
+-- ---- and the parts of the whole
+abbrev pub sessionsAt : ℕ
+sessionsAt = 0
+
+abbrev pub sessionSize : ℕ
+sessionSize = 1
+
+abbrev pub credentialsAt : ℕ
+credentialsAt = sessionsAt + sessionCount * sessionSize
+
+abbrev pub countAt : ℕ
+countAt = credentialsAt + credentialCount * credentialSize
+
+abbrev pub placesAt : ℕ
+placesAt = countAt + 1
+
 abbrev pub stateLength : ℕ
-stateLength = 681
+stateLength = placesAt + places * placeSize
 
--- a number in one byte. One that a byte does not hold is written as 255, which is out of every field's range: so it stands for no other
-unfoldable pub byteOf : ℕ → ℕ
-byteOf n = cond (ltb n 256) n 255
+-- ---- a session: "Each is closed, or open without a version, or open with version 1.0."
+abbrev pub phaseByte : Phase → ℕ
+phaseByte Closed = 0
+phaseByte Opened = 1
+phaseByte Chosen = 2
 
--- ---- a session, 1 byte: "Each is closed, or open without a version, or open with version 1.0."
-abbrev pub phaseNumber : Phase → ℕ
-phaseNumber Closed = 0
-phaseNumber Opened = 1
-phaseNumber Chosen = 2
-
--- and back; a number over 2 is no phase's, and `sessionFits` refuses it
-abbrev pub phaseNumbered : ℕ → Phase
-phaseNumbered zero = Closed
-phaseNumbered (suc zero) = Opened
-phaseNumbered (suc (suc zero)) = Chosen
-phaseNumbered (suc (suc (suc n))) = Closed
+-- and back; a byte over 2 is no phase's, and `sessionFits` refuses it
+abbrev pub phaseFrom : ℕ → Phase
+phaseFrom zero = Closed
+phaseFrom (suc zero) = Opened
+phaseFrom (suc (suc zero)) = Chosen
+phaseFrom (suc (suc (suc n))) = Closed
 
 unfoldable pub sessionBytes : SessionState → List ℕ
-sessionBytes s = phaseNumber (s .phase) ∷ []
+sessionBytes s = phaseByte (s .phase) ∷ []
 
-unfoldable pub sessionOf : List ℕ → SessionState
-sessionOf row = record { phase = phaseNumbered (getD row 0 0) }
+unfoldable pub sessionFrom : List ℕ → SessionState
+sessionFrom row = record { phase = phaseFrom (getD row 0 0) }
 
 unfoldable pub sessionFits : List ℕ → Bool
 sessionFits row = leb (getD row 0 0) 2
 
--- ---- a credential, 5 bytes: "Each is provisioned or not, and has a grant word of 32 bits". A flag, and the word, little endian
+-- ---- a credential: "Each is provisioned or not, and has a grant word of 32 bits". A flag, and the word, little endian
 abbrev pub flagNumber : Bool → ℕ
 flagNumber true = 1
 flagNumber false = 0
@@ -58,27 +99,38 @@ flagNumber false = 0
 unfoldable pub grantsBytes : Grants → List ℕ
 grantsBytes g = flagNumber (g .provisioned) ∷ bytesOf 4 (g .word)
 
-unfoldable pub grantsOf : List ℕ → Grants
-grantsOf row = record { provisioned = eqb (getD row 0 0) 1; word = number (take 4 (drop 1 row)) }
+unfoldable pub grantsFrom : List ℕ → Grants
+grantsFrom row = record { provisioned = eqb (getD row flagAt 0) 1; word = numberAt 4 wordAt row }
 
 -- "a field kept zero isn't zero (an unprovisioned credential's word too)"
 unfoldable pub grantsFit : List ℕ → Bool
-grantsFit row = leb (getD row 0 0) 1 && (eqb (getD row 0 0) 1 || every isZero (drop 1 row))
+grantsFit row = leb (getD row flagAt 0) 1 && (eqb (getD row flagAt 0) 1 || every isZero (drop wordAt row))
 
--- ---- a place, 53 bytes: "Each has a credential, a type .., the session when active, a next number, and a name of 48 bytes". The next number is
+-- ---- a place: "Each has a credential, a type .., the session when active, a next number, and a name of 48 bytes". The next number is
 -- little endian
+abbrev pub kindByte : Kind → ℕ
+kindByte User = 0
+kindByte Elevation = 1
+kindByte Saved = 2
+
+-- and back; a byte over 2 is no kind's, and `processFits` refuses it
+abbrev pub kindFrom : ℕ → Kind
+kindFrom zero = User
+kindFrom (suc zero) = Elevation
+kindFrom (suc (suc n)) = Saved
+
 unfoldable pub processBytes : Process → List ℕ
 processBytes p =
-    byteOf (p .credential .0) ∷ typeNumber (p .kind) ∷ p .session .0 ∷ (bytesOf 2 (p .next) ++ p .name .bytes)
+    byteOf (p .credential .0) ∷ kindByte (p .kind) ∷ p .session .0 ∷ (bytesOf 2 (p .next) ++ p .name .bytes)
 
-unfoldable pub processOf : List ℕ → Process
-processOf row =
+unfoldable pub processFrom : List ℕ → Process
+processFrom row =
     record {
-      credential = record { 0 = getD row 0 0 };
-      kind = kindOf (getD row 1 0);
-      session = record { 0 = getD row 2 0 };
-      next = number (take 2 (drop 3 row));
-      name = record { bytes = drop 5 row };
+      credential = record { 0 = getD row ownerAt 0 };
+      kind = kindFrom (getD row kindAt 0);
+      session = record { 0 = getD row sessionAt 0 };
+      next = numberAt 2 nextAt row;
+      name = record { bytes = drop nameAt row };
     }
 
 -- "An elevation's next number, a saved process's session .. mean nothing and are kept zero."
@@ -89,17 +141,17 @@ keptZero Saved session next = eqb session 0
 
 unfoldable pub processFits : List ℕ → Bool
 processFits row =
-    leb (getD row 0 0) 7
-    && (leb (getD row 1 0) 2
-    && (leb (getD row 2 0) 3
-    && keptZero (kindOf (getD row 1 0)) (getD row 2 0) (number (take 2 (drop 3 row)))))
+    leb (getD row ownerAt 0) lastCredential
+    && (leb (getD row kindAt 0) 2
+    && (leb (getD row sessionAt 0) lastHandle
+    && keptZero (kindFrom (getD row kindAt 0)) (getD row sessionAt 0) (numberAt 2 nextAt row)))
 
 -- ---- the whole: where each part begins is where the one before it ends
 unfoldable pub countIn : List ℕ → ℕ
-countIn b = getD b 44 0
+countIn b = getD b countAt 0
 
 unfoldable pub placesIn : List ℕ → List Process
-placesIn b = map processOf (rows 12 53 (drop 45 b))
+placesIn b = map processFrom (rows places placeSize (drop placesAt b))
 
 unfoldable pub stateBytes : State → List ℕ
 stateBytes st =
@@ -109,14 +161,14 @@ stateBytes st =
 abbrev pub stateIn : List ℕ → State
 stateIn b =
     record {
-      sessions = map sessionOf (rows 4 1 b);
-      credentials = map grantsOf (rows 8 5 (drop 4 b));
+      sessions = map sessionFrom (rows sessionCount sessionSize b);
+      credentials = map grantsFrom (rows credentialCount credentialSize (drop credentialsAt b));
       table = record { places = placesIn b; count = countIn b };
     }
 
 -- what a slice of another length is read as: all sessions closed, no credential provisioned, no process
 abbrev pub nothingHeld : State
-nothingHeld = record { sessions = replicate 4 closedSession; credentials = replicate 8 unprovisioned; table = tableOf [] }
+nothingHeld = record { sessions = replicate sessionCount closedSession; credentials = replicate credentialCount unprovisioned; table = tableOf [] }
 
 unfoldable pub stateOf : List ℕ → State
 stateOf b = cond (eqb (length b) stateLength) (stateIn b) nothingHeld
@@ -137,19 +189,19 @@ withNext st at next =
       table = replaced (st .table) at (numbered (processAt (st .table) at) next);
     }
 
--- a slice after the next number of a place was written where it lies, 3 bytes into the place
+-- a slice after the next number of a place was written where it lies
 unfoldable pub nextWritten : List ℕ → ℕ → ℕ → List ℕ
-nextWritten b at next = cond (eqb (length b) stateLength && ltb at 12) (over (48 + at * 53) (bytesOf 2 next) b) b
+nextWritten b at next = cond (eqb (length b) stateLength && ltb at places) (over (placesAt + at * placeSize + nextAt) 2 (bytesOf 2 next) b) b
 
 -- ---- "A slice holds no state when its length is another, a field is out of its range, a field kept zero isn't zero"
 unfoldable pub shaped : List ℕ → Bool
 shaped b =
     eqb (length b) stateLength
-    && (every sessionFits (rows 4 1 b)
-    && (every grantsFit (rows 8 5 (drop 4 b))
-    && (leb (countIn b) 12
-    && (every processFits (rows (countIn b) 53 (drop 45 b))
-    && every isZero (drop (45 + countIn b * 53) b)))))
+    && (every sessionFits (rows sessionCount sessionSize b)
+    && (every grantsFit (rows credentialCount credentialSize (drop credentialsAt b))
+    && (leb (countIn b) places
+    && (every processFits (rows (countIn b) placeSize (drop placesAt b))
+    && every isZero (drop (placesAt + countIn b * placeSize) b)))))
 
 -- ---- "or demand 3's rules on places, names, owners and sessions are broken"
 

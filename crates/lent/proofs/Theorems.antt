@@ -10,9 +10,10 @@ use lib.Dec.{eqb}
 use lib.ListN.{length, getD, drop}
 use lib.Seq.{drop-at}
 use borrow.Author.Tests.{eqb-true, eqb-false}
-use Rattle.lists.specs.Bytes.{Bytes}
+use Rattle.rows.specs.Bytes.{Bytes}
 use Rattle.lists.specs.Each.{Each, each-nil, each-cons}
 use Rattle.lists.proofs.Tests.{split, and-right}
+use Rattle.lists.proofs.Each.{each-imp}
 use Rattle.names.specs.Names.{readName}
 use Rattle.names.specs.declared.Name.{Name}
 use Rattle.names.specs.declared.Row.{Row}
@@ -32,7 +33,6 @@ use Rattle.layout.specs.Layout.{stateLength, stateBytes, stateOf, holdsState}
 use Rattle.layout.proofs.Laws.{state-back, holds-written, holds-is, one-form}
 use Rattle.wire.specs.Wire.{rowsAmong, listedBytes}
 use Rattle.wire.proofs.Laws.{length-listing, rows-fit}
-use Rattle.wire.proofs.Laws as Wire
 use Rattle.state_record.specs.Entry.{isMade, entryNumber, entryBytes, Entry}
 use Rattle.host.specs.Fresh.{pairsOf, arePairs, canFresh, FreshEntry}
 use Rattle.host.specs.Messages.{entryResponse, entryLength, ListEntry}
@@ -103,12 +103,8 @@ module _ (w : Since) (b : List ℕ) (g : Goes w b) where
   goes-called false call n after fits e = subst (Goes w) (sym (e .bytes-are ∙ not-fine-bytes b call)) g
 
   -- a listing's length and message
-  rows-whole : (wanted : Wanted) → Wire.Each RowFits (rowsAmong wanted (processes st))
-  rows-whole wanted = rows-fit wanted (processes st) (by (g .is .formed .each))
-    where
-      by : {l : List Process} → Each FormedProcess l → Wire.Each (λ p. RowFits (rowOf p)) l
-      by each-nil = tt
-      by (each-cons f h) = (record { credential = omega (arith, f .credential); name = f .name }, by h)
+  rows-whole : (wanted : Wanted) → Each RowFits (rowsAmong wanted (processes st))
+  rows-whole wanted = rows-fit wanted (processes st) (each-imp (λ p f. record { credential = omega (arith, f .credential); name = f .name }) (g .is .formed .each))
 
   -- a list call writes no byte past the length that it answers
   later-in : (s : Session) (claim : Claim) (wanted : Wanted) (old : List ℕ) → drop (listed st s claim wanted (length old) .length) (listedBytes st s claim wanted old) ≡ drop (listed st s claim wanted (length old) .length) old

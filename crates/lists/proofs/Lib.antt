@@ -2,5 +2,4 @@ pub mod Tests
 pub mod Lists
 pub mod Loops
 pub mod Each
-pub mod Bytes
 pub mod Once

@@ -1,3 +1,2 @@
 pub mod Lists
-pub mod Bytes
 pub mod Each

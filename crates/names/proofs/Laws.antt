@@ -1,22 +1,24 @@
 -- What callers cite: `same` is equality of all 48 bytes, and a row that is read is the row that was written.
 -- Assumes nothing.
 use Prim.Native.Nat.{ℕ, zero, suc, _<_, _≤_}
-use mathlib.Core.Path.{_≡_, refl, ap}
+use mathlib.Core.Path.{_≡_, refl, sym, ap, _∙_}
 use mathlib.Core.Logic.{_↔_}
 use mathlib.Core.Bool.{true, false}
 use mathlib.Core.List.{List, [], _∷_}
 use native.Mathlib.Omega.{arith}
 use borrow.Author.Tests.{eqb-true, leb-true, eq-eqb, ne-eqb, le-leb}
 use lib.Dec.{eqb, leb}
-use lib.ListN.{length, getD}
-use Rattle.lists.specs.Bytes.{bytesOf, number, Bytes}
-use Rattle.lists.proofs.Bytes.{number-back, number-forth}
+use lib.ListN.{length, getD, length-drop}
+use Rattle.rows.specs.Bytes.{Bytes, bytesOf, numberAt}
+use Rattle.rows.proofs.Bytes.{number-in, number-forth, number-low}
+use Rattle.rows.proofs.Rows.{Codec}
 use Rattle.lists.proofs.Tests.{split, clash, and-left, and-right}
-use Rattle.names.specs.declared.Kind.{Kind}
-use Rattle.names.specs.declared.Kind.the-variants.{User, Elevation, Saved}
 use Rattle.names.specs.declared.Name.{Name}
 use Rattle.names.specs.declared.Row.{Row}
-use Rattle.names.specs.Names.{sameBytes, sameName, readName, nameIn, typeNumber, kindOf, rowBytes, rowIn, isRow, rowOf, readRow}
+use Rattle.names.specs.declared.RowRead.{RowRead}
+use Rattle.names.specs.declared.RowType.{RowType}
+use Rattle.names.specs.declared.RowType.the-variants.{ActiveUser, ActiveElevation, SavedUser}
+use Rattle.names.specs.Names.{sameBytes, sameName, readName, nameIn, typeNumber, typeNumbered, rowBytes, rowIn, isRow, rowFrom, readRow}
 
 -- ---- names
 same→eq : (a b : List ℕ) → sameBytes a b ≡ true → a ≡ b
@@ -68,20 +70,20 @@ unfolding nameIn
 name-not-in part name h = rw (ne-eqb (length part) 48 h)
 
 -- ---- rows
-pub kind-back : (k : Kind) → kindOf (typeNumber k) ≡ k
-kind-back User = refl
-kind-back Elevation = refl
-kind-back Saved = refl
+pub type-back : (k : RowType) → typeNumbered (typeNumber k) ≡ k
+type-back ActiveUser = refl
+type-back ActiveElevation = refl
+type-back SavedUser = refl
 
-pub type-back : (n : ℕ) → n ≤ 2 → typeNumber (kindOf n) ≡ n
-type-back zero h = refl
-type-back (suc zero) h = refl
-type-back (suc (suc n)) h = omega arith
+pub type-forth : (n : ℕ) → n ≤ 2 → typeNumber (typeNumbered n) ≡ n
+type-forth zero h = refl
+type-forth (suc zero) h = refl
+type-forth (suc (suc n)) h = omega arith
 
-type-low : (k : Kind) → typeNumber k ≤ 2
-type-low User = omega arith
-type-low Elevation = omega arith
-type-low Saved = omega arith
+type-low : (k : RowType) → typeNumber k ≤ 2
+type-low ActiveUser = omega arith
+type-low ActiveElevation = omega arith
+type-low SavedUser = omega arith
 
 -- what a row's fields hold: a credential of two bytes, a name of 48
 pub record RowFits (row : Row) : Type 0 where
@@ -96,8 +98,14 @@ length-row row h = omega arith
 pub row-back : (row : Row) → RowFits row → readRow (rowBytes row) ≡ record { fits = true; row = row }
 unfolding isRow readRow bytesOf
 row-back row v =
-    let c : number (bytesOf 2 (row .credential .0)) ≡ row .credential .0 = number-back 2 (row .credential .0) (v .credential) in
-    rw (eq-eqb (length (rowBytes row)) 51 (length-row row (v .name)), le-leb (typeNumber (row .kind)) 2 (type-low (row .kind)), kind-back (row .kind), c)
+    let c : numberAt 2 0 (rowBytes row) ≡ row .credential .0 = number-in 2 (row .credential .0) [] (typeNumber (row .kind) ∷ row .name .bytes) (v .credential) in
+    rw (eq-eqb (length (rowBytes row)) 51 (length-row row (v .name)), le-leb (typeNumber (row .kind)) 2 (type-low (row .kind)), type-back (row .kind), c)
+
+-- it is a row
+row-is : (row : Row) → RowFits row → isRow (rowBytes row) ≡ true
+unfolding readRow
+row-is row v =
+    split (isRow (rowBytes row)) (λ e. e) (λ e. clash (ap (λ (r : RowRead). r .fits) (row-back row v)) (rw e))
 
 -- what is a row is 51 bytes long, and its type is at most 2
 pub record RowShaped (part : List ℕ) : Type 0 where
@@ -113,24 +121,38 @@ row-shaped part e =
     }
 
 -- and so it is read
-pub row-read : (part : List ℕ) → isRow part ≡ true → readRow part ≡ record { fits = true; row = rowOf part }
+pub row-read : (part : List ℕ) → isRow part ≡ true → readRow part ≡ record { fits = true; row = rowFrom part }
 unfolding readRow
 row-read part e = rw e
 
 -- what is read writes to the bytes that were read: each row has one form
-pub row-forth : (part : List ℕ) → Bytes part → isRow part ≡ true → rowBytes (rowOf part) ≡ part
+pub row-forth : (part : List ℕ) → Bytes part → isRow part ≡ true → rowBytes (rowFrom part) ≡ part
+unfolding numberAt
 row-forth part b e = by part b (row-shaped part e .long) (row-shaped part e .typed)
   where
-    by : (part : List ℕ) → Bytes part → length part ≡ 51 → getD part 2 0 ≤ 2 → rowBytes (rowOf part) ≡ part
+    by : (part : List ℕ) → Bytes part → length part ≡ 51 → getD part 2 0 ≤ 2 → rowBytes (rowFrom part) ≡ part
     by [] b h k = absurd (omega arith)
     by (x ∷ []) b h k = absurd (omega arith)
     by (x ∷ y ∷ []) b h k = absurd (omega arith)
-    by (x ∷ y ∷ z ∷ rest) b h k = rw (number-forth (x ∷ y ∷ []) two, type-back z k)
+    by (x ∷ y ∷ z ∷ rest) b h k = rw (number-forth (x ∷ y ∷ []) two, type-forth z k)
       where
         two : Bytes (x ∷ y ∷ [])
         two zero = b 0
         two (suc zero) = b 1
         two (suc (suc i)) = omega arith
+
+-- rows, one after another
+pub row-codec : Codec 51 rowBytes rowFrom isRow RowFits RowFits
+row-codec =
+    record {
+      wide = λ row v. v;
+      long = λ row v. length-row row (v .name);
+      only = λ row v e. v;
+      back = λ row v. ap (λ (r : RowRead). r .row) (sym (row-read (rowBytes row) (row-is row v)) ∙ row-back row v);
+      fits = row-is;
+      forth = λ part h b e. row-forth part b e;
+      good = λ part h b e. record { credential = number-low 2 0 part b; name = simp length-drop (omega arith) };
+    }
 
 pub row-in : (part : List ℕ) (row : Row) → length part ≡ 51 → rowIn part row ≡ rowBytes row
 unfolding rowIn

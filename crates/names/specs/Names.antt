@@ -4,7 +4,7 @@ use mathlib.Core.Bool.{Bool, true, false, cond, _&&_}
 use mathlib.Core.List.{List, [], _∷_, _++_}
 use lib.Dec.{eqb, leb}
 use lib.ListN.{length, getD, drop, replicate}
-use Rattle.lists.specs.Bytes.{bytesOf, number}
+use Rattle.rows.specs.Bytes.{bytesOf, numberAt}
 use Rattle.names.specs.declared.Credential.{Credential}
 use Rattle.names.specs.declared.Kind.{Kind}
 use Rattle.names.specs.declared.Kind.the-variants.{User, Elevation, Saved}
@@ -12,8 +12,12 @@ use Rattle.names.specs.declared.Name.{Name}
 use Rattle.names.specs.declared.NameRead.{NameRead}
 use Rattle.names.specs.declared.Row.{Row}
 use Rattle.names.specs.declared.RowRead.{RowRead}
+use Rattle.names.specs.declared.RowType.{RowType}
+use Rattle.names.specs.declared.RowType.the-variants.{ActiveUser, ActiveElevation, SavedUser}
 
 -- ---- names: "Two names are equal when all 48 bytes are."
+abbrev pub nameLength : ℕ
+nameLength = 48
 
 -- each byte equals its partner, and neither list goes on alone
 unfoldable pub sameBytes : List ℕ → List ℕ → Bool
@@ -41,16 +45,22 @@ unfoldable pub nameIn : List ℕ → Name → List ℕ
 nameIn part name = cond (eqb (length part) 48) (name .bytes) part
 
 -- ---- types: "0 active user, 1 active elevation, 2 saved user; 004 Table 46"
-abbrev pub typeNumber : Kind → ℕ
-typeNumber User = 0
-typeNumber Elevation = 1
-typeNumber Saved = 2
+abbrev pub typeNumber : RowType → ℕ
+typeNumber ActiveUser = 0
+typeNumber ActiveElevation = 1
+typeNumber SavedUser = 2
 
 -- and back; a number over 2 is no type's, and `isRow` refuses it before
-abbrev pub kindOf : ℕ → Kind
-kindOf zero = User
-kindOf (suc zero) = Elevation
-kindOf (suc (suc n)) = Saved
+abbrev pub typeNumbered : ℕ → RowType
+typeNumbered zero = ActiveUser
+typeNumbered (suc zero) = ActiveElevation
+typeNumbered (suc (suc n)) = SavedUser
+
+-- the type of the row of a process, by what the process is
+abbrev pub typeOf : Kind → RowType
+typeOf User = ActiveUser
+typeOf Elevation = ActiveElevation
+typeOf Saved = SavedUser
 
 -- ---- rows: "rows of 51 bytes: credential 2, type 1, name 48"; "Two-byte numbers are little endian."
 abbrev pub rowBytes : Row → List ℕ
@@ -64,16 +74,16 @@ rowIn part row = cond (eqb (length part) 51) (rowBytes row) part
 unfoldable pub isRow : List ℕ → Bool
 isRow part = eqb (length part) 51 && leb (getD part 2 0) 2
 
-abbrev pub rowOf : List ℕ → Row
-rowOf part =
+abbrev pub rowFrom : List ℕ → Row
+rowFrom part =
     record {
-      credential = record { 0 = number (getD part 0 0 ∷ getD part 1 0 ∷ []) };
-      kind = kindOf (getD part 2 0);
+      credential = record { 0 = numberAt 2 0 part };
+      kind = typeNumbered (getD part 2 0);
       name = record { bytes = drop 3 part };
     }
 
 abbrev pub noRow : RowRead
-noRow = record { fits = false; row = record { credential = record { 0 = 0 }; kind = User; name = zeroName } }
+noRow = record { fits = false; row = record { credential = record { 0 = 0 }; kind = ActiveUser; name = zeroName } }
 
 unfoldable pub readRow : List ℕ → RowRead
-readRow part = cond (isRow part) (record { fits = true; row = rowOf part }) noRow
+readRow part = cond (isRow part) (record { fits = true; row = rowFrom part }) noRow

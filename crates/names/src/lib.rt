@@ -1,28 +1,35 @@
 // What things are called, and the row that a listing has of a process: 51 bytes, written and read.
 ghost use mathlib.Core.Path.{_≡_};
-ghost use Rattle.lists.specs.Bytes.{number};
-ghost use mathlib.Core.List.{[], _∷_};
-ghost use Rattle.names.specs.Names.{sameName, readName, nameIn, typeNumber, kindOf, rowIn, isRow, noRow, readRow};
+ghost use Rattle.names.specs.Names.{sameName, readName, nameIn, typeOf, typeNumber, typeNumbered, rowIn, isRow, noRow, readRow};
 
 // A session handle. A credential cannot stand for it, nor it for a credential.
 pub struct Session(pub u8);
 
 pub struct Credential(pub u16);
 
-// The type of a process: 004 Table 46.
+// What a process is that stands in the table.
 pub enum Kind {
     User,
     Elevation,
     Saved,
 }
 
+// The type that a row has on the wire: 004 Table 46.
+pub enum RowType {
+    ActiveUser,
+    ActiveElevation,
+    SavedUser,
+}
+
+pub const NAME_LENGTH: usize = 48;
+
 pub struct Name {
-    pub bytes: [u8; 48],
+    pub bytes: [u8; NAME_LENGTH],
 }
 
 pub struct Row {
     pub credential: Credential,
-    pub kind: Kind,
+    pub kind: RowType,
     pub name: Name,
 }
 
@@ -45,7 +52,7 @@ pub fn same(a: Name, b: Name) -> bool
     let x = a.bytes;
     let y = b.bytes;
     let mut i: usize = 0;
-    while i < 48 {
+    while i < NAME_LENGTH {
         let one = x[i];
         let other = y[i];
         if one != other {
@@ -60,8 +67,8 @@ pub fn same(a: Name, b: Name) -> bool
 pub fn read_name(bytes: &[u8]) -> NameRead
     ensures { λ r. ⌜ r ≡ readName (now (bytes .entry)) ⌝ }
 {
-    let mut read = [0u8; 48];
-    if bytes.len() != 48 {
+    let mut read = [0u8; NAME_LENGTH];
+    if bytes.len() != NAME_LENGTH {
         return NameRead {
             fits: false,
             name: Name { bytes: read },
@@ -82,7 +89,7 @@ pub fn read_name(bytes: &[u8]) -> NameRead
 pub fn put_name(part: &mut [u8], name: Name)
     ensures { λ r. ⌜ now (part .exit) ≡ nameIn (now (part .entry)) name ⌝ }
 {
-    if part.len() == 48 {
+    if part.len() == NAME_LENGTH {
         let bytes = name.bytes;
         let mut i: usize = 0;
         while i < part.len() {
@@ -92,35 +99,39 @@ pub fn put_name(part: &mut [u8], name: Name)
     }
 }
 
+// The type of the row of a process.
+pub fn type_of(kind: Kind) -> RowType
+    ensures { λ r. ⌜ r ≡ typeOf kind ⌝ }
+{
+    match kind {
+        Kind::User => RowType::ActiveUser,
+        Kind::Elevation => RowType::ActiveElevation,
+        Kind::Saved => RowType::SavedUser,
+    }
+}
+
 // The type's number.
-pub fn type_number(kind: Kind) -> u8
+pub fn type_number(kind: RowType) -> u8
     ensures { λ r. ⌜ r ≡ typeNumber kind ⌝ }
 {
     match kind {
-        Kind::User => 0,
-        Kind::Elevation => 1,
-        Kind::Saved => 2,
+        RowType::ActiveUser => 0,
+        RowType::ActiveElevation => 1,
+        RowType::SavedUser => 2,
     }
 }
 
 // The type of a number; a number over 2, which is no type's, is taken for 2.
-pub fn kind_of(number: u8) -> Kind
-    ensures { λ r. ⌜ r ≡ kindOf number ⌝ }
+pub fn type_numbered(number: u8) -> RowType
+    ensures { λ r. ⌜ r ≡ typeNumbered number ⌝ }
 {
     if number == 0 {
-        return Kind::User;
+        return RowType::ActiveUser;
     }
     if number == 1 {
-        return Kind::Elevation;
+        return RowType::ActiveElevation;
     }
-    Kind::Saved
-}
-
-// The number that two bytes say.
-pub fn number16(low: u8, high: u8) -> u16
-    ensures { λ r. ⌜ r ≡ number (low ∷ high ∷ []) ⌝ }
-{
-    (high as u16) * 256 + (low as u16)
+    RowType::SavedUser
 }
 
 // The row, in a part of 51 bytes. A part of another length stays.
@@ -130,8 +141,7 @@ pub fn put_row(part: &mut [u8], row: Row)
     if part.len() == 51 {
         let credential = row.credential.0;
         let kind = row.kind;
-        part[0] = (credential % 256) as u8;
-        part[1] = (credential / 256 % 256) as u8;
+        rows::put_number16(part, 0, credential);
         part[2] = type_number(kind);
         put_name(&mut part[3..51], row.name);
     }
@@ -144,14 +154,16 @@ fn no_row() -> RowRead
         fits: false,
         row: Row {
             credential: Credential(0),
-            kind: Kind::User,
-            name: Name { bytes: [0; 48] },
+            kind: RowType::ActiveUser,
+            name: Name {
+                bytes: [0; NAME_LENGTH],
+            },
         },
     }
 }
 
 // Whether a slice is a row's: 51 bytes, with a type of at most 2.
-fn is_row(part: &[u8]) -> bool
+pub fn is_row(part: &[u8]) -> bool
     ensures { λ r. ⌜ r ≡ isRow (now (part .entry)) ⌝ }
 {
     part.len() == 51 && part[2] <= 2
@@ -164,16 +176,15 @@ pub fn read_row(part: &[u8]) -> RowRead
     if !is_row(part) {
         return no_row();
     }
-    let low = part[0];
-    let high = part[1];
+    let credential = rows::number16(part, 0);
     let number = part[2];
     let read = read_name(&part[3..51]);
     let name = read.name;
     RowRead {
         fits: true,
         row: Row {
-            credential: Credential(number16(low, high)),
-            kind: kind_of(number),
+            credential: Credential(credential),
+            kind: type_numbered(number),
             name: name,
         },
     }

@@ -11,16 +11,16 @@ use borrow.Author.Tests.{eq-eqb, ne-eqb}
 use lib.Dec.{eqb}
 use lib.ListN.{length, take, drop, getD, replicate, List·getD-eq-default, length-map}
 use lib.Seq.{getD-take, getD-drop}
-use Rattle.lists.specs.Bytes.{number}
+use Rattle.rows.specs.Bytes.{numberAt, Widened}
 use Rattle.lists.specs.Lists.{firstIndex}
 use Rattle.lists.proofs.Lists.{length-mapped}
-use Rattle.codec.specs.Codec.{rows, Widened}
-use Rattle.codec.proofs.Codec.{rows-length}
-use Rattle.codec.proofs.Loops.{map-part}
-use Rattle.names.specs.Names.{kindOf}
+use Rattle.rows.specs.Rows.{rows}
+use Rattle.rows.proofs.Bytes.{number-part}
+use Rattle.rows.proofs.Rows.{rows-length}
+use Rattle.rows.proofs.Loops.{map-part}
 use Rattle.names.specs.declared.Credential.{Credential}
 use Rattle.names.specs.declared.Session.{Session}
-use Rattle.table.specs.Table.{standing, freePlace, size, isUser, isElevation, isActive, firstPlace, processAt}
+use Rattle.table.specs.Table.{standing, freePlace, size, isUser, isElevation, isActive, firstPlace, processAt, places}
 use Rattle.table.specs.declared.Active.{Active}
 use Rattle.table.specs.declared.Active.the-variants.{UserOf, ElevationIn}
 use Rattle.table.specs.declared.Found.{Found}
@@ -29,16 +29,16 @@ use Rattle.table.specs.declared.Process.{Process}
 use Rattle.table.specs.declared.Table.{Table}
 use Rattle.table.proofs.Laws.{standing-of, size-few}
 use Rattle.table.proofs.Rules.{noProcess, size-part, size-all, Searching, begin, on, hit, none, process-got, process-none}
-use Rattle.claims.specs.Module.{closedSession, phaseOf, unprovisioned, provisioned, wordOf}
+use Rattle.claims.specs.Module.{closedSession, phaseOf, unprovisioned, provisioned, wordOf, sessionCount, credentialCount}
 use Rattle.claims.specs.Claim.{processFound}
 use Rattle.claims.specs.declared.Grants.{Grants}
 use Rattle.claims.specs.declared.Phase.{Phase}
 use Rattle.claims.specs.declared.Phase.the-variants.{Closed}
 use Rattle.claims.specs.declared.SessionState.{SessionState}
 use Rattle.claims.proofs.Laws.{view-of}
-use Rattle.layout.specs.Layout.{phaseNumbered, sessionOf, grantsOf, processOf, countIn, placesIn, stateOf}
+use Rattle.layout.specs.Layout.{kindAt, sessionAt, wordAt, credentialSize, nextAt, placeSize, sessionsAt, sessionSize, credentialsAt, countAt, placesAt, stateLength, phaseFrom, sessionFrom, grantsFrom, processFrom, countIn, placesIn, stateOf, kindFrom}
 use Rattle.layout.proofs.Laws.{state-in, state-not-in}
-use Rattle.layout.proofs.Parts.{grants-part, place-part, word-in, next-in}
+use Rattle.layout.proofs.Parts.{grants-part, place-part}
 
 -- ---- sessions and credentials
 -- the same everywhere, and past the end
@@ -48,126 +48,117 @@ same-everywhere (suc n) zero x = refl
 same-everywhere (suc n) (suc i) x = same-everywhere n i x
 
 module _ (s : List ℕ) (session : Session) where
-  pub phase-short : (length s ≡ 681 → ⊥) → Closed ≡ phaseOf (stateOf s) session
+  pub phase-short : (length s ≡ stateLength → ⊥) → Closed ≡ phaseOf (stateOf s) session
   unfolding phaseOf
-  phase-short n = sym (rw (state-not-in s n) (ap (λ (x : SessionState). x .phase) (same-everywhere 4 (session .0) closedSession)))
+  phase-short n = sym (rw (state-not-in s n) (ap (λ (x : SessionState). x .phase) (same-everywhere sessionCount (session .0) closedSession)))
 
-  module _ (h : length s ≡ 681) where
-    pub phase-past : 4 ≤ session .0 → Closed ≡ phaseOf (stateOf s) session
+  module _ (h : length s ≡ stateLength) where
+    pub phase-past : sessionCount ≤ session .0 → Closed ≡ phaseOf (stateOf s) session
     unfolding phaseOf
     phase-past k =
-        let l : length (map sessionOf (rows 4 1 s)) ≡ 4 = length-map (rows 4 1 s) sessionOf ∙ rows-length 4 1 s in
-        let past : length (map sessionOf (rows 4 1 s)) ≤ session .0 = omega (arith, l) in
-        let e : getD (map sessionOf (rows 4 1 s)) (session .0) closedSession ≡ closedSession =
-        List·getD-eq-default (map sessionOf (rows 4 1 s)) closedSession past
+        let l : length (map sessionFrom (rows sessionCount sessionSize s)) ≡ sessionCount = length-map (rows sessionCount sessionSize s) sessionFrom ∙ rows-length sessionCount sessionSize s in
+        let past : length (map sessionFrom (rows sessionCount sessionSize s)) ≤ session .0 = omega (arith, l) in
+        let e : getD (map sessionFrom (rows sessionCount sessionSize s)) (session .0) closedSession ≡ closedSession =
+        List·getD-eq-default (map sessionFrom (rows sessionCount sessionSize s)) closedSession past
         in
         sym (rw (state-in s h) (ap (λ (x : SessionState). x .phase) e))
 
-    pub phase-read : session .0 < 4 → {p : Phase} → p ≡ phaseNumbered (getD s (session .0) 0) → p ≡ phaseOf (stateOf s) session
-    unfolding phaseOf sessionOf
+    pub phase-read : session .0 < sessionCount → {p : Phase} → p ≡ phaseFrom (getD s (session .0) 0) → p ≡ phaseOf (stateOf s) session
+    unfolding phaseOf sessionFrom
     phase-read k e =
         let t : ℕ = session .0 in
         let z : 0 < 0 + t * 1 + 1 - (0 + t * 1) = omega arith in
         let q : 0 + t * 1 ≡ t = omega arith in
-        let r : getD (map sessionOf (rows 4 1 s)) t closedSession .phase ≡ phaseNumbered (getD s t 0) =
-        rw (map-part sessionOf 4 1 0 s t closedSession k, getD-take (0 + t * 1 + 1 - (0 + t * 1)) (drop (0 + t * 1) s) 0 0 z, getD-drop (0 + t * 1) s 0 0, q, add-zero)
+        let r : getD (map sessionFrom (rows sessionCount sessionSize s)) t closedSession .phase ≡ phaseFrom (getD s t 0) =
+        rw (map-part sessionFrom sessionCount sessionSize sessionsAt s t closedSession k, getD-take (0 + t * 1 + 1 - (0 + t * 1)) (drop (0 + t * 1) s) 0 0 z, getD-drop (0 + t * 1) s 0 0, q, add-zero)
         in
         e ∙ sym (rw (state-in s h) r)
 
 module _ (s : List ℕ) (c : Credential) where
-  grants-short : (length s ≡ 681 → ⊥) → getD (stateOf s .credentials) (c .0) unprovisioned ≡ unprovisioned
-  grants-short n = rw (state-not-in s n) (same-everywhere 8 (c .0) unprovisioned)
+  grants-short : (length s ≡ stateLength → ⊥) → getD (stateOf s .credentials) (c .0) unprovisioned ≡ unprovisioned
+  grants-short n = rw (state-not-in s n) (same-everywhere credentialCount (c .0) unprovisioned)
 
-  pub provisioned-short : (length s ≡ 681 → ⊥) → false ≡ provisioned (stateOf s) c
+  pub provisioned-short : (length s ≡ stateLength → ⊥) → false ≡ provisioned (stateOf s) c
   unfolding provisioned
   provisioned-short n = ap (λ (g : Grants). g .provisioned) (sym (grants-short n))
 
-  pub word-short : (length s ≡ 681 → ⊥) → 0 ≡ wordOf (stateOf s) c
+  pub word-short : (length s ≡ stateLength → ⊥) → 0 ≡ wordOf (stateOf s) c
   unfolding wordOf
   word-short n = ap (λ (g : Grants). g .word) (sym (grants-short n))
 
-  module _ (h : length s ≡ 681) where
-    grants-past : 8 ≤ c .0 → getD (stateOf s .credentials) (c .0) unprovisioned ≡ unprovisioned
+  module _ (h : length s ≡ stateLength) where
+    grants-past : credentialCount ≤ c .0 → getD (stateOf s .credentials) (c .0) unprovisioned ≡ unprovisioned
     grants-past k =
-        let l : length (map grantsOf (rows 8 5 (drop 4 s))) ≡ 8 = length-map (rows 8 5 (drop 4 s)) grantsOf ∙ rows-length 8 5 (drop 4 s) in
-        let past : length (map grantsOf (rows 8 5 (drop 4 s))) ≤ c .0 = omega (arith, l) in
-        rw (state-in s h) (List·getD-eq-default (map grantsOf (rows 8 5 (drop 4 s))) unprovisioned past)
+        let l : length (map grantsFrom (rows credentialCount credentialSize (drop credentialsAt s))) ≡ credentialCount = length-map (rows credentialCount credentialSize (drop credentialsAt s)) grantsFrom ∙ rows-length credentialCount credentialSize (drop credentialsAt s) in
+        let past : length (map grantsFrom (rows credentialCount credentialSize (drop credentialsAt s))) ≤ c .0 = omega (arith, l) in
+        rw (state-in s h) (List·getD-eq-default (map grantsFrom (rows credentialCount credentialSize (drop credentialsAt s))) unprovisioned past)
 
-    pub provisioned-past : 8 ≤ c .0 → false ≡ provisioned (stateOf s) c
+    pub provisioned-past : credentialCount ≤ c .0 → false ≡ provisioned (stateOf s) c
     unfolding provisioned
     provisioned-past k = ap (λ (g : Grants). g .provisioned) (sym (grants-past k))
 
-    pub word-past : 8 ≤ c .0 → 0 ≡ wordOf (stateOf s) c
+    pub word-past : credentialCount ≤ c .0 → 0 ≡ wordOf (stateOf s) c
     unfolding wordOf
     word-past k = ap (λ (g : Grants). g .word) (sym (grants-past k))
 
-    module _ (k : c .0 < 8) where
+    module _ (k : c .0 < credentialCount) where
       abbrev grants-row : List ℕ
-      grants-row = take (4 + c .0 * 5 + 5 - (4 + c .0 * 5)) (drop (4 + c .0 * 5) s)
+      grants-row = take (credentialsAt + c .0 * credentialSize + credentialSize - (credentialsAt + c .0 * credentialSize)) (drop (credentialsAt + c .0 * credentialSize) s)
 
-      grants-at : getD (stateOf s .credentials) (c .0) unprovisioned ≡ grantsOf grants-row
-      grants-at = rw (state-in s h) (map-part grantsOf 8 5 4 s (c .0) unprovisioned k)
+      grants-at : getD (stateOf s .credentials) (c .0) unprovisioned ≡ grantsFrom grants-row
+      grants-at = rw (state-in s h) (map-part grantsFrom credentialCount credentialSize credentialsAt s (c .0) unprovisioned k)
 
-      grants-byte : (j : ℕ) → j < 5 → getD grants-row j 0 ≡ getD s (4 + c .0 * 5 + j) 0
+      grants-byte : (j : ℕ) → j < credentialSize → getD grants-row j 0 ≡ getD s (credentialsAt + c .0 * credentialSize + j) 0
       grants-byte j l =
-          let u : j < 4 + c .0 * 5 + 5 - (4 + c .0 * 5) = omega arith in
-          getD-take (4 + c .0 * 5 + 5 - (4 + c .0 * 5)) (drop (4 + c .0 * 5) s) j 0 u ∙ getD-drop (4 + c .0 * 5) s j 0
+          let u : j < credentialsAt + c .0 * credentialSize + credentialSize - (credentialsAt + c .0 * credentialSize) = omega arith in
+          getD-take (credentialsAt + c .0 * credentialSize + credentialSize - (credentialsAt + c .0 * credentialSize)) (drop (credentialsAt + c .0 * credentialSize) s) j 0 u ∙ getD-drop (credentialsAt + c .0 * credentialSize) s j 0
 
-      pub provisioned-read : eqb (getD s (4 + c .0 * 5) 0) 1 ≡ provisioned (stateOf s) c
-      unfolding provisioned grantsOf
+      pub provisioned-read : eqb (getD s (credentialsAt + c .0 * credentialSize) 0) 1 ≡ provisioned (stateOf s) c
+      unfolding provisioned grantsFrom
       provisioned-read =
-          let first : getD grants-row 0 0 ≡ getD s (4 + c .0 * 5) 0 = rw add-zero at (grants-byte 0 (omega arith)) in
+          let first : getD grants-row 0 0 ≡ getD s (credentialsAt + c .0 * credentialSize) 0 = rw add-zero at (grants-byte 0 (omega arith)) in
           rw (← first) (ap (λ (g : Grants). g .provisioned) (sym grants-at))
 
-      pub word-read : {r : ℕ}
-          → r ≡ number (getD s (5 + c .0 * 5) 0 ∷ getD s (5 + c .0 * 5 + 1) 0 ∷ getD s (5 + c .0 * 5 + 2) 0 ∷ getD s (5 + c .0 * 5 + 3) 0 ∷ [])
-          → r ≡ wordOf (stateOf s) c
-      unfolding wordOf grantsOf
+      pub word-read : {r : ℕ} → r ≡ numberAt 4 (credentialsAt + c .0 * credentialSize + wordAt) s → r ≡ wordOf (stateOf s) c
+      unfolding wordOf grantsFrom
       word-read q =
-          let t : ℕ = c .0 in
-          let one : 4 + t * 5 + 1 ≡ 5 + t * 5 = omega arith in
-          let two : 4 + t * 5 + 2 ≡ 5 + t * 5 + 1 = omega arith in
-          let three : 4 + t * 5 + 3 ≡ 5 + t * 5 + 2 = omega arith in
-          let four : 4 + t * 5 + 4 ≡ 5 + t * 5 + 3 = omega arith in
-          let word : number (take 4 (drop 1 grants-row)) ≡ number (getD s (5 + t * 5) 0 ∷ getD s (5 + t * 5 + 1) 0 ∷ getD s (5 + t * 5 + 2) 0 ∷ getD s (5 + t * 5 + 3) 0 ∷ []) =
-          word-in grants-row (grants-part s t h k)
-          ∙ rw (grants-byte 1 (omega arith), grants-byte 2 (omega arith), grants-byte 3 (omega arith), grants-byte 4 (omega arith), one, two, three, four)
-          in
+          let in-row : 1 + sessionCount ≤ credentialsAt + c .0 * credentialSize + credentialSize - (credentialsAt + c .0 * credentialSize) = omega arith in
+          let word : numberAt 4 wordAt grants-row ≡ numberAt 4 (credentialsAt + c .0 * credentialSize + wordAt) s = number-part 4 wordAt (credentialsAt + c .0 * credentialSize + credentialSize - (credentialsAt + c .0 * credentialSize)) (credentialsAt + c .0 * credentialSize) s in-row in
           q ∙ sym word ∙ ap (λ (g : Grants). g .word) (sym grants-at)
 
 -- ---- a place
-not-user : (k : ℕ) → (k ≡ 0 → ⊥) → isUser (kindOf k) ≡ false
+not-user : (k : ℕ) → (k ≡ 0 → ⊥) → isUser (kindFrom k) ≡ false
 not-user zero n = absurd (n refl)
 not-user (suc zero) n = refl
 not-user (suc (suc k)) n = refl
 
-not-elevation : (k : ℕ) → (k ≡ 1 → ⊥) → isElevation (kindOf k) ≡ false
+not-elevation : (k : ℕ) → (k ≡ 1 → ⊥) → isElevation (kindFrom k) ≡ false
 not-elevation zero n = refl
 not-elevation (suc zero) n = absurd (n refl)
 not-elevation (suc (suc k)) n = refl
 
 module _ (x : List ℕ) {which : Active} where
   module _ {s : Session} {c : Credential} (w : which ≡ UserOf s c) where
-    pub active-no-user : (getD x 1 0 ≡ 0 → ⊥) → false ≡ isActive which (processOf x)
-    unfolding isActive processOf
-    active-no-user n = rw (w, not-user (getD x 1 0) n)
+    pub active-no-user : (getD x kindAt 0 ≡ 0 → ⊥) → false ≡ isActive which (processFrom x)
+    unfolding isActive processFrom
+    active-no-user n = rw (w, not-user (getD x kindAt 0) n)
 
-    module _ (k : getD x 1 0 ≡ 0) where
-      pub active-elsewhere : (getD x 2 0 ≡ s .0 → ⊥) → false ≡ isActive which (processOf x)
-      unfolding isActive processOf
-      active-elsewhere n = rw (w, k, ne-eqb (getD x 2 0) (s .0) n)
+    module _ (k : getD x kindAt 0 ≡ 0) where
+      pub active-elsewhere : (getD x sessionAt 0 ≡ s .0 → ⊥) → false ≡ isActive which (processFrom x)
+      unfolding isActive processFrom
+      active-elsewhere n = rw (w, k, ne-eqb (getD x sessionAt 0) (s .0) n)
 
-      pub active-user : {r : ℕ} → getD x 2 0 ≡ s .0 → Widened (getD x 0 0) r → eqb r (c .0) ≡ isActive which (processOf x)
-      unfolding isActive processOf
-      active-user e v = rw (w, k, eq-eqb (getD x 2 0) (s .0) e, v .is)
+      pub active-user : {r : ℕ} → getD x sessionAt 0 ≡ s .0 → Widened (getD x 0 0) r → eqb r (c .0) ≡ isActive which (processFrom x)
+      unfolding isActive processFrom
+      active-user e v = rw (w, k, eq-eqb (getD x sessionAt 0) (s .0) e, v .is)
 
   module _ {s : Session} (w : which ≡ ElevationIn s) where
-    pub active-no-elevation : (getD x 1 0 ≡ 1 → ⊥) → false ≡ isActive which (processOf x)
-    unfolding isActive processOf
-    active-no-elevation n = rw (w, not-elevation (getD x 1 0) n)
+    pub active-no-elevation : (getD x kindAt 0 ≡ 1 → ⊥) → false ≡ isActive which (processFrom x)
+    unfolding isActive processFrom
+    active-no-elevation n = rw (w, not-elevation (getD x kindAt 0) n)
 
-    pub active-elevation : getD x 1 0 ≡ 1 → eqb (getD x 2 0) (s .0) ≡ isActive which (processOf x)
-    unfolding isActive processOf
+    pub active-elevation : getD x kindAt 0 ≡ 1 → eqb (getD x sessionAt 0) (s .0) ≡ isActive which (processFrom x)
+    unfolding isActive processFrom
     active-elevation k = rw (w, k)
 
 -- ---- the places
@@ -175,54 +166,54 @@ abbrev noOwner : Credential
 noOwner = record { 0 = 0 }
 
 module _ (s : List ℕ) where
-  nothing-stands : (length s ≡ 681 → ⊥) → standing (stateOf s .table) ≡ []
+  nothing-stands : (length s ≡ stateLength → ⊥) → standing (stateOf s .table) ≡ []
   nothing-stands n = rw (state-not-in s n) (standing-of [])
 
-  pub find-short : (f : Process → Bool) → (length s ≡ 681 → ⊥) → Nothing ≡ firstPlace f (standing (stateOf s .table))
+  pub find-short : (f : Process → Bool) → (length s ≡ stateLength → ⊥) → Nothing ≡ firstPlace f (standing (stateOf s .table))
   unfolding firstPlace firstIndex
   find-short f n = rw (nothing-stands n)
 
-  process-short : (at : ℕ) → (length s ≡ 681 → ⊥) → processAt (stateOf s .table) at ≡ freePlace
+  process-short : (at : ℕ) → (length s ≡ stateLength → ⊥) → processAt (stateOf s .table) at ≡ freePlace
   unfolding processAt
   process-short at n = rw (nothing-stands n)
 
-  pub next-short : (at : ℕ) → (length s ≡ 681 → ⊥) → 0 ≡ processAt (stateOf s .table) at .next
+  pub next-short : (at : ℕ) → (length s ≡ stateLength → ⊥) → 0 ≡ processAt (stateOf s .table) at .next
   next-short at n = ap (λ (p : Process). p .next) (sym (process-short at n))
 
-  pub owner-short : (at : ℕ) → (length s ≡ 681 → ⊥) → noOwner ≡ processAt (stateOf s .table) at .credential
+  pub owner-short : (at : ℕ) → (length s ≡ stateLength → ⊥) → noOwner ≡ processAt (stateOf s .table) at .credential
   owner-short at n = ap (λ (p : Process). p .credential) (sym (process-short at n))
 
-  module _ (h : length s ≡ 681) where
-    places-12 : length (stateOf s .table .places) ≡ 12
+  module _ (h : length s ≡ stateLength) where
+    places-long : length (stateOf s .table .places) ≡ places
     unfolding placesIn
-    places-12 = rw (state-in s h) (length-map (rows 12 53 (drop 45 s)) processOf ∙ rows-length 12 53 (drop 45 s))
+    places-long = rw (state-in s h) (length-map (rows places placeSize (drop placesAt s)) processFrom ∙ rows-length places placeSize (drop placesAt s))
 
-    count-read : {c : ℕ} → Widened (getD s 44 0) c → stateOf s .table .count ≡ c
+    count-read : {c : ℕ} → Widened (getD s countAt 0) c → stateOf s .table .count ≡ c
     unfolding countIn
     count-read w = rw (state-in s h) (sym (w .is))
 
-    pub size-some : {c : ℕ} → Widened (getD s 44 0) c → c < 12 → c ≡ size (stateOf s .table)
-    size-some w k = sym (count-read w) ∙ size-part (stateOf s .table) places-12 (rw (count-read w) k)
+    pub size-some : {c : ℕ} → Widened (getD s countAt 0) c → c < places → c ≡ size (stateOf s .table)
+    size-some w k = sym (count-read w) ∙ size-part (stateOf s .table) places-long (rw (count-read w) k)
 
-    pub size-every : {c : ℕ} → Widened (getD s 44 0) c → 12 ≤ c → 12 ≡ size (stateOf s .table)
-    size-every w k = size-all (stateOf s .table) places-12 (rw (count-read w) k)
+    pub size-every : {c : ℕ} → Widened (getD s countAt 0) c → places ≤ c → places ≡ size (stateOf s .table)
+    size-every w k = size-all (stateOf s .table) places-long (rw (count-read w) k)
 
     abbrev place : ℕ → List ℕ
-    place i = take (45 + i * 53 + 53 - (45 + i * 53)) (drop (45 + i * 53) s)
+    place i = take (placesAt + i * placeSize + placeSize - (placesAt + i * placeSize)) (drop (placesAt + i * placeSize) s)
 
-    place-byte : (i j : ℕ) → j < 53 → getD (place i) j 0 ≡ getD s (45 + i * 53 + j) 0
+    place-byte : (i j : ℕ) → j < placeSize → getD (place i) j 0 ≡ getD s (placesAt + i * placeSize + j) 0
     place-byte i j t =
-        let u : j < 45 + i * 53 + 53 - (45 + i * 53) = omega arith in
-        getD-take (45 + i * 53 + 53 - (45 + i * 53)) (drop (45 + i * 53) s) j 0 u ∙ getD-drop (45 + i * 53) s j 0
+        let u : j < placesAt + i * placeSize + placeSize - (placesAt + i * placeSize) = omega arith in
+        getD-take (placesAt + i * placeSize + placeSize - (placesAt + i * placeSize)) (drop (placesAt + i * placeSize) s) j 0 u ∙ getD-drop (placesAt + i * placeSize) s j 0
 
-    place-at : (i : ℕ) → i < 12 → getD (stateOf s .table .places) i noProcess ≡ processOf (take (45 + i * 53 + 53 - (45 + i * 53)) (drop (45 + i * 53) s))
+    place-at : (i : ℕ) → i < places → getD (stateOf s .table .places) i noProcess ≡ processFrom (take (placesAt + i * placeSize + placeSize - (placesAt + i * placeSize)) (drop (placesAt + i * placeSize) s))
     unfolding placesIn
-    place-at i k = rw (state-in s h) (map-part processOf 12 53 45 s i noProcess k)
+    place-at i k = rw (state-in s h) (map-part processFrom places placeSize placesAt s i noProcess k)
 
     pub find-begin : {f : Process → Bool} {n : ℕ} → n ≡ size (stateOf s .table) → Searching f (stateOf s .table .places) n 0
-    find-begin {f} e = begin f (stateOf s .table) e places-12
+    find-begin {f} e = begin f (stateOf s .table) e places-long
 
-    module _ {f : Process → Bool} {n i : ℕ} {b : Bool} (v : Searching f (stateOf s .table .places) n i) (k : i < n) (e : b ≡ f (processOf (take (45 + i * 53 + 53 - (45 + i * 53)) (drop (45 + i * 53) s)))) where
+    module _ {f : Process → Bool} {n i : ℕ} {b : Bool} (v : Searching f (stateOf s .table .places) n i) (k : i < n) (e : b ≡ f (processFrom (take (placesAt + i * placeSize + placeSize - (placesAt + i * placeSize)) (drop (placesAt + i * placeSize) s)))) where
       tested : b ≡ f (getD (stateOf s .table .places) i noProcess)
       tested = e ∙ ap f (sym (place-at i (omega (arith, v .small))))
 
@@ -235,13 +226,13 @@ module _ (s : List ℕ) where
     pub find-none : {f : Process → Bool} {n i : ℕ} → n ≡ size (stateOf s .table) → Searching f (stateOf s .table .places) n i → n ≤ i → Nothing ≡ firstPlace f (standing (stateOf s .table))
     find-none q v k = none (stateOf s .table) q v k
 
-    process-past : {at : ℕ} → 12 ≤ at → freePlace ≡ processAt (stateOf s .table) at
-    process-past {at} k = process-none (stateOf s .table) {n = size (stateOf s .table)} refl (omega (arith, size-few (stateOf s .table) places-12)) refl
+    process-past : {at : ℕ} → places ≤ at → freePlace ≡ processAt (stateOf s .table) at
+    process-past {at} k = process-none (stateOf s .table) {n = size (stateOf s .table)} refl (omega (arith, size-few (stateOf s .table) places-long)) refl
 
-    pub next-past : {at : ℕ} → 12 ≤ at → 0 ≡ processAt (stateOf s .table) at .next
+    pub next-past : {at : ℕ} → places ≤ at → 0 ≡ processAt (stateOf s .table) at .next
     next-past k = ap (λ (p : Process). p .next) (process-past k)
 
-    pub owner-past : {at : ℕ} → 12 ≤ at → noOwner ≡ processAt (stateOf s .table) at .credential
+    pub owner-past : {at : ℕ} → places ≤ at → noOwner ≡ processAt (stateOf s .table) at .credential
     owner-past k = ap (λ (p : Process). p .credential) (process-past k)
 
     module _ {n at : ℕ} (e : n ≡ size (stateOf s .table)) where
@@ -251,23 +242,20 @@ module _ (s : List ℕ) where
       pub owner-none : n ≤ at → noOwner ≡ processAt (stateOf s .table) at .credential
       owner-none k = ap (λ (p : Process). p .credential) (process-none (stateOf s .table) e k refl)
 
-      process-read : at < 12 → at < n → processOf (place at) ≡ processAt (stateOf s .table) at
-      process-read low k = sym (place-at at low) ∙ process-got (stateOf s .table) e k places-12
+      process-read : at < places → at < n → processFrom (place at) ≡ processAt (stateOf s .table) at
+      process-read low k = sym (place-at at low) ∙ process-got (stateOf s .table) e k places-long
 
-      pub owner-read : {r : ℕ} → at < 12 → at < n → Widened (getD s (45 + at * 53) 0) r → _≡_ {A = Credential} (record { 0 = r }) (processAt (stateOf s .table) at .credential)
-      unfolding processOf
+      pub owner-read : {r : ℕ} → at < places → at < n → Widened (getD s (placesAt + at * placeSize) 0) r → _≡_ {A = Credential} (record { 0 = r }) (processAt (stateOf s .table) at .credential)
+      unfolding processFrom
       owner-read low k w =
-          let first : getD (place at) 0 0 ≡ getD s (45 + at * 53) 0 = rw add-zero at (place-byte at 0 (omega arith)) in
+          let first : getD (place at) 0 0 ≡ getD s (placesAt + at * placeSize) 0 = rw add-zero at (place-byte at 0 (omega arith)) in
           rw (w .is, ← first) (ap (λ (p : Process). p .credential) (process-read low k))
 
-      pub next-read : {r : ℕ} → at < 12 → at < n → r ≡ number (getD s (48 + at * 53) 0 ∷ getD s (48 + at * 53 + 1) 0 ∷ []) → r ≡ processAt (stateOf s .table) at .next
-      unfolding processOf
+      pub next-read : {r : ℕ} → at < places → at < n → r ≡ numberAt 2 (placesAt + at * placeSize + nextAt) s → r ≡ processAt (stateOf s .table) at .next
+      unfolding processFrom
       next-read low k q =
-          let three : 45 + at * 53 + 3 ≡ 48 + at * 53 = omega arith in
-          let four : 45 + at * 53 + 4 ≡ 48 + at * 53 + 1 = omega arith in
-          let next : number (take 2 (drop 3 (place at))) ≡ number (getD s (48 + at * 53) 0 ∷ getD s (48 + at * 53 + 1) 0 ∷ []) =
-          next-in (place at) (place-part s at h low) ∙ rw (place-byte at 3 (omega arith), place-byte at 4 (omega arith), three, four)
-          in
+          let in-row : nextAt + 2 ≤ placesAt + at * placeSize + placeSize - (placesAt + at * placeSize) = omega arith in
+          let next : numberAt 2 nextAt (place at) ≡ numberAt 2 (placesAt + at * placeSize + nextAt) s = number-part 2 nextAt (placesAt + at * placeSize + placeSize - (placesAt + at * placeSize)) (placesAt + at * placeSize) s in-row in
           q ∙ sym next ∙ ap (λ (p : Process). p .next) (process-read low k)
 
 -- ---- the process that the search found

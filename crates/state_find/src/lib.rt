@@ -4,14 +4,28 @@ ghost use lib.ListN.{length};
 ghost use Rattle.table.specs.Table.{size, isActive, findActive, processAt};
 ghost use Rattle.claims.specs.Module.{phaseOf, provisioned, wordOf};
 ghost use Rattle.claims.specs.Claim.{processFound, claimView};
-ghost use Rattle.layout.specs.Layout.{processOf, stateOf};
+ghost use Rattle.layout.specs.Layout.{placeSize, stateLength, processFrom, stateOf};
+use claims::CREDENTIALS;
 use claims::Claim;
 use claims::ClaimView;
 use claims::Phase;
+use claims::SESSIONS;
+use layout::COUNT_AT;
+use layout::CREDENTIAL_SIZE;
+use layout::CREDENTIALS_AT;
+use layout::KIND_AT;
+use layout::NEXT_AT;
+use layout::OWNER_AT;
+use layout::PLACE_SIZE;
+use layout::PLACES_AT;
+use layout::SESSION_AT;
+use layout::STATE_LENGTH;
+use layout::WORD_AT;
 use names::Credential;
 use names::Session;
 use table::Active;
 use table::Found;
+use table::PLACES;
 
 // ---- sessions and credentials
 
@@ -20,13 +34,13 @@ fn phase_of(s: &[u8], session: Session) -> Phase
     ensures { λ r. ⌜ r ≡ phaseOf (stateOf (now (s .entry))) session ⌝ }
 {
     let at = session.0 as usize;
-    if s.len() != 681 {
+    if s.len() != STATE_LENGTH {
         return Phase::Closed;
     }
-    if 4 <= at {
+    if SESSIONS <= at {
         return Phase::Closed;
     }
-    state_read::phase_numbered(s[at])
+    state_read::phase_from(s[at])
 }
 
 // Whether a credential is provisioned; not, where there is no such credential.
@@ -34,13 +48,13 @@ fn provisioned(s: &[u8], c: Credential) -> bool
     ensures { λ r. ⌜ r ≡ provisioned (stateOf (now (s .entry))) c ⌝ }
 {
     let at = c.0 as usize;
-    if s.len() != 681 {
+    if s.len() != STATE_LENGTH {
         return false;
     }
-    if 8 <= at {
+    if CREDENTIALS <= at {
         return false;
     }
-    s[4 + at * 5] == 1
+    s[CREDENTIALS_AT + at * CREDENTIAL_SIZE] == 1
 }
 
 // The grant word of a credential; 0, where there is no such credential.
@@ -48,33 +62,32 @@ fn word_of(s: &[u8], c: Credential) -> u32
     ensures { λ r. ⌜ r ≡ wordOf (stateOf (now (s .entry))) c ⌝ }
 {
     let at = c.0 as usize;
-    if s.len() != 681 {
+    if s.len() != STATE_LENGTH {
         return 0;
     }
-    if 8 <= at {
+    if CREDENTIALS <= at {
         return 0;
     }
-    let a = 5 + at * 5;
-    state_read::number32(s[a], s[a + 1], s[a + 2], s[a + 3])
+    rows::number32(s, CREDENTIALS_AT + at * CREDENTIAL_SIZE + WORD_AT)
 }
 
 // ---- processes
 
 // How many processes stand: a count past 12 says that all 12 do.
 fn size_in(s: &[u8]) -> usize
-    requires { ⌜ length (now s) ≡ 681 ⌝ }
+    requires { ⌜ length (now s) ≡ stateLength ⌝ }
     ensures { λ r. ⌜ r ≡ size (stateOf (now (s .entry)) .table) ⌝ }
 {
-    let count = state_read::wide(s[44]);
-    if count < 12 { count } else { 12 }
+    let count = rows::wide(s[COUNT_AT]);
+    if count < PLACES { count } else { PLACES }
 }
 
 fn is_active(row: &[u8], which: Active) -> bool
-    requires { ⌜ length (now row) ≡ 53 ⌝ }
-    ensures { λ r. ⌜ r ≡ isActive which (processOf (now (row .entry))) ⌝ }
+    requires { ⌜ length (now row) ≡ placeSize ⌝ }
+    ensures { λ r. ⌜ r ≡ isActive which (processFrom (now (row .entry))) ⌝ }
 {
-    let kind = row[1];
-    let session = row[2];
+    let kind = row[KIND_AT];
+    let session = row[SESSION_AT];
     match which {
         Active::UserOf(s, c) => {
             if kind != 0 {
@@ -83,7 +96,7 @@ fn is_active(row: &[u8], which: Active) -> bool
             if session != s.0 {
                 return false;
             }
-            state_read::wide16(row[0]) == c.0
+            rows::wide16(row[OWNER_AT]) == c.0
         }
         Active::ElevationIn(s) => {
             if kind != 1 {
@@ -98,7 +111,7 @@ fn is_active(row: &[u8], which: Active) -> bool
 fn find_active(s: &[u8], which: Active) -> Found
     ensures { λ r. ⌜ r ≡ findActive (stateOf (now (s .entry)) .table) which ⌝ }
 {
-    if s.len() != 681 {
+    if s.len() != STATE_LENGTH {
         return Found::Nothing;
     }
     let n = size_in(s);
@@ -107,8 +120,8 @@ fn find_active(s: &[u8], which: Active) -> Found
         if n <= i {
             break n;
         }
-        let a = 45 + i * 53;
-        let e = a + 53;
+        let a = PLACES_AT + i * PLACE_SIZE;
+        let e = a + PLACE_SIZE;
         if is_active(&s[a..e], which) {
             break i;
         }
@@ -125,34 +138,33 @@ fn find_active(s: &[u8], which: Active) -> Found
 fn next_number(s: &[u8], at: usize) -> u16
     ensures { λ r. ⌜ r ≡ processAt (stateOf (now (s .entry)) .table) at .next ⌝ }
 {
-    if s.len() != 681 {
+    if s.len() != STATE_LENGTH {
         return 0;
     }
-    if 12 <= at {
+    if PLACES <= at {
         return 0;
     }
     if size_in(s) <= at {
         return 0;
     }
-    let a = 48 + at * 53;
-    names::number16(s[a], s[a + 1])
+    rows::number16(s, PLACES_AT + at * PLACE_SIZE + NEXT_AT)
 }
 
 // The credential of the process at a place; 0 where none stands there.
 fn credential_at(s: &[u8], at: usize) -> Credential
     ensures { λ r. ⌜ r ≡ processAt (stateOf (now (s .entry)) .table) at .credential ⌝ }
 {
-    if s.len() != 681 {
+    if s.len() != STATE_LENGTH {
         return Credential(0);
     }
-    if 12 <= at {
+    if PLACES <= at {
         return Credential(0);
     }
     if size_in(s) <= at {
         return Credential(0);
     }
-    let a = 45 + at * 53;
-    Credential(state_read::wide16(s[a]))
+    let a = PLACES_AT + at * PLACE_SIZE;
+    Credential(rows::wide16(s[a]))
 }
 
 // ---- what the check of a claim asks

@@ -1,51 +1,46 @@
 // The state that a slice of 681 bytes says, read into a value. docs/STATE.md draws the layout.
 ghost use mathlib.Core.Path.{_≡_};
-ghost use mathlib.Core.List.{map, [], _∷_};
+ghost use mathlib.Core.List.{map};
 ghost use lib.ListN.{length, drop};
-ghost use Rattle.lists.specs.Bytes.{number};
-ghost use Rattle.codec.specs.Codec.{rows, Widened};
-ghost use Rattle.claims.specs.Module.{closedSession, unprovisioned};
-ghost use Rattle.layout.specs.Layout.{phaseNumbered, sessionOf, grantsOf, processOf, placesIn, nothingHeld, stateOf};
+ghost use Rattle.rows.specs.Rows.{rows};
+ghost use Rattle.claims.specs.Module.{closedSession, unprovisioned, sessionCount, credentialCount};
+ghost use Rattle.layout.specs.Layout.{credentialSize, placeSize, sessionSize, credentialsAt, stateLength, phaseFrom, kindFrom, sessionFrom, grantsFrom, processFrom, placesIn, nothingHeld, stateOf};
+use claims::CREDENTIALS;
 use claims::Grants;
 use claims::Phase;
+use claims::SESSIONS;
 use claims::SessionState;
 use claims::State;
+use layout::COUNT_AT;
+use layout::CREDENTIAL_SIZE;
+use layout::CREDENTIALS_AT;
+use layout::FLAG_AT;
+use layout::KIND_AT;
+use layout::NAME_AT;
+use layout::NEXT_AT;
+use layout::OWNER_AT;
+use layout::PLACE_SIZE;
+use layout::PLACES_AT;
+use layout::SESSION_AT;
+use layout::STATE_LENGTH;
+use layout::WORD_AT;
 use names::Credential;
+use names::Kind;
 use names::Session;
+use table::PLACES;
 use table::Process;
 use table::Table;
 
-// ---- a byte as a number of more bits
-
-pub fn wide16(x: u8) -> u16
-    ensures { λ r. ⌜ Widened x r ⌝ }
-{
-    x as u16
-}
-
-pub fn wide(x: u8) -> usize
-    ensures { λ r. ⌜ Widened x r ⌝ }
-{
-    x as usize
-}
-
-// The number that four bytes say.
-pub fn number32(a: u8, b: u8, c: u8, d: u8) -> u32
-    ensures { λ r. ⌜ r ≡ number (a ∷ b ∷ c ∷ d ∷ []) ⌝ }
-{
-    (((d as u32) * 256 + (c as u32)) * 256 + (b as u32)) * 256 + (a as u32)
-}
-
 // ---- a session
 
-// The phase of a number; closed, where a number is no phase's.
-pub fn phase_numbered(number: u8) -> Phase
-    ensures { λ r. ⌜ r ≡ phaseNumbered number ⌝ }
+// The phase of a byte; closed, where a byte is no phase's.
+pub fn phase_from(byte: u8) -> Phase
+    ensures { λ r. ⌜ r ≡ phaseFrom byte ⌝ }
 {
-    if number == 1 {
+    if byte == 1 {
         return Phase::Opened;
     }
-    if number == 2 {
+    if byte == 2 {
         return Phase::Chosen;
     }
     Phase::Closed
@@ -59,14 +54,14 @@ fn closed_session() -> SessionState
     }
 }
 
-fn read_sessions(s: &[u8]) -> [SessionState; 4]
-    requires { ⌜ length (now s) ≡ 681 ⌝ }
-    ensures { λ r. ⌜ r ≡ map sessionOf (rows 4 1 (now (s .entry))) ⌝ }
+fn read_sessions(s: &[u8]) -> [SessionState; SESSIONS]
+    requires { ⌜ length (now s) ≡ stateLength ⌝ }
+    ensures { λ r. ⌜ r ≡ map sessionFrom (rows sessionCount sessionSize (now (s .entry))) ⌝ }
 {
-    let mut out = [closed_session(); 4];
+    let mut out = [closed_session(); SESSIONS];
     let mut i: usize = 0;
-    while i < 4 {
-        let phase = phase_numbered(s[i]);
+    while i < SESSIONS {
+        let phase = phase_from(s[i]);
         out[i] = SessionState { phase: phase };
         i += 1;
     }
@@ -85,25 +80,25 @@ fn unprovisioned() -> Grants
 }
 
 fn grants_of(row: &[u8]) -> Grants
-    requires { ⌜ length (now row) ≡ 5 ⌝ }
-    ensures { λ r. ⌜ r ≡ grantsOf (now (row .entry)) ⌝ }
+    requires { ⌜ length (now row) ≡ credentialSize ⌝ }
+    ensures { λ r. ⌜ r ≡ grantsFrom (now (row .entry)) ⌝ }
 {
-    let word = number32(row[1], row[2], row[3], row[4]);
+    let word = rows::number32(row, WORD_AT);
     Grants {
-        provisioned: row[0] == 1,
+        provisioned: row[FLAG_AT] == 1,
         word: word,
     }
 }
 
-fn read_credentials(s: &[u8]) -> [Grants; 8]
-    requires { ⌜ length (now s) ≡ 681 ⌝ }
-    ensures { λ r. ⌜ r ≡ map grantsOf (rows 8 5 (drop 4 (now (s .entry)))) ⌝ }
+fn read_credentials(s: &[u8]) -> [Grants; CREDENTIALS]
+    requires { ⌜ length (now s) ≡ stateLength ⌝ }
+    ensures { λ r. ⌜ r ≡ map grantsFrom (rows credentialCount credentialSize (drop credentialsAt (now (s .entry)))) ⌝ }
 {
-    let mut out = [unprovisioned(); 8];
+    let mut out = [unprovisioned(); CREDENTIALS];
     let mut i: usize = 0;
-    while i < 8 {
-        let a = 4 + i * 5;
-        let e = a + 5;
+    while i < CREDENTIALS {
+        let a = CREDENTIALS_AT + i * CREDENTIAL_SIZE;
+        let e = a + CREDENTIAL_SIZE;
         let grants = grants_of(&s[a..e]);
         out[i] = grants;
         i += 1;
@@ -113,15 +108,28 @@ fn read_credentials(s: &[u8]) -> [Grants; 8]
 
 // ---- a place
 
-fn process_of(row: &[u8]) -> Process
-    requires { ⌜ length (now row) ≡ 53 ⌝ }
-    ensures { λ r. ⌜ r ≡ processOf (now (row .entry)) ⌝ }
+// The kind of a byte; a byte over 2, which is no kind's, is taken for 2.
+pub fn kind_from(byte: u8) -> Kind
+    ensures { λ r. ⌜ r ≡ kindFrom byte ⌝ }
 {
-    let credential = wide16(row[0]);
-    let kind = names::kind_of(row[1]);
-    let session = row[2];
-    let next = names::number16(row[3], row[4]);
-    let read = names::read_name(&row[5..53]);
+    if byte == 0 {
+        return Kind::User;
+    }
+    if byte == 1 {
+        return Kind::Elevation;
+    }
+    Kind::Saved
+}
+
+fn process_of(row: &[u8]) -> Process
+    requires { ⌜ length (now row) ≡ placeSize ⌝ }
+    ensures { λ r. ⌜ r ≡ processFrom (now (row .entry)) ⌝ }
+{
+    let credential = rows::wide16(row[OWNER_AT]);
+    let kind = kind_from(row[KIND_AT]);
+    let session = row[SESSION_AT];
+    let next = rows::number16(row, NEXT_AT);
+    let read = names::read_name(&row[NAME_AT..PLACE_SIZE]);
     let name = read.name;
     Process {
         credential: Credential(credential),
@@ -132,16 +140,16 @@ fn process_of(row: &[u8]) -> Process
     }
 }
 
-fn read_places(s: &[u8]) -> [Process; 12]
-    requires { ⌜ length (now s) ≡ 681 ⌝ }
+fn read_places(s: &[u8]) -> [Process; PLACES]
+    requires { ⌜ length (now s) ≡ stateLength ⌝ }
     ensures { λ r. ⌜ r ≡ placesIn (now (s .entry)) ⌝ }
 {
     let empty = table::empty();
     let mut out = empty.places;
     let mut i: usize = 0;
-    while i < 12 {
-        let a = 45 + i * 53;
-        let e = a + 53;
+    while i < PLACES {
+        let a = PLACES_AT + i * PLACE_SIZE;
+        let e = a + PLACE_SIZE;
         let p = process_of(&s[a..e]);
         out[i] = p;
         i += 1;
@@ -156,8 +164,8 @@ fn nothing_held() -> State
 {
     let empty = table::empty();
     State {
-        sessions: [closed_session(); 4],
-        credentials: [unprovisioned(); 8],
+        sessions: [closed_session(); SESSIONS],
+        credentials: [unprovisioned(); CREDENTIALS],
         table: empty,
     }
 }
@@ -166,13 +174,13 @@ fn nothing_held() -> State
 pub fn read(s: &[u8]) -> State
     ensures { λ r. ⌜ r ≡ stateOf (now (s .entry)) ⌝ }
 {
-    if s.len() != 681 {
+    if s.len() != STATE_LENGTH {
         return nothing_held();
     }
     let sessions = read_sessions(s);
     let credentials = read_credentials(s);
     let places = read_places(s);
-    let count = wide(s[44]);
+    let count = rows::wide(s[COUNT_AT]);
     State {
         sessions: sessions,
         credentials: credentials,

@@ -7,7 +7,7 @@ use mathlib.Core.List.{List}
 use native.Mathlib.Omega.{arith}
 use lib.ListN.{length}
 use borrow.Author.Tests.{not-false}
-use Rattle.lists.specs.Bytes.{Bytes}
+use Rattle.rows.specs.Bytes.{Bytes}
 use Rattle.lists.specs.Lists.{firstIndex}
 use Rattle.lists.proofs.Lists.{first-inside}
 use Rattle.lists.proofs.Tests.{and-right}

@@ -7,7 +7,7 @@ use mathlib.Core.List.{List}
 use borrow.Author.Tests.{not-true, not-false}
 use mir.Val.{Fits}
 use mir.Syntax.{w16}
-use Rattle.lists.specs.Bytes.{Bytes}
+use Rattle.rows.specs.Bytes.{Bytes}
 use Rattle.names.specs.declared.Session.{Session}
 use Rattle.table.specs.Table.{processAt}
 use Rattle.table.specs.declared.Active.the-variants.{UserOf}

@@ -3,7 +3,7 @@ use Prim.Native.Nat.{ℕ}
 use mathlib.Core.Path.{_≡_}
 use mathlib.Core.Bool.{Bool, cond, _&&_}
 use mathlib.Core.List.{List}
-use Rattle.lists.specs.Bytes.{Bytes}
+use Rattle.rows.specs.Bytes.{Bytes}
 use Rattle.claims.specs.Numbers as No
 use Rattle.claims.specs.Numbers.{_unless_, _▸_}
 use Rattle.calls.specs.Calls.{Call, number, outcome}

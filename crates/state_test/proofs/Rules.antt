@@ -13,25 +13,26 @@ use lib.Bits.{bitXor, bitOr}
 use lib.Dec.{eqb, leb}
 use lib.ListN.{length, take, drop, getD, List·getD-eq-default, length-map, length-take, length-drop, take-append-drop, drop-of-length-le, replicate, length-replicate, set, length-set}
 use lib.Seq.{getD-set-same, getD-set-other, drop-cons, drop-drop, getD-drop, getD-take, take-all}
-use Rattle.lists.specs.Bytes.{number}
+use Rattle.rows.specs.Bytes.{isZero, numberAt, Widened}
 use Rattle.lists.proofs.Lists.{length-mapped}
 use Rattle.lists.specs.Each.{Each, each-nil, each-cons}
 use Rattle.lists.proofs.Tests.{split, clash, and-left, and-right, and-both}
-use Rattle.codec.specs.Codec.{rows, every, pairwise, isZero, Widened}
-use Rattle.codec.proofs.Codec.{rows-length, rows-take, map-take, map-drop, row-at, each-imp}
-use Rattle.codec.proofs.Loops.{RowsTo, rows-begin, rows-on, rows-fail, rows-all, RecordsTo, records-begin, records-on, records-fail, records-all, or-zero, map-part, and-assoc, and-true, and-false, paired-begin, paired-on, paired-fail, paired-all}
-use Rattle.names.specs.Names.{sameBytes, sameName, kindOf}
+use Rattle.lists.proofs.Each.{each-imp}
+use Rattle.rows.specs.Rows.{rows, every, pairwise}
+use Rattle.rows.proofs.Rows.{rows-length, rows-take, map-take, map-drop, row-at}
+use Rattle.rows.proofs.Loops.{RowsTo, rows-begin, rows-on, rows-fail, rows-all, RecordsTo, records-begin, records-on, records-fail, records-all, or-zero, map-part, and-assoc, and-true, and-false, paired-begin, paired-on, paired-fail, paired-all}
+use Rattle.names.specs.Names.{sameBytes, sameName}
 use Rattle.names.proofs.Laws.{same-iff}
 use Rattle.names.specs.declared.Kind.the-variants.{Saved}
-use Rattle.table.specs.Table.{standing, freePlace, isUser, isElevation, isActive, isActiveIn}
+use Rattle.table.specs.Table.{standing, freePlace, isUser, isElevation, isActive, isActiveIn, places}
 use Rattle.table.specs.declared.Process.{Process}
-use Rattle.claims.specs.Module.{closedSession, unprovisioned, provisioned, phaseOf, isChosen}
+use Rattle.claims.specs.Module.{closedSession, unprovisioned, provisioned, phaseOf, isChosen, sessionCount, credentialCount, lastHandle, lastCredential}
 use Rattle.claims.specs.declared.Grants.{Grants}
-use Rattle.layout.specs.Layout.{phaseNumbered, sessionOf, sessionFits, grantsOf, grantsFit, keptZero, processOf, processFits, countIn, placesIn, stateOf, isOwned, areRivals, areApart, sound, shaped, holdsState}
+use Rattle.layout.specs.Layout.{flagAt, wordAt, credentialSize, ownerAt, kindAt, sessionAt, nextAt, nameAt, placeSize, sessionsAt, sessionSize, credentialsAt, countAt, placesAt, stateLength, kindFrom, phaseFrom, sessionFrom, sessionFits, grantsFrom, grantsFit, keptZero, processFrom, processFits, countIn, placesIn, stateOf, isOwned, areRivals, areApart, sound, shaped, holdsState}
 use Rattle.state_test.specs.Stands.{stands}
 use Rattle.state_test.specs.Marks.{folded, nameMark, seatNumbered, seatMark, Mark, laterApart, Met, AllMet}
 use Rattle.layout.proofs.Laws.{state-in}
-use Rattle.layout.proofs.Parts.{grants-part, place-part, next-in}
+use Rattle.layout.proofs.Parts.{grants-part, place-part}
 
 -- ---- tests in another order
 twice : (a b c : Bool) → ((a && b) && (a && c)) ≡ (a && (b && c))
@@ -77,30 +78,30 @@ pub record Parted (s : List ℕ) (first part second d i : ℕ) : Type 0 where
 
 -- the parts' length, from the place n on
 abbrev partOf : ℕ → ℕ
-partOf n = (681 - (45 + n * 53) + 63) / 64 * 32
+partOf n = (stateLength - (placesAt + n * placeSize) + 63) / 64 * 32
 
-part-fits : (n : ℕ) → n ≤ 12 → partOf n ≤ 681 - (45 + n * 53)
+part-fits : (n : ℕ) → n ≤ places → partOf n ≤ stateLength - (placesAt + n * placeSize)
 part-fits n h =
-    split (eqb n 12)
-    (λ e. rw (eqb-true n 12 e) (omega arith))
+    split (eqb n places)
+    (λ e. rw (eqb-true n places e) (omega arith))
     (λ e.
     split (eqb n 11)
     (λ f. rw (eqb-true n 11 f) (omega arith))
-    (λ f. let few : n ≤ 10 = omega (arith, eqb-false n 12 e, eqb-false n 11 f) in omega arith))
+    (λ f. let few : n ≤ 10 = omega (arith, eqb-false n places e, eqb-false n 11 f) in omega arith))
 
-pub parted-begin : (s : List ℕ) (n : ℕ) → length s ≡ 681 → n ≤ 12 → Parted s (45 + n * 53) ((681 - (45 + n * 53) + 63) / 64 * 32) (681 - (681 - (45 + n * 53) + 63) / 64 * 32) 0 0
+pub parted-begin : (s : List ℕ) (n : ℕ) → length s ≡ stateLength → n ≤ places → Parted s (placesAt + n * placeSize) ((stateLength - (placesAt + n * placeSize) + 63) / 64 * 32) (stateLength - (stateLength - (placesAt + n * placeSize) + 63) / 64 * 32) 0 0
 parted-begin s n h k =
-    let first : ℕ = 45 + n * 53 in
+    let first : ℕ = placesAt + n * placeSize in
     let part : ℕ = partOf n in
-    let fits : part ≤ 681 - first = part-fits n k in
+    let fits : part ≤ stateLength - first = part-fits n k in
     let all : part - 0 ≡ part = omega arith in
-    let e : 681 - part + 0 ≡ first + (681 - part - first) = omega arith in
-    let l : 681 - part - first ≤ part = omega arith in
+    let e : stateLength - part + 0 ≡ first + (stateLength - part - first) = omega arith in
+    let l : stateLength - part - first ≤ part = omega arith in
     record {
       low = omega arith;
       inside = omega arith;
       end = omega arith;
-      rest = rw (add-zero, all, e, ← drop-drop (681 - part - first) first s) (every-covered isZero part (681 - part - first) (drop first s) l);
+      rest = rw (add-zero, all, e, ← drop-drop (stateLength - part - first) first s) (every-covered isZero part (stateLength - part - first) (drop first s) l);
     }
 
 pub parted-on : {s : List ℕ} {first part second d i : ℕ} → Parted s first part second d i → i < part → Parted s first part second (bitOr (bitOr d (getD s (first + i) 0)) (getD s (second + i) 0)) (i + 1)
@@ -134,7 +135,7 @@ parted-all {s} {first} {part} {second} {d} {i} v h =
     sym (v .rest ∙ rw (e, drop-of-length-le s l) (and-true (isZero d)))
 
 -- ---- a credential's row
-four-zero : (x : List ℕ) → length x ≡ 5 → isZero (bitOr (bitOr (bitOr (getD x 1 0) (getD x 2 0)) (getD x 3 0)) (getD x 4 0)) ≡ every isZero (drop 1 x)
+four-zero : (x : List ℕ) → length x ≡ credentialSize → isZero (bitOr (bitOr (bitOr (getD x 1 0) (getD x 2 0)) (getD x 3 0)) (getD x 4 0)) ≡ every isZero (drop wordAt x)
 unfolding every
 four-zero (a ∷ (b ∷ (c ∷ (d ∷ (e ∷ []))))) h =
     or-zero (bitOr (bitOr b c) d) e ∙ rw (or-zero (bitOr b c) d, or-zero b c) (four-tests (isZero b) (isZero c) (isZero d) (isZero e))
@@ -146,52 +147,52 @@ four-zero (a ∷ (b ∷ (c ∷ (d ∷ [])))) h = absurd (omega arith)
 four-zero (a ∷ (b ∷ (c ∷ (d ∷ (e ∷ (f ∷ x)))))) h = absurd (omega arith)
 
 module _ (x : List ℕ) where
-  pub grants-high : 1 < getD x 0 0 → false ≡ grantsFit x
+  pub grants-high : 1 < getD x flagAt 0 → false ≡ grantsFit x
   unfolding grantsFit
-  grants-high h = rw (lt-leb (getD x 0 0) 1 h)
+  grants-high h = rw (lt-leb (getD x flagAt 0) 1 h)
 
-  pub grants-on : getD x 0 0 ≡ 1 → true ≡ grantsFit x
+  pub grants-on : getD x flagAt 0 ≡ 1 → true ≡ grantsFit x
   unfolding grantsFit
   grants-on e = rw e
 
-  pub grants-off : length x ≡ 5 → getD x 0 0 ≤ 1 → (getD x 0 0 ≡ 1 → ⊥) → eqb (bitOr (bitOr (bitOr (getD x 1 0) (getD x 2 0)) (getD x 3 0)) (getD x 4 0)) 0 ≡ grantsFit x
+  pub grants-off : length x ≡ credentialSize → getD x flagAt 0 ≤ 1 → (getD x flagAt 0 ≡ 1 → ⊥) → eqb (bitOr (bitOr (bitOr (getD x 1 0) (getD x 2 0)) (getD x 3 0)) (getD x 4 0)) 0 ≡ grantsFit x
   unfolding grantsFit
-  grants-off l h n = rw (le-leb (getD x 0 0) 1 h, ne-eqb (getD x 0 0) 1 n) (four-zero x l)
+  grants-off l h n = rw (le-leb (getD x flagAt 0) 1 h, ne-eqb (getD x flagAt 0) 1 n) (four-zero x l)
 
 -- ---- a place
-kind-saved : (n : ℕ) → 2 ≤ n → kindOf n ≡ Saved
+kind-saved : (n : ℕ) → 2 ≤ n → kindFrom n ≡ Saved
 kind-saved zero h = absurd (omega arith)
 kind-saved (suc zero) h = absurd (omega arith)
 kind-saved (suc (suc n)) h = refl
 
 module _ (x : List ℕ) where
-  pub process-credential : 7 < getD x 0 0 → false ≡ processFits x
+  pub process-credential : lastCredential < getD x ownerAt 0 → false ≡ processFits x
   unfolding processFits
-  process-credential h = rw (lt-leb (getD x 0 0) 7 h)
+  process-credential h = rw (lt-leb (getD x ownerAt 0) lastCredential h)
 
-  module _ (c : getD x 0 0 ≤ 7) where
-    pub process-type : 2 < getD x 1 0 → false ≡ processFits x
+  module _ (c : getD x ownerAt 0 ≤ lastCredential) where
+    pub process-type : 2 < getD x kindAt 0 → false ≡ processFits x
     unfolding processFits
-    process-type h = rw (le-leb (getD x 0 0) 7 c, lt-leb (getD x 1 0) 2 h)
+    process-type h = rw (le-leb (getD x ownerAt 0) lastCredential c, lt-leb (getD x kindAt 0) 2 h)
 
-    module _ (t : getD x 1 0 ≤ 2) where
-      pub process-session : 3 < getD x 2 0 → false ≡ processFits x
+    module _ (t : getD x kindAt 0 ≤ 2) where
+      pub process-session : lastHandle < getD x sessionAt 0 → false ≡ processFits x
       unfolding processFits
-      process-session h = rw (le-leb (getD x 0 0) 7 c, le-leb (getD x 1 0) 2 t, lt-leb (getD x 2 0) 3 h)
+      process-session h = rw (le-leb (getD x ownerAt 0) lastCredential c, le-leb (getD x kindAt 0) 2 t, lt-leb (getD x sessionAt 0) lastHandle h)
 
-      module _ (s : getD x 2 0 ≤ 3) where
-        in-range : processFits x ≡ keptZero (kindOf (getD x 1 0)) (getD x 2 0) (number (take 2 (drop 3 x)))
+      module _ (s : getD x sessionAt 0 ≤ lastHandle) where
+        in-range : processFits x ≡ keptZero (kindFrom (getD x kindAt 0)) (getD x sessionAt 0) (numberAt 2 nextAt x)
         unfolding processFits
-        in-range = rw (le-leb (getD x 0 0) 7 c, le-leb (getD x 1 0) 2 t, le-leb (getD x 2 0) 3 s)
+        in-range = rw (le-leb (getD x ownerAt 0) lastCredential c, le-leb (getD x kindAt 0) 2 t, le-leb (getD x sessionAt 0) lastHandle s)
 
-        pub process-user : getD x 1 0 ≡ 0 → true ≡ processFits x
+        pub process-user : getD x kindAt 0 ≡ 0 → true ≡ processFits x
         process-user e = sym (in-range ∙ rw e)
 
-        pub process-elevation : getD x 1 0 ≡ 1 → {n : ℕ} → length x ≡ 53 → n ≡ number (getD x 3 0 ∷ getD x 4 0 ∷ []) → eqb n 0 ≡ processFits x
-        process-elevation e h q = sym (in-range ∙ rw (e, next-in x h, q))
+        pub process-elevation : getD x kindAt 0 ≡ 1 → {n : ℕ} → n ≡ numberAt 2 nextAt x → eqb n 0 ≡ processFits x
+        process-elevation e q = sym (in-range ∙ rw (e, q))
 
-        pub process-saved : (getD x 1 0 ≡ 0 → ⊥) → (getD x 1 0 ≡ 1 → ⊥) → eqb (getD x 2 0) 0 ≡ processFits x
-        process-saved n m = sym (in-range ∙ rw (kind-saved (getD x 1 0) (omega arith)))
+        pub process-saved : (getD x kindAt 0 ≡ 0 → ⊥) → (getD x kindAt 0 ≡ 1 → ⊥) → eqb (getD x sessionAt 0) 0 ≡ processFits x
+        process-saved n m = sym (in-range ∙ rw (kind-saved (getD x kindAt 0) (omega arith)))
 
 -- ---- two names, 16 bytes at a time
 pub record Told (x y : List ℕ) (same : Bool) (i : ℕ) : Type 0 where
@@ -262,36 +263,36 @@ same-append (a ∷ x) y (b ∷ u) w h = rw (same-append x y u w (omega arith)) (
 abbrev samePart : List ℕ → List ℕ → ℕ → Bool
 samePart a b at = sameBytes (take 16 (drop at a)) (take 16 (drop at b))
 
-three-parts : (a : List ℕ) → length a ≡ 53 → drop 5 a ≡ take 16 (drop 5 a) ++ (take 16 (drop 21 a) ++ take 16 (drop 37 a))
+three-parts : (a : List ℕ) → length a ≡ placeSize → drop nameAt a ≡ take 16 (drop nameAt a) ++ (take 16 (drop 21 a) ++ take 16 (drop 37 a))
 three-parts a h =
     let t : take 16 (drop 37 a) ≡ drop 37 a = take-all 16 (drop 37 a) (simp length-drop (omega arith)) in
     let d : take 16 (drop 21 a) ++ drop 37 a ≡ drop 21 a = rw (← drop-drop 16 21 a) (take-append-drop 16 (drop 21 a)) in
-    sym (rw (t, d, ← drop-drop 16 5 a) (take-append-drop 16 (drop 5 a)))
+    sym (rw (t, d, ← drop-drop 16 nameAt a) (take-append-drop 16 (drop nameAt a)))
 
-module _ (a b : List ℕ) (h : length a ≡ 53) (k : length b ≡ 53) where
-  name-parts : sameBytes (drop 5 a) (drop 5 b) ≡ (samePart a b 5 && (samePart a b 21 && samePart a b 37))
+module _ (a b : List ℕ) (h : length a ≡ placeSize) (k : length b ≡ placeSize) where
+  name-parts : sameBytes (drop nameAt a) (drop nameAt b) ≡ (samePart a b nameAt && (samePart a b 21 && samePart a b 37))
   name-parts =
       let x : List ℕ = take 16 (drop 21 a) ++ take 16 (drop 37 a) in
       let y : List ℕ = take 16 (drop 21 b) ++ take 16 (drop 37 b) in
-      ap (λ (l : List ℕ). sameBytes l (drop 5 b)) (three-parts a h) ∙ ap (λ (l : List ℕ). sameBytes (take 16 (drop 5 a) ++ x) l) (three-parts b k)
-      ∙ same-append (take 16 (drop 5 a)) x (take 16 (drop 5 b)) y (part-16 a 5 (omega arith) ∙ sym (part-16 b 5 (omega arith)))
+      ap (λ (l : List ℕ). sameBytes l (drop nameAt b)) (three-parts a h) ∙ ap (λ (l : List ℕ). sameBytes (take 16 (drop nameAt a) ++ x) l) (three-parts b k)
+      ∙ same-append (take 16 (drop nameAt a)) x (take 16 (drop nameAt b)) y (part-16 a nameAt (omega arith) ∙ sym (part-16 b nameAt (omega arith)))
       ∙ rw (same-append (take 16 (drop 21 a)) (take 16 (drop 37 a)) (take 16 (drop 21 b)) (take 16 (drop 37 b)) (part-16 a 21 (omega arith) ∙ sym (part-16 b 21 (omega arith))))
 
-  module _ {p : Bool} (e : p ≡ samePart a b 5) where
-    pub name-first : not p ≡ true → false ≡ sameBytes (drop 5 a) (drop 5 b)
+  module _ {p : Bool} (e : p ≡ samePart a b nameAt) where
+    pub name-first : not p ≡ true → false ≡ sameBytes (drop nameAt a) (drop nameAt b)
     name-first t = sym (name-parts ∙ rw (← e, not-true p t))
 
     module _ (t : not p ≡ false) {q : Bool} (f : q ≡ samePart a b 21) where
-      pub name-second : not q ≡ true → false ≡ sameBytes (drop 5 a) (drop 5 b)
+      pub name-second : not q ≡ true → false ≡ sameBytes (drop nameAt a) (drop nameAt b)
       name-second u = sym (name-parts ∙ rw (← e, not-false p t, ← f, not-true q u))
 
-      pub name-third : not q ≡ false → {r : Bool} → r ≡ samePart a b 37 → r ≡ sameBytes (drop 5 a) (drop 5 b)
+      pub name-third : not q ≡ false → {r : Bool} → r ≡ samePart a b 37 → r ≡ sameBytes (drop nameAt a) (drop nameAt b)
       name-third u g = g ∙ sym (name-parts ∙ rw (← e, not-false p t, ← f, not-false q u))
 
 -- ---- two places. The test of rivals, by the types' numbers and whether the sessions and the credentials agree
 abbrev rivalry : ℕ → ℕ → Bool → Bool → Bool
 rivalry k l session credential =
-    (isUser (kindOf k) && (isUser (kindOf l) && session && credential)) || (isElevation (kindOf k) && (isElevation (kindOf l) && session))
+    (isUser (kindFrom k) && (isUser (kindFrom l) && session && credential)) || (isElevation (kindFrom k) && (isElevation (kindFrom l) && session))
 
 rivalry-elsewhere : (k l : ℕ) (c : Bool) → rivalry k l false c ≡ false
 rivalry-elsewhere zero zero c = refl
@@ -317,68 +318,68 @@ rivalry-same (suc zero) c n = refl
 rivalry-same (suc (suc k)) c n = sym (ne-eqb (suc (suc k)) 1 (λ e. omega arith))
 
 module _ (a b : List ℕ) where
-  rivals-are : areRivals (processOf a) (processOf b) ≡ rivalry (getD a 1 0) (getD b 1 0) (eqb (getD b 2 0) (getD a 2 0)) (eqb (getD b 0 0) (getD a 0 0))
-  unfolding areRivals processOf isActive
+  rivals-are : areRivals (processFrom a) (processFrom b) ≡ rivalry (getD a kindAt 0) (getD b kindAt 0) (eqb (getD b sessionAt 0) (getD a sessionAt 0)) (eqb (getD b ownerAt 0) (getD a ownerAt 0))
+  unfolding areRivals processFrom isActive
   rivals-are = refl
 
-  pub rivals-elsewhere : (getD a 2 0 ≡ getD b 2 0 → ⊥) → false ≡ areRivals (processOf a) (processOf b)
+  pub rivals-elsewhere : (getD a sessionAt 0 ≡ getD b sessionAt 0 → ⊥) → false ≡ areRivals (processFrom a) (processFrom b)
   rivals-elsewhere n =
-      sym (rivals-are ∙ rw (ne-eqb (getD b 2 0) (getD a 2 0) (λ e. n (sym e))) (rivalry-elsewhere (getD a 1 0) (getD b 1 0) (eqb (getD b 0 0) (getD a 0 0))))
+      sym (rivals-are ∙ rw (ne-eqb (getD b sessionAt 0) (getD a sessionAt 0) (λ e. n (sym e))) (rivalry-elsewhere (getD a kindAt 0) (getD b kindAt 0) (eqb (getD b ownerAt 0) (getD a ownerAt 0))))
 
-  pub rivals-other : (getD a 1 0 ≡ getD b 1 0 → ⊥) → false ≡ areRivals (processOf a) (processOf b)
-  rivals-other n = sym (rivals-are ∙ rivalry-other (getD a 1 0) (getD b 1 0) (eqb (getD b 2 0) (getD a 2 0)) (eqb (getD b 0 0) (getD a 0 0)) n)
+  pub rivals-other : (getD a kindAt 0 ≡ getD b kindAt 0 → ⊥) → false ≡ areRivals (processFrom a) (processFrom b)
+  rivals-other n = sym (rivals-are ∙ rivalry-other (getD a kindAt 0) (getD b kindAt 0) (eqb (getD b sessionAt 0) (getD a sessionAt 0)) (eqb (getD b ownerAt 0) (getD a ownerAt 0)) n)
 
-  module _ (e : getD a 2 0 ≡ getD b 2 0) (f : getD a 1 0 ≡ getD b 1 0) where
-    rivals-here : areRivals (processOf a) (processOf b) ≡ rivalry (getD a 1 0) (getD a 1 0) true (eqb (getD b 0 0) (getD a 0 0))
-    rivals-here = rivals-are ∙ rw (eq-eqb (getD b 2 0) (getD a 2 0) (sym e), ← f)
+  module _ (e : getD a sessionAt 0 ≡ getD b sessionAt 0) (f : getD a kindAt 0 ≡ getD b kindAt 0) where
+    rivals-here : areRivals (processFrom a) (processFrom b) ≡ rivalry (getD a kindAt 0) (getD a kindAt 0) true (eqb (getD b ownerAt 0) (getD a ownerAt 0))
+    rivals-here = rivals-are ∙ rw (eq-eqb (getD b sessionAt 0) (getD a sessionAt 0) (sym e), ← f)
 
-    pub rivals-users : getD a 1 0 ≡ 0 → eqb (getD a 0 0) (getD b 0 0) ≡ areRivals (processOf a) (processOf b)
+    pub rivals-users : getD a kindAt 0 ≡ 0 → eqb (getD a ownerAt 0) (getD b ownerAt 0) ≡ areRivals (processFrom a) (processFrom b)
     rivals-users z =
-        split (eqb (getD a 0 0) (getD b 0 0))
-        (λ t. t ∙ sym (rivals-here ∙ rw (z, eq-eqb (getD b 0 0) (getD a 0 0) (sym (eqb-true (getD a 0 0) (getD b 0 0) t)))))
-        (λ t. t ∙ sym (rivals-here ∙ rw (z, ne-eqb (getD b 0 0) (getD a 0 0) (λ q. eqb-false (getD a 0 0) (getD b 0 0) t (sym q)))))
+        split (eqb (getD a ownerAt 0) (getD b ownerAt 0))
+        (λ t. t ∙ sym (rivals-here ∙ rw (z, eq-eqb (getD b ownerAt 0) (getD a ownerAt 0) (sym (eqb-true (getD a ownerAt 0) (getD b ownerAt 0) t)))))
+        (λ t. t ∙ sym (rivals-here ∙ rw (z, ne-eqb (getD b ownerAt 0) (getD a ownerAt 0) (λ q. eqb-false (getD a ownerAt 0) (getD b ownerAt 0) t (sym q)))))
 
-    pub rivals-last : (getD a 1 0 ≡ 0 → ⊥) → eqb (getD a 1 0) 1 ≡ areRivals (processOf a) (processOf b)
-    rivals-last n = sym (rivals-here ∙ rivalry-same (getD a 1 0) (eqb (getD b 0 0) (getD a 0 0)) n)
+    pub rivals-last : (getD a kindAt 0 ≡ 0 → ⊥) → eqb (getD a kindAt 0) 1 ≡ areRivals (processFrom a) (processFrom b)
+    rivals-last n = sym (rivals-here ∙ rivalry-same (getD a kindAt 0) (eqb (getD b ownerAt 0) (getD a ownerAt 0)) n)
 
-  module _ {r : Bool} (e : r ≡ areRivals (processOf a) (processOf b)) where
-    pub apart-rivals : r ≡ true → false ≡ areApart (processOf a) (processOf b)
+  module _ {r : Bool} (e : r ≡ areRivals (processFrom a) (processFrom b)) where
+    pub apart-rivals : r ≡ true → false ≡ areApart (processFrom a) (processFrom b)
     unfolding areApart
     apart-rivals t = rw (← e, t)
 
-    pub apart-name : r ≡ false → {m : Bool} → m ≡ sameBytes (drop 5 a) (drop 5 b) → not m ≡ areApart (processOf a) (processOf b)
-    unfolding areApart processOf sameName
+    pub apart-name : r ≡ false → {m : Bool} → m ≡ sameBytes (drop nameAt a) (drop nameAt b) → not m ≡ areApart (processFrom a) (processFrom b)
+    unfolding areApart processFrom sameName
     apart-name t f = rw (← e, t, f)
 
 -- ---- marks: of the name, byte by byte
 pub record FoldedTo (row : List ℕ) (d i : ℕ) : Type 0 where
-  pub low : i ≤ 53
-  pub long : length row ≡ 53
+  pub low : i ≤ placeSize
+  pub long : length row ≡ placeSize
   pub rest : nameMark row ≡ folded d (drop i row) % 128
 
-pub folded-begin : (row : List ℕ) → length row ≡ 53 → FoldedTo row 0 5
+pub folded-begin : (row : List ℕ) → length row ≡ placeSize → FoldedTo row 0 nameAt
 unfolding nameMark
 folded-begin row h = record { low = omega arith; long = h; rest = refl }
 
-pub folded-on : {row : List ℕ} {d i : ℕ} → FoldedTo row d i → i < 53 → FoldedTo row (bitXor d (getD row i 0)) (i + 1)
+pub folded-on : {row : List ℕ} {d i : ℕ} → FoldedTo row d i → i < placeSize → FoldedTo row (bitXor d (getD row i 0)) (i + 1)
 unfolding folded
 folded-on {row} {d} {i} v h =
     let k : i < length row = omega arith in
     record { low = omega arith; long = v .long; rest = v .rest ∙ rw (drop-cons row i 0 k, add-one) }
 
-pub folded-all : {row : List ℕ} {d i r : ℕ} → FoldedTo row d i → 53 ≤ i → Widened d r → Mark (nameMark row) (r % 128)
+pub folded-all : {row : List ℕ} {d i r : ℕ} → FoldedTo row d i → placeSize ≤ i → Widened d r → Mark (nameMark row) (r % 128)
 unfolding folded
 folded-all {row} {d} {i} {r} v h w =
     let k : length row ≤ i = omega (arith, v .long) in
     record { is = sym (v .rest ∙ rw (drop-of-length-le row k, w .is)); small = omega arith }
 
 -- of the seat, by the type
-module _ (row : List ℕ) {s : ℕ} (t : Widened (getD row 2 0) s) where
-  pub seat-user : {c : ℕ} → Widened (getD row 0 0) c → getD row 1 0 ≡ 0 → Mark (seatMark row) (128 + s % 4 * 8 + c % 8)
+module _ (row : List ℕ) {s : ℕ} (t : Widened (getD row sessionAt 0) s) where
+  pub seat-user : {c : ℕ} → Widened (getD row ownerAt 0) c → getD row kindAt 0 ≡ 0 → Mark (seatMark row) (128 + s % 4 * 8 + c % 8)
   unfolding seatMark
   seat-user {c} w e = record { is = rw (e, t .is, w .is); small = omega arith }
 
-  pub seat-elevation : getD row 1 0 ≡ 1 → Mark (seatMark row) (160 + s % 4)
+  pub seat-elevation : getD row kindAt 0 ≡ 1 → Mark (seatMark row) (160 + s % 4)
   unfolding seatMark
   seat-elevation e = record { is = rw (e, t .is); small = omega arith }
 
@@ -387,10 +388,10 @@ seat-named zero s c name n m = absurd (n refl)
 seat-named (suc zero) s c name n m = absurd (m refl)
 seat-named (suc (suc k)) s c name n m = refl
 
-pub seat-saved : (row : List ℕ) {name : ℕ} → Mark (nameMark row) name → (getD row 1 0 ≡ 0 → ⊥) → (getD row 1 0 ≡ 1 → ⊥) → Mark (seatMark row) name
+pub seat-saved : (row : List ℕ) {name : ℕ} → Mark (nameMark row) name → (getD row kindAt 0 ≡ 0 → ⊥) → (getD row kindAt 0 ≡ 1 → ⊥) → Mark (seatMark row) name
 unfolding seatMark
 seat-saved row m n o =
-    record { is = m .is ∙ sym (seat-named (getD row 1 0) (getD row 2 0) (getD row 0 0) (nameMark row) n o); small = m .small }
+    record { is = m .is ∙ sym (seat-named (getD row kindAt 0) (getD row sessionAt 0) (getD row ownerAt 0) (nameMark row) n o); small = m .small }
 
 -- rivals have one seat
 or-false : (b : Bool) → (b || false) ≡ b
@@ -409,20 +410,20 @@ rivalry-seat (suc zero) (suc (suc l)) s t c d x y e = clash e refl
 rivalry-seat (suc (suc k)) l s t c d x y e = clash e refl
 
 module _ (a b : List ℕ) where
-  rivals-seat : areRivals (processOf a) (processOf b) ≡ true → seatMark a ≡ seatMark b
+  rivals-seat : areRivals (processFrom a) (processFrom b) ≡ true → seatMark a ≡ seatMark b
   unfolding seatMark
-  rivals-seat e = rivalry-seat (getD a 1 0) (getD b 1 0) (getD a 2 0) (getD b 2 0) (getD a 0 0) (getD b 0 0) (nameMark a) (nameMark b) (sym (rivals-are a b) ∙ e)
+  rivals-seat e = rivalry-seat (getD a kindAt 0) (getD b kindAt 0) (getD a sessionAt 0) (getD b sessionAt 0) (getD a ownerAt 0) (getD b ownerAt 0) (nameMark a) (nameMark b) (sym (rivals-are a b) ∙ e)
 
-  same-mark : sameName (processOf a .name) (processOf b .name) ≡ true → nameMark a ≡ nameMark b
-  unfolding nameMark processOf
-  same-mark e = ap (λ (l : List ℕ). folded 0 l % 128) (same-iff (processOf a .name) (processOf b .name) .0 e)
+  same-mark : sameName (processFrom a .name) (processFrom b .name) ≡ true → nameMark a ≡ nameMark b
+  unfolding nameMark processFrom
+  same-mark e = ap (λ (l : List ℕ). folded 0 l % 128) (same-iff (processFrom a .name) (processFrom b .name) .0 e)
 
-  marks-differ : (seatMark a ≡ seatMark b → ⊥) → (nameMark a ≡ nameMark b → ⊥) → areApart (processOf a) (processOf b) ≡ true
+  marks-differ : (seatMark a ≡ seatMark b → ⊥) → (nameMark a ≡ nameMark b → ⊥) → areApart (processFrom a) (processFrom b) ≡ true
   unfolding areApart
   marks-differ n m =
-      split (areRivals (processOf a) (processOf b))
+      split (areRivals (processFrom a) (processFrom b))
       (λ e. absurd (n (rivals-seat e)))
-      (λ e. split (sameName (processOf a .name) (processOf b .name)) (λ f. absurd (m (same-mark f))) (λ f. rw (e, f)))
+      (λ e. split (sameName (processFrom a .name) (processFrom b .name)) (λ f. absurd (m (same-mark f))) (λ f. rw (e, f)))
 
 -- ---- the table of marks: those of the places from i on
 pub record IsMarked (marks row : List ℕ) : Type 0 where
@@ -431,22 +432,22 @@ pub record IsMarked (marks row : List ℕ) : Type 0 where
 
 pub record MarkedTo (s : List ℕ) (n : ℕ) (met marks : List ℕ) (i : ℕ) : Type 0 where
   pub low : i ≤ n
-  pub few : n ≤ 12
-  pub wide : length met ≡ 12
+  pub few : n ≤ places
+  pub wide : length met ≡ places
   pub long : length marks ≡ 164
-  pub each : Each (IsMarked marks) (drop i (rows n 53 (drop 45 s)))
+  pub each : Each (IsMarked marks) (drop i (rows n placeSize (drop placesAt s)))
   pub told : (j : ℕ) → i ≤ j → j < n → Met (getD met j 0) (laterApart s n j)
 
-pub marks-begin : (s : List ℕ) (n : ℕ) → n ≤ 12 → MarkedTo s n (replicate 12 0) (replicate 164 0) n
+pub marks-begin : (s : List ℕ) (n : ℕ) → n ≤ places → MarkedTo s n (replicate places 0) (replicate 164 0) n
 marks-begin s n h =
-    let l : length (rows n 53 (drop 45 s)) ≤ n = omega (arith, rows-length n 53 (drop 45 s)) in
+    let l : length (rows n placeSize (drop placesAt s)) ≤ n = omega (arith, rows-length n placeSize (drop placesAt s)) in
     let z : ℕ = 0 in
     record {
       low = omega arith;
       few = h;
-      wide = length-replicate 12 z;
+      wide = length-replicate places z;
       long = length-replicate 164 z;
-      each = rw (drop-of-length-le (rows n 53 (drop 45 s)) l) each-nil;
+      each = rw (drop-of-length-le (rows n placeSize (drop placesAt s)) l) each-nil;
       told = λ j p q. absurd (omega arith);
     }
 
@@ -466,7 +467,7 @@ marked-on marks x y row m =
     }
 
 -- a place whose marks are not set is apart from each whose marks are
-clear-each : (marks row : List ℕ) → getD marks (seatMark row) 0 ≡ 0 → getD marks (nameMark row) 0 ≡ 0 → {l : List (List ℕ)} → Each (IsMarked marks) l → every (areApart (processOf row)) (map processOf l) ≡ true
+clear-each : (marks row : List ℕ) → getD marks (seatMark row) 0 ≡ 0 → getD marks (nameMark row) 0 ≡ 0 → {l : List (List ℕ)} → Each (IsMarked marks) l → every (areApart (processFrom row)) (map processFrom l) ≡ true
 unfolding every
 clear-each marks row p q each-nil = refl
 clear-each marks row p q (each-cons {x} {l} m r) =
@@ -478,7 +479,7 @@ clear-each marks row p q (each-cons {x} {l} m r) =
 
 -- the row of the place before those
 abbrev rowAt : List ℕ → ℕ → List ℕ
-rowAt s i = take (45 + i * 53 + 53 - (45 + i * 53)) (drop (45 + i * 53) s)
+rowAt s i = take (placesAt + i * placeSize + placeSize - (placesAt + i * placeSize)) (drop (placesAt + i * placeSize) s)
 
 module _ {s : List ℕ} {n : ℕ} {met marks : List ℕ} {left : ℕ} (v : MarkedTo s n met marks left) (h : 0 < left) where
   back : left - 1 + 1 ≡ left
@@ -487,11 +488,11 @@ module _ {s : List ℕ} {n : ℕ} {met marks : List ℕ} {left : ℕ} (v : Marke
   before : left - 1 < n
   before = omega (arith, v .low)
 
-  row-before : drop (left - 1) (rows n 53 (drop 45 s)) ≡ rowAt s (left - 1) ∷ drop left (rows n 53 (drop 45 s))
+  row-before : drop (left - 1) (rows n placeSize (drop placesAt s)) ≡ rowAt s (left - 1) ∷ drop left (rows n placeSize (drop placesAt s))
   row-before =
-      let k : left - 1 < length (rows n 53 (drop 45 s)) = omega (arith, rows-length n 53 (drop 45 s), before) in
-      let w : 45 + (left - 1) * 53 + 53 - (45 + (left - 1) * 53) ≡ 53 = omega arith in
-      drop-cons (rows n 53 (drop 45 s)) (left - 1) [] k ∙ rw (← add-one (left - 1), back, w, row-at n 53 (drop 45 s) (left - 1) [] before, drop-drop ((left - 1) * 53) 45 s)
+      let k : left - 1 < length (rows n placeSize (drop placesAt s)) = omega (arith, rows-length n placeSize (drop placesAt s), before) in
+      let w : placesAt + (left - 1) * placeSize + placeSize - (placesAt + (left - 1) * placeSize) ≡ placeSize = omega arith in
+      drop-cons (rows n placeSize (drop placesAt s)) (left - 1) [] k ∙ rw (← add-one (left - 1), back, w, row-at n placeSize (drop placesAt s) (left - 1) [] before, drop-drop ((left - 1) * placeSize) placesAt s)
 
   module _ {x y : ℕ} (p : Mark (seatMark (rowAt s (left - 1))) x) (q : Mark (nameMark (rowAt s (left - 1))) y) where
     met-before : Met (bitOr (getD marks x 0) (getD marks y 0)) (laterApart s n (left - 1))
@@ -503,7 +504,7 @@ module _ {s : List ℕ} {n : ℕ} {met marks : List ℕ} {left : ℕ} (v : Marke
               in
               let f : getD marks (seatMark (rowAt s (left - 1))) 0 ≡ 0 = rw (← p .is) (eqb-true (getD marks x 0) 0 (and-left (isZero (getD marks x 0)) (isZero (getD marks y 0)) z)) in
               let g : getD marks (nameMark (rowAt s (left - 1))) 0 ≡ 0 = rw (← q .is) (eqb-true (getD marks y 0) 0 (and-right (isZero (getD marks x 0)) (isZero (getD marks y 0)) z)) in
-              sym (rw (back, map-part processOf n 53 45 s (left - 1) freePlace before, map-drop processOf left (rows n 53 (drop 45 s))) (clear-each marks (rowAt s (left - 1)) f g (v .each)));
+              sym (rw (back, map-part processFrom n placeSize placesAt s (left - 1) freePlace before, map-drop processFrom left (rows n placeSize (drop placesAt s))) (clear-each marks (rowAt s (left - 1)) f g (v .each)));
         }
 
     pub marks-on : MarkedTo s n (set met (left - 1) (bitOr (getD marks x 0) (getD marks y 0))) (set (set marks x 1) y 1) (left - 1)
@@ -538,74 +539,74 @@ pub clear-none : {met : ℕ} {test : Bool} → Met met test → met ≡ 0 → tr
 clear-none m e = m .none e
 
 -- ---- an owner
-chosen-of : (b : ℕ) → isChosen (phaseNumbered b) ≡ eqb b 2
+chosen-of : (b : ℕ) → isChosen (phaseFrom b) ≡ eqb b 2
 unfolding isChosen
 chosen-of zero = refl
 chosen-of (suc zero) = refl
 chosen-of (suc (suc zero)) = refl
 chosen-of (suc (suc (suc n))) = sym (ne-eqb (suc (suc (suc n))) 2 (λ e. omega arith))
 
-module _ (s x : List ℕ) (long : length s ≡ 681) {c : ℕ} (w : Widened (getD x 0 0) c) where
-  grants-8 : length (map grantsOf (rows 8 5 (drop 4 s))) ≡ 8
-  grants-8 = length-map (rows 8 5 (drop 4 s)) grantsOf ∙ rows-length 8 5 (drop 4 s)
+module _ (s x : List ℕ) (long : length s ≡ stateLength) {c : ℕ} (w : Widened (getD x ownerAt 0) c) where
+  grants-long : length (map grantsFrom (rows credentialCount credentialSize (drop credentialsAt s))) ≡ credentialCount
+  grants-long = length-map (rows credentialCount credentialSize (drop credentialsAt s)) grantsFrom ∙ rows-length credentialCount credentialSize (drop credentialsAt s)
 
-  pub owner-none : 8 ≤ c → false ≡ isOwned (stateOf s) (processOf x)
-  unfolding isOwned processOf provisioned
+  pub owner-none : credentialCount ≤ c → false ≡ isOwned (stateOf s) (processFrom x)
+  unfolding isOwned processFrom provisioned
   owner-none h =
-      let e : getD (map grantsOf (rows 8 5 (drop 4 s))) (getD x 0 0) unprovisioned ≡ unprovisioned =
-      List·getD-eq-default (map grantsOf (rows 8 5 (drop 4 s))) unprovisioned (omega (arith, grants-8, w .is))
+      let e : getD (map grantsFrom (rows credentialCount credentialSize (drop credentialsAt s))) (getD x ownerAt 0) unprovisioned ≡ unprovisioned =
+      List·getD-eq-default (map grantsFrom (rows credentialCount credentialSize (drop credentialsAt s))) unprovisioned (omega (arith, grants-long, w .is))
       in
-      let none : getD (map grantsOf (rows 8 5 (drop 4 s))) (getD x 0 0) unprovisioned .provisioned ≡ false = ap (λ (g : Grants). g .provisioned) e in
+      let none : getD (map grantsFrom (rows credentialCount credentialSize (drop credentialsAt s))) (getD x ownerAt 0) unprovisioned .provisioned ≡ false = ap (λ (g : Grants). g .provisioned) e in
       rw (state-in s long, none)
 
-  flag : c < 8 → getD (map grantsOf (rows 8 5 (drop 4 s))) (getD x 0 0) unprovisioned .provisioned ≡ eqb (getD s (4 + c * 5) 0) 1
-  unfolding grantsOf
+  flag : c < credentialCount → getD (map grantsFrom (rows credentialCount credentialSize (drop credentialsAt s))) (getD x ownerAt 0) unprovisioned .provisioned ≡ eqb (getD s (credentialsAt + c * credentialSize) 0) 1
+  unfolding grantsFrom
   flag h =
-      let p : 0 < 4 + c * 5 + 5 - (4 + c * 5) = omega arith in
-      rw (← w .is, map-part grantsOf 8 5 4 s c unprovisioned h, getD-take (4 + c * 5 + 5 - (4 + c * 5)) (drop (4 + c * 5) s) 0 0 p, getD-drop (4 + c * 5) s 0 0, add-zero)
+      let p : 0 < credentialsAt + c * credentialSize + credentialSize - (credentialsAt + c * credentialSize) = omega arith in
+      rw (← w .is, map-part grantsFrom credentialCount credentialSize credentialsAt s c unprovisioned h, getD-take (credentialsAt + c * credentialSize + credentialSize - (credentialsAt + c * credentialSize)) (drop (credentialsAt + c * credentialSize) s) 0 0 p, getD-drop (credentialsAt + c * credentialSize) s 0 0, add-zero)
 
-  module _ (h : c < 8) where
-    pub owner-not : (getD s (4 + c * 5) 0 ≡ 1 → ⊥) → false ≡ isOwned (stateOf s) (processOf x)
-    unfolding isOwned processOf provisioned
-    owner-not n = rw (state-in s long, flag h, ne-eqb (getD s (4 + c * 5) 0) 1 n)
+  module _ (h : c < credentialCount) where
+    pub owner-not : (getD s (credentialsAt + c * credentialSize) 0 ≡ 1 → ⊥) → false ≡ isOwned (stateOf s) (processFrom x)
+    unfolding isOwned processFrom provisioned
+    owner-not n = rw (state-in s long, flag h, ne-eqb (getD s (credentialsAt + c * credentialSize) 0) 1 n)
 
-    module _ (f : getD s (4 + c * 5) 0 ≡ 1) where
-      pub owner-saved : 2 ≤ getD x 1 0 → true ≡ isOwned (stateOf s) (processOf x)
-      unfolding isOwned processOf provisioned isActiveIn
-      owner-saved k = rw (state-in s long, flag h, eq-eqb (getD s (4 + c * 5) 0) 1 f, kind-saved (getD x 1 0) k)
+    module _ (f : getD s (credentialsAt + c * credentialSize) 0 ≡ 1) where
+      pub owner-saved : 2 ≤ getD x kindAt 0 → true ≡ isOwned (stateOf s) (processFrom x)
+      unfolding isOwned processFrom provisioned isActiveIn
+      owner-saved k = rw (state-in s long, flag h, eq-eqb (getD s (credentialsAt + c * credentialSize) 0) 1 f, kind-saved (getD x kindAt 0) k)
 
-      active : (k : ℕ) → k < 2 → (isUser (kindOf k) || isElevation (kindOf k)) ≡ true
+      active : (k : ℕ) → k < 2 → (isUser (kindFrom k) || isElevation (kindFrom k)) ≡ true
       active zero l = refl
       active (suc zero) l = refl
       active (suc (suc k)) l = absurd (omega arith)
 
-      module _ (k : getD x 1 0 < 2) {t : ℕ} (u : Widened (getD x 2 0) t) where
-        seated : isOwned (stateOf s) (processOf x) ≡ isChosen (getD (map sessionOf (rows 4 1 s)) (getD x 2 0) closedSession .phase)
-        unfolding isOwned processOf provisioned isActiveIn phaseOf
+      module _ (k : getD x kindAt 0 < 2) {t : ℕ} (u : Widened (getD x sessionAt 0) t) where
+        seated : isOwned (stateOf s) (processFrom x) ≡ isChosen (getD (map sessionFrom (rows sessionCount sessionSize s)) (getD x sessionAt 0) closedSession .phase)
+        unfolding isOwned processFrom provisioned isActiveIn phaseOf
         seated =
-            rw (state-in s long, flag h, eq-eqb (getD s (4 + c * 5) 0) 1 f, active (getD x 1 0) k, eq-eqb (getD x 2 0) (getD x 2 0) refl)
+            rw (state-in s long, flag h, eq-eqb (getD s (credentialsAt + c * credentialSize) 0) 1 f, active (getD x kindAt 0) k, eq-eqb (getD x sessionAt 0) (getD x sessionAt 0) refl)
 
-        pub owner-nowhere : 4 ≤ t → false ≡ isOwned (stateOf s) (processOf x)
+        pub owner-nowhere : sessionCount ≤ t → false ≡ isOwned (stateOf s) (processFrom x)
         unfolding isChosen
         owner-nowhere z =
-            let l : length (map sessionOf (rows 4 1 s)) ≡ 4 = length-map (rows 4 1 s) sessionOf ∙ rows-length 4 1 s in
-            let e : getD (map sessionOf (rows 4 1 s)) (getD x 2 0) closedSession ≡ closedSession =
-            List·getD-eq-default (map sessionOf (rows 4 1 s)) closedSession (omega (arith, l, u .is))
+            let l : length (map sessionFrom (rows sessionCount sessionSize s)) ≡ sessionCount = length-map (rows sessionCount sessionSize s) sessionFrom ∙ rows-length sessionCount sessionSize s in
+            let e : getD (map sessionFrom (rows sessionCount sessionSize s)) (getD x sessionAt 0) closedSession ≡ closedSession =
+            List·getD-eq-default (map sessionFrom (rows sessionCount sessionSize s)) closedSession (omega (arith, l, u .is))
             in
             sym (seated ∙ rw e)
 
-        pub owner-there : t < 4 → eqb (getD s t 0) 2 ≡ isOwned (stateOf s) (processOf x)
-        unfolding sessionOf
+        pub owner-there : t < sessionCount → eqb (getD s t 0) 2 ≡ isOwned (stateOf s) (processFrom x)
+        unfolding sessionFrom
         owner-there z =
             let p : 0 < 0 + t * 1 + 1 - (0 + t * 1) = omega arith in
             let q : 0 + t * 1 ≡ t = omega arith in
-            let e : getD (map sessionOf (rows 4 1 s)) (getD x 2 0) closedSession .phase ≡ phaseNumbered (getD s t 0) =
-            rw (← u .is, map-part sessionOf 4 1 0 s t closedSession z, getD-take (0 + t * 1 + 1 - (0 + t * 1)) (drop (0 + t * 1) s) 0 0 p, getD-drop (0 + t * 1) s 0 0, q, add-zero)
+            let e : getD (map sessionFrom (rows sessionCount sessionSize s)) (getD x sessionAt 0) closedSession .phase ≡ phaseFrom (getD s t 0) =
+            rw (← u .is, map-part sessionFrom sessionCount sessionSize sessionsAt s t closedSession z, getD-take (0 + t * 1 + 1 - (0 + t * 1)) (drop (0 + t * 1) s) 0 0 p, getD-drop (0 + t * 1) s 0 0, q, add-zero)
             in
             sym (seated ∙ rw e (chosen-of (getD s t 0)))
 
 -- ---- the rows of a slice of 681 bytes
-module _ {s : List ℕ} {i : ℕ} (v : RowsTo sessionFits 4 1 0 s i) (h : i < 4) where
+module _ {s : List ℕ} {i : ℕ} (v : RowsTo sessionFits sessionCount sessionSize sessionsAt s i) (h : i < sessionCount) where
   at-row : sessionFits (take (0 + i * 1 + 1 - (0 + i * 1)) (drop (0 + i * 1) s)) ≡ leb (getD s i 0) 2
   unfolding sessionFits
   at-row =
@@ -613,13 +614,13 @@ module _ {s : List ℕ} {i : ℕ} (v : RowsTo sessionFits 4 1 0 s i) (h : i < 4)
       let q : 0 + i * 1 ≡ i = omega arith in
       rw (getD-take (0 + i * 1 + 1 - (0 + i * 1)) (drop (0 + i * 1) s) 0 0 p, getD-drop (0 + i * 1) s 0 0, q, add-zero)
 
-  pub session-on : getD s i 0 ≤ 2 → RowsTo sessionFits 4 1 0 s (i + 1)
+  pub session-on : getD s i 0 ≤ 2 → RowsTo sessionFits sessionCount sessionSize sessionsAt s (i + 1)
   session-on k = rows-on {b = true} v h (sym (at-row ∙ le-leb (getD s i 0) 2 k)) refl
 
-  pub session-fail : 2 < getD s i 0 → false ≡ every sessionFits (rows 4 1 s)
+  pub session-fail : 2 < getD s i 0 → false ≡ every sessionFits (rows sessionCount sessionSize s)
   session-fail k = rows-fail {b = false} v h (sym (at-row ∙ lt-leb (getD s i 0) 2 k)) refl
 
-pub session-all : {s : List ℕ} {i : ℕ} → RowsTo sessionFits 4 1 0 s i → 4 ≤ i → true ≡ every sessionFits (rows 4 1 s)
+pub session-all : {s : List ℕ} {i : ℕ} → RowsTo sessionFits sessionCount sessionSize sessionsAt s i → sessionCount ≤ i → true ≡ every sessionFits (rows sessionCount sessionSize s)
 session-all v h = rows-all v h
 
 -- each place by itself
@@ -628,7 +629,7 @@ module _ (s x : List ℕ) {p : Bool} (e : p ≡ processFits x) where
   unfolding stands
   stands-out t = rw (← e, not-true p t)
 
-  pub stands-owned : not p ≡ false → {q : Bool} → q ≡ isOwned (stateOf s) (processOf x) → q ≡ stands s x
+  pub stands-owned : not p ≡ false → {q : Bool} → q ≡ isOwned (stateOf s) (processFrom x) → q ≡ stands s x
   unfolding stands
   stands-owned t f = f ∙ rw (← e, not-false p t)
 
@@ -637,25 +638,25 @@ interchange true b true d = refl
 interchange true b false d = and-false b
 interchange false b c d = refl
 
-stand-both : (s : List ℕ) (l : List (List ℕ)) → every (stands s) l ≡ (every processFits l && every (isOwned (stateOf s)) (map processOf l))
+stand-both : (s : List ℕ) (l : List (List ℕ)) → every (stands s) l ≡ (every processFits l && every (isOwned (stateOf s)) (map processFrom l))
 unfolding every stands
 stand-both s [] = refl
 stand-both s (x ∷ l) =
     ap (λ (b : Bool). stands s x && b) (stand-both s l)
-    ∙ interchange (processFits x) (isOwned (stateOf s) (processOf x)) (every processFits l) (every (isOwned (stateOf s)) (map processOf l))
+    ∙ interchange (processFits x) (isOwned (stateOf s) (processFrom x)) (every processFits l) (every (isOwned (stateOf s)) (map processFrom l))
 
 -- the place at i with the later ones
-pub apart-begin : {f : Process → Bool} (n : ℕ) (s : List ℕ) (i : ℕ) → i < n → RecordsTo f processOf n 53 45 s (i + 1) (i + 1)
-apart-begin {f} n s i h = records-begin f processOf n 53 45 s (i + 1) (omega arith)
+pub apart-begin : {f : Process → Bool} (n : ℕ) (s : List ℕ) (i : ℕ) → i < n → RecordsTo f processFrom n placeSize placesAt s (i + 1) (i + 1)
+apart-begin {f} n s i h = records-begin f processFrom n placeSize placesAt s (i + 1) (omega arith)
 
-module _ {n : ℕ} {s : List ℕ} {i a j : ℕ} {b : Bool} (v : RecordsTo (areApart (getD (map processOf (rows n 53 (drop 45 s))) i freePlace)) processOf n 53 45 s a j) (k : i < n) (h : j < n) (e : b ≡ areApart (processOf (take (45 + i * 53 + 53 - (45 + i * 53)) (drop (45 + i * 53) s))) (processOf (take (45 + j * 53 + 53 - (45 + j * 53)) (drop (45 + j * 53) s)))) where
-  with-first : b ≡ areApart (getD (map processOf (rows n 53 (drop 45 s))) i freePlace) (processOf (take (45 + j * 53 + 53 - (45 + j * 53)) (drop (45 + j * 53) s)))
-  with-first = e ∙ ap (λ (p : Process). areApart p (processOf (take (45 + j * 53 + 53 - (45 + j * 53)) (drop (45 + j * 53) s)))) (sym (map-part processOf n 53 45 s i freePlace k))
+module _ {n : ℕ} {s : List ℕ} {i a j : ℕ} {b : Bool} (v : RecordsTo (areApart (getD (map processFrom (rows n placeSize (drop placesAt s))) i freePlace)) processFrom n placeSize placesAt s a j) (k : i < n) (h : j < n) (e : b ≡ areApart (processFrom (take (placesAt + i * placeSize + placeSize - (placesAt + i * placeSize)) (drop (placesAt + i * placeSize) s))) (processFrom (take (placesAt + j * placeSize + placeSize - (placesAt + j * placeSize)) (drop (placesAt + j * placeSize) s)))) where
+  with-first : b ≡ areApart (getD (map processFrom (rows n placeSize (drop placesAt s))) i freePlace) (processFrom (take (placesAt + j * placeSize + placeSize - (placesAt + j * placeSize)) (drop (placesAt + j * placeSize) s)))
+  with-first = e ∙ ap (λ (p : Process). areApart p (processFrom (take (placesAt + j * placeSize + placeSize - (placesAt + j * placeSize)) (drop (placesAt + j * placeSize) s)))) (sym (map-part processFrom n placeSize placesAt s i freePlace k))
 
-  pub apart-on : not b ≡ false → RecordsTo (areApart (getD (map processOf (rows n 53 (drop 45 s))) i freePlace)) processOf n 53 45 s a (j + 1)
+  pub apart-on : not b ≡ false → RecordsTo (areApart (getD (map processFrom (rows n placeSize (drop placesAt s))) i freePlace)) processFrom n placeSize placesAt s a (j + 1)
   apart-on q = records-on v h with-first q
 
-  pub apart-fail : not b ≡ true → false ≡ every (areApart (getD (map processOf (rows n 53 (drop 45 s))) i freePlace)) (drop a (map processOf (rows n 53 (drop 45 s))))
+  pub apart-fail : not b ≡ true → false ≡ every (areApart (getD (map processFrom (rows n placeSize (drop placesAt s))) i freePlace)) (drop a (map processFrom (rows n placeSize (drop placesAt s))))
   apart-fail q = records-fail v h with-first q
 
 -- ---- all together, the cheapest tests first: the first that fails, and the last
@@ -669,9 +670,9 @@ in-order true false p false o a = refl
 in-order false g p true o a = refl
 in-order false g p false o a = refl
 
-pub holds-short : (b : List ℕ) → (length b ≡ 681 → ⊥) → false ≡ holdsState b
+pub holds-short : (b : List ℕ) → (length b ≡ stateLength → ⊥) → false ≡ holdsState b
 unfolding holdsState shaped
-holds-short b n = rw (ne-eqb (length b) 681 n)
+holds-short b n = rw (ne-eqb (length b) stateLength n)
 
 few-apart : {A : Type 0} (f : A → A → Bool) (l : List A) → length l < 2 → pairwise f l ≡ true
 unfolding pairwise every
@@ -679,51 +680,51 @@ few-apart f [] h = refl
 few-apart f (x ∷ []) h = refl
 few-apart f (x ∷ (y ∷ l)) h = absurd (omega arith)
 
-module _ (b : List ℕ) (h : length b ≡ 681) {n : ℕ} (w : Widened (getD b 44 0) n) where
-  pub holds-many : 12 < n → false ≡ holdsState b
+module _ (b : List ℕ) (h : length b ≡ stateLength) {n : ℕ} (w : Widened (getD b countAt 0) n) where
+  pub holds-many : places < n → false ≡ holdsState b
   unfolding holdsState shaped countIn
   holds-many k =
-      rw (eq-eqb (length b) 681 h, ← w .is, lt-leb n 12 k, and-false (every grantsFit (rows 8 5 (drop 4 b))), and-false (every sessionFits (rows 4 1 b)))
+      rw (eq-eqb (length b) stateLength h, ← w .is, lt-leb n places k, and-false (every grantsFit (rows credentialCount credentialSize (drop credentialsAt b))), and-false (every sessionFits (rows sessionCount sessionSize b)))
 
-  module _ (k : n ≤ 12) where
-    as-written : holdsState b ≡ (every sessionFits (rows 4 1 b) && (every grantsFit (rows 8 5 (drop 4 b)) && (every processFits (rows n 53 (drop 45 b)) && every isZero (drop (45 + n * 53) b))) && (every (isOwned (stateOf b)) (map processOf (rows n 53 (drop 45 b))) && pairwise areApart (map processOf (rows n 53 (drop 45 b)))))
+  module _ (k : n ≤ places) where
+    as-written : holdsState b ≡ (every sessionFits (rows sessionCount sessionSize b) && (every grantsFit (rows credentialCount credentialSize (drop credentialsAt b)) && (every processFits (rows n placeSize (drop placesAt b)) && every isZero (drop (placesAt + n * placeSize) b))) && (every (isOwned (stateOf b)) (map processFrom (rows n placeSize (drop placesAt b))) && pairwise areApart (map processFrom (rows n placeSize (drop placesAt b)))))
     unfolding holdsState shaped countIn sound standing placesIn
     as-written =
-        rw (state-in b h, eq-eqb (length b) 681 h, ← w .is, le-leb n 12 k, map-take processOf n (rows 12 53 (drop 45 b)), rows-take n 12 53 (drop 45 b) k)
+        rw (state-in b h, eq-eqb (length b) stateLength h, ← w .is, le-leb n places k, map-take processFrom n (rows places placeSize (drop placesAt b)), rows-take n places placeSize (drop placesAt b) k)
 
-    tests : holdsState b ≡ (every isZero (drop (45 + n * 53) b) && (every sessionFits (rows 4 1 b) && (every grantsFit (rows 8 5 (drop 4 b)) && (every (stands b) (rows n 53 (drop 45 b)) && pairwise areApart (map processOf (rows n 53 (drop 45 b)))))))
+    tests : holdsState b ≡ (every isZero (drop (placesAt + n * placeSize) b) && (every sessionFits (rows sessionCount sessionSize b) && (every grantsFit (rows credentialCount credentialSize (drop credentialsAt b)) && (every (stands b) (rows n placeSize (drop placesAt b)) && pairwise areApart (map processFrom (rows n placeSize (drop placesAt b)))))))
     tests =
         as-written
-        ∙ in-order (every sessionFits (rows 4 1 b)) (every grantsFit (rows 8 5 (drop 4 b))) (every processFits (rows n 53 (drop 45 b))) (every isZero (drop (45 + n * 53) b)) (every (isOwned (stateOf b)) (map processOf (rows n 53 (drop 45 b)))) (pairwise areApart (map processOf (rows n 53 (drop 45 b))))
-        ∙ rw (stand-both b (rows n 53 (drop 45 b)))
+        ∙ in-order (every sessionFits (rows sessionCount sessionSize b)) (every grantsFit (rows credentialCount credentialSize (drop credentialsAt b))) (every processFits (rows n placeSize (drop placesAt b))) (every isZero (drop (placesAt + n * placeSize) b)) (every (isOwned (stateOf b)) (map processFrom (rows n placeSize (drop placesAt b)))) (pairwise areApart (map processFrom (rows n placeSize (drop placesAt b))))
+        ∙ rw (stand-both b (rows n placeSize (drop placesAt b)))
 
-    module _ {z : Bool} (i : z ≡ every isZero (drop (45 + n * 53) b)) where
+    module _ {z : Bool} (i : z ≡ every isZero (drop (placesAt + n * placeSize) b)) where
       pub holds-free : not z ≡ true → false ≡ holdsState b
       holds-free y = sym (tests ∙ rw (← i, not-true z y))
 
-      module _ (y : not z ≡ false) {p : Bool} (e : p ≡ every sessionFits (rows 4 1 b)) where
+      module _ (y : not z ≡ false) {p : Bool} (e : p ≡ every sessionFits (rows sessionCount sessionSize b)) where
         pub holds-sessions : not p ≡ true → false ≡ holdsState b
         holds-sessions t = sym (tests ∙ rw (← i, not-false z y, ← e, not-true p t))
 
-        module _ (t : not p ≡ false) {q : Bool} (f : q ≡ every grantsFit (rows 8 5 (drop 4 b))) where
+        module _ (t : not p ≡ false) {q : Bool} (f : q ≡ every grantsFit (rows credentialCount credentialSize (drop credentialsAt b))) where
           pub holds-credentials : not q ≡ true → false ≡ holdsState b
           holds-credentials u = sym (tests ∙ rw (← i, not-false z y, ← e, not-false p t, ← f, not-true q u))
 
-          module _ (u : not q ≡ false) {r : Bool} (g : r ≡ every (stands b) (rows n 53 (drop 45 b))) where
+          module _ (u : not q ≡ false) {r : Bool} (g : r ≡ every (stands b) (rows n placeSize (drop placesAt b))) where
             pub holds-places : not r ≡ true → false ≡ holdsState b
             holds-places x = sym (tests ∙ rw (← i, not-false z y, ← e, not-false p t, ← f, not-false q u, ← g, not-true r x))
 
-            last : not r ≡ false → pairwise areApart (map processOf (rows n 53 (drop 45 b))) ≡ holdsState b
+            last : not r ≡ false → pairwise areApart (map processFrom (rows n placeSize (drop placesAt b))) ≡ holdsState b
             last x = sym (tests ∙ rw (← i, not-false z y, ← e, not-false p t, ← f, not-false q u, ← g, not-false r x))
 
             pub holds-few : not r ≡ false → n < 2 → true ≡ holdsState b
             holds-few x l =
-                let m : length (map processOf (rows n 53 (drop 45 b))) < 2 = rw (length-map, rows-length) l in
-                sym (few-apart areApart (map processOf (rows n 53 (drop 45 b))) m) ∙ last x
+                let m : length (map processFrom (rows n placeSize (drop placesAt b))) < 2 = rw (length-map, rows-length) l in
+                sym (few-apart areApart (map processFrom (rows n placeSize (drop placesAt b))) m) ∙ last x
 
-            pub holds-pairs : not r ≡ false → {a : Bool} → a ≡ pairwise areApart (map processOf (rows n 53 (drop 45 (take (length b - 0) (drop 0 b))))) → a ≡ holdsState b
+            pub holds-pairs : not r ≡ false → {a : Bool} → a ≡ pairwise areApart (map processFrom (rows n placeSize (drop placesAt (take (length b - 0) (drop 0 b))))) → a ≡ holdsState b
             holds-pairs x m =
                 let all : take (length b - 0) b ≡ b = take-all (length b - 0) b (omega arith) in
-                m ∙ ap (λ (l : List ℕ). pairwise areApart (map processOf (rows n 53 (drop 45 l)))) all ∙ last x
+                m ∙ ap (λ (l : List ℕ). pairwise areApart (map processFrom (rows n placeSize (drop placesAt l)))) all ∙ last x
 
 pub ruleset rules = (needs, length-mapped, grants-high, grants-on, grants-off, process-credential, process-type, process-session, process-user, process-elevation, process-saved, same-begin, same-all, name-first, name-second, name-third, rivals-elsewhere, rivals-other, rivals-users, rivals-last, apart-rivals, apart-name, owner-none, owner-not, owner-saved, owner-nowhere, owner-there, grants-part, place-part, session-on, session-fail, session-all, stands-out, stands-owned, apart-begin, apart-on, apart-fail, holds-short, holds-many, holds-free, holds-sessions, holds-credentials, holds-places, holds-pairs, holds-few, parted-begin, parted-on, parted-all, rows-begin, rows-on, rows-fail, rows-all, records-begin, records-on, records-all, paired-begin, paired-on, paired-fail, paired-all, folded-begin, folded-on, folded-all, seat-user, seat-elevation, seat-saved, marks-begin, marks-on, marks-all, met-at, clear-none)

@@ -6,9 +6,9 @@ use mathlib.Core.Bool.{Bool, true}
 use mathlib.Core.List.{List, [], _∷_, map}
 use lib.Bits.{bitXor}
 use lib.ListN.{drop, getD}
-use Rattle.codec.specs.Codec.{rows, every}
+use Rattle.rows.specs.Rows.{rows, every}
 use Rattle.table.specs.Table.{freePlace}
-use Rattle.layout.specs.Layout.{processOf, areApart}
+use Rattle.layout.specs.Layout.{ownerAt, kindAt, sessionAt, nameAt, placeSize, placesAt, processFrom, areApart}
 
 -- a byte with all bytes of a list, by exclusive or
 unfoldable pub folded : ℕ → List ℕ → ℕ
@@ -17,7 +17,7 @@ folded d (b ∷ bs) = folded (bitXor d b) bs
 
 -- of the name: its bytes together. There are 128, so that the table is short; a name of ASCII text loses nothing by the remainder
 unfoldable pub nameMark : List ℕ → ℕ
-nameMark row = folded 0 (drop 5 row) % 128
+nameMark row = folded 0 (drop nameAt row) % 128
 
 -- by the type: of a user process its session and its credential; of an elevation its session. A saved process has no seat, and has the mark
 -- of its name again
@@ -27,7 +27,7 @@ seatNumbered (suc zero) session credential name = 160 + session % 4
 seatNumbered (suc (suc kind)) session credential name = name
 
 unfoldable pub seatMark : List ℕ → ℕ
-seatMark row = seatNumbered (getD row 1 0) (getD row 2 0) (getD row 0 0) (nameMark row)
+seatMark row = seatNumbered (getD row kindAt 0) (getD row sessionAt 0) (getD row ownerAt 0) (nameMark row)
 
 -- a mark, within the table of marks
 pub record Mark (x r : ℕ) : Type 0 where
@@ -36,7 +36,7 @@ pub record Mark (x r : ℕ) : Type 0 where
 
 -- the place at i is apart from each later one of the first n
 abbrev pub laterApart : List ℕ → ℕ → ℕ → Bool
-laterApart s n i = every (areApart (getD (map processOf (rows n 53 (drop 45 s))) i freePlace)) (drop (i + 1) (map processOf (rows n 53 (drop 45 s))))
+laterApart s n i = every (areApart (getD (map processFrom (rows n placeSize (drop placesAt s))) i freePlace)) (drop (i + 1) (map processFrom (rows n placeSize (drop placesAt s))))
 
 -- the marks of a place that were met, 0 for none: where none was, a test passes
 pub record Met (met : ℕ) (test : Bool) : Type 0 where

@@ -3,11 +3,30 @@ ghost use mathlib.Core.Path.{_≡_};
 ghost use mathlib.Core.List.{map};
 ghost use Prim.Native.Nat.{_+_, _*_, _<_, _≤_};
 ghost use lib.ListN.{length, take, drop};
-ghost use Rattle.codec.specs.Codec.{rows, every, pairwise, isZero};
+ghost use Rattle.rows.specs.Bytes.{isZero};
+ghost use Rattle.rows.specs.Rows.{rows, every, pairwise};
 ghost use Rattle.names.specs.Names.{sameBytes};
-ghost use Rattle.layout.specs.Layout.{sessionFits, grantsFit, processOf, processFits, stateOf, isOwned, areRivals, areApart, holdsState};
+ghost use Rattle.layout.specs.Layout.{credentialSize, nameAt, placeSize, sessionSize, credentialsAt, placesAt, stateLength, sessionFits, grantsFit, processFrom, processFits, stateOf, isOwned, areRivals, areApart, holdsState};
 ghost use Rattle.state_test.specs.Marks.{nameMark, seatMark, Mark, laterApart, Met, AllMet};
 ghost use Rattle.state_test.specs.Stands.{stands};
+ghost use Rattle.claims.specs.Module.{sessionCount, credentialCount};
+ghost use Rattle.table.specs.Table.{places};
+use claims::CREDENTIALS;
+use claims::LAST_HANDLE;
+use claims::SESSIONS;
+use layout::COUNT_AT;
+use layout::CREDENTIAL_SIZE;
+use layout::CREDENTIALS_AT;
+use layout::FLAG_AT;
+use layout::KIND_AT;
+use layout::NAME_AT;
+use layout::NEXT_AT;
+use layout::OWNER_AT;
+use layout::PLACE_SIZE;
+use layout::PLACES_AT;
+use layout::SESSION_AT;
+use layout::STATE_LENGTH;
+use table::PLACES;
 
 // ---- bytes
 
@@ -31,11 +50,11 @@ fn same16<'a>(a: &'a [u8], b: &'a [u8], at: usize) -> bool
 // ---- the fields
 
 fn sessions_fit(s: &[u8]) -> bool
-    requires { ⌜ length (now s) ≡ 681 ⌝ }
-    ensures { λ r. ⌜ r ≡ every sessionFits (rows 4 1 (now (s .entry))) ⌝ }
+    requires { ⌜ length (now s) ≡ stateLength ⌝ }
+    ensures { λ r. ⌜ r ≡ every sessionFits (rows sessionCount sessionSize (now (s .entry))) ⌝ }
 {
     let mut i: usize = 0;
-    while i < 4 {
+    while i < SESSIONS {
         let phase = s[i];
         if 2 < phase {
             return false;
@@ -46,10 +65,10 @@ fn sessions_fit(s: &[u8]) -> bool
 }
 
 fn grants_fit(row: &[u8]) -> bool
-    requires { ⌜ length (now row) ≡ 5 ⌝ }
+    requires { ⌜ length (now row) ≡ credentialSize ⌝ }
     ensures { λ r. ⌜ r ≡ grantsFit (now (row .entry)) ⌝ }
 {
-    let flag = row[0];
+    let flag = row[FLAG_AT];
     if 1 < flag {
         return false;
     }
@@ -60,13 +79,13 @@ fn grants_fit(row: &[u8]) -> bool
 }
 
 fn credentials_fit(s: &[u8]) -> bool
-    requires { ⌜ length (now s) ≡ 681 ⌝ }
-    ensures { λ r. ⌜ r ≡ every grantsFit (rows 8 5 (drop 4 (now (s .entry)))) ⌝ }
+    requires { ⌜ length (now s) ≡ stateLength ⌝ }
+    ensures { λ r. ⌜ r ≡ every grantsFit (rows credentialCount credentialSize (drop credentialsAt (now (s .entry)))) ⌝ }
 {
     let mut i: usize = 0;
-    while i < 8 {
-        let a = 4 + i * 5;
-        let e = a + 5;
+    while i < CREDENTIALS {
+        let a = CREDENTIALS_AT + i * CREDENTIAL_SIZE;
+        let e = a + CREDENTIAL_SIZE;
         if !grants_fit(&s[a..e]) {
             return false;
         }
@@ -76,25 +95,25 @@ fn credentials_fit(s: &[u8]) -> bool
 }
 
 fn process_fits(row: &[u8]) -> bool
-    requires { ⌜ length (now row) ≡ 53 ⌝ }
+    requires { ⌜ length (now row) ≡ placeSize ⌝ }
     ensures { λ r. ⌜ r ≡ processFits (now (row .entry)) ⌝ }
 {
-    let kind = row[1];
-    let session = row[2];
-    if 7 < row[0] {
+    let kind = row[KIND_AT];
+    let session = row[SESSION_AT];
+    if 7 < row[OWNER_AT] {
         return false;
     }
     if 2 < kind {
         return false;
     }
-    if 3 < session {
+    if LAST_HANDLE < session {
         return false;
     }
     if kind == 0 {
         return true;
     }
     if kind == 1 {
-        return names::number16(row[3], row[4]) == 0;
+        return rows::number16(row, NEXT_AT) == 0;
     }
     session == 0
 }
@@ -104,13 +123,13 @@ fn process_fits(row: &[u8]) -> bool
 // Whether every byte from the place n on is zero. There is no exit, so that many are read at a time: those of a first part with those of a second.
 // Both are a multiple of 32 long, so that none is read by itself; they may overlap.
 fn are_free(s: &[u8], n: usize) -> bool
-    requires { ⌜ length (now s) ≡ 681 ⌝ }
-    requires { ⌜ n ≤ 12 ⌝ }
-    ensures { λ r. ⌜ r ≡ every isZero (drop (45 + n * 53) (now (s .entry))) ⌝ }
+    requires { ⌜ length (now s) ≡ stateLength ⌝ }
+    requires { ⌜ n ≤ places ⌝ }
+    ensures { λ r. ⌜ r ≡ every isZero (drop (placesAt + n * placeSize) (now (s .entry))) ⌝ }
 {
-    let first = 45 + n * 53;
-    let part = (681 - first + 63) / 64 * 32;
-    let second = 681 - part;
+    let first = PLACES_AT + n * PLACE_SIZE;
+    let part = (STATE_LENGTH - first + 63) / 64 * 32;
+    let second = STATE_LENGTH - part;
     let mut d: u8 = 0;
     let mut i: usize = 0;
     while i < part {
@@ -124,23 +143,23 @@ fn are_free(s: &[u8], n: usize) -> bool
 
 // Whether the owner of a place is provisioned, and its session open with version 1.0 where it is active.
 fn is_owned<'a>(s: &'a [u8], row: &'a [u8]) -> bool
-    requires { ⌜ length (now s) ≡ 681 ⌝ }
-    requires { ⌜ length (now row) ≡ 53 ⌝ }
-    ensures { λ r. ⌜ r ≡ isOwned (stateOf (now (s .entry))) (processOf (now (row .entry))) ⌝ }
+    requires { ⌜ length (now s) ≡ stateLength ⌝ }
+    requires { ⌜ length (now row) ≡ placeSize ⌝ }
+    ensures { λ r. ⌜ r ≡ isOwned (stateOf (now (s .entry))) (processFrom (now (row .entry))) ⌝ }
 {
-    let credential = state_read::wide(row[0]);
-    let kind = row[1];
-    let session = state_read::wide(row[2]);
-    if 8 <= credential {
+    let credential = rows::wide(row[OWNER_AT]);
+    let kind = row[KIND_AT];
+    let session = rows::wide(row[SESSION_AT]);
+    if CREDENTIALS <= credential {
         return false;
     }
-    if s[4 + credential * 5] != 1 {
+    if s[CREDENTIALS_AT + credential * CREDENTIAL_SIZE] != 1 {
         return false;
     }
     if 2 <= kind {
         return true;
     }
-    if 4 <= session {
+    if SESSIONS <= session {
         return false;
     }
     s[session] == 2
@@ -148,8 +167,8 @@ fn is_owned<'a>(s: &'a [u8], row: &'a [u8]) -> bool
 
 // Whether a place may stand by itself: its fields in their ranges, its owner and its session as they must be.
 fn stands<'a>(s: &'a [u8], row: &'a [u8]) -> bool
-    requires { ⌜ length (now s) ≡ 681 ⌝ }
-    requires { ⌜ length (now row) ≡ 53 ⌝ }
+    requires { ⌜ length (now s) ≡ stateLength ⌝ }
+    requires { ⌜ length (now row) ≡ placeSize ⌝ }
     ensures { λ r. ⌜ r ≡ stands (now (s .entry)) (now (row .entry)) ⌝ }
 {
     if !process_fits(row) {
@@ -159,14 +178,14 @@ fn stands<'a>(s: &'a [u8], row: &'a [u8]) -> bool
 }
 
 fn all_stand(s: &[u8], n: usize) -> bool
-    requires { ⌜ length (now s) ≡ 681 ⌝ }
-    requires { ⌜ n ≤ 12 ⌝ }
-    ensures { λ r. ⌜ r ≡ every (stands (now (s .entry))) (rows n 53 (drop 45 (now (s .entry)))) ⌝ }
+    requires { ⌜ length (now s) ≡ stateLength ⌝ }
+    requires { ⌜ n ≤ places ⌝ }
+    ensures { λ r. ⌜ r ≡ every (stands (now (s .entry))) (rows n placeSize (drop placesAt (now (s .entry)))) ⌝ }
 {
     let mut i: usize = 0;
     while i < n {
-        let a = 45 + i * 53;
-        let e = a + 53;
+        let a = PLACES_AT + i * PLACE_SIZE;
+        let e = a + PLACE_SIZE;
         if !stands(s, &s[a..e]) {
             return false;
         }
@@ -179,28 +198,28 @@ fn all_stand(s: &[u8], n: usize) -> bool
 
 // The mark of a place's name. There is no exit, so that many bytes are read at a time.
 fn name_mark(row: &[u8]) -> usize
-    requires { ⌜ length (now row) ≡ 53 ⌝ }
+    requires { ⌜ length (now row) ≡ placeSize ⌝ }
     ensures { λ r. ⌜ Mark (nameMark (now (row .entry))) r ⌝ }
 {
     let mut d: u8 = 0;
-    let mut i: usize = 5;
-    while i < 53 {
+    let mut i: usize = NAME_AT;
+    while i < PLACE_SIZE {
         d = d ^ row[i];
         i += 1;
     }
-    state_read::wide(d) % 128
+    rows::wide(d) % 128
 }
 
 // The mark of a place's seat: by remainders, so that any bytes have one.
 fn seat_mark(row: &[u8], name: usize) -> usize
-    requires { ⌜ length (now row) ≡ 53 ⌝ }
+    requires { ⌜ length (now row) ≡ placeSize ⌝ }
     requires { ⌜ Mark (nameMark (now row)) name ⌝ }
     ensures { λ r. ⌜ Mark (seatMark (now (row .entry))) r ⌝ }
 {
-    let kind = row[1];
-    let session = state_read::wide(row[2]) % 4;
+    let kind = row[KIND_AT];
+    let session = rows::wide(row[SESSION_AT]) % 4;
     if kind == 0 {
-        return 128 + session * 8 + state_read::wide(row[0]) % 8;
+        return 128 + session * 8 + rows::wide(row[OWNER_AT]) % 8;
     }
     if kind == 1 {
         return 160 + session;
@@ -210,18 +229,18 @@ fn seat_mark(row: &[u8], name: usize) -> usize
 
 // For each place, whether a later one has a mark of it: 0 where none has. It goes from the last place to the first, so that the table has the
 // marks of the later ones.
-fn marks_met(s: &[u8], n: usize) -> [u8; 12]
-    requires { ⌜ length (now s) ≡ 681 ⌝ }
-    requires { ⌜ n ≤ 12 ⌝ }
+fn marks_met(s: &[u8], n: usize) -> [u8; PLACES]
+    requires { ⌜ length (now s) ≡ stateLength ⌝ }
+    requires { ⌜ n ≤ places ⌝ }
     ensures { λ r. ⌜ AllMet (now (s .entry)) n r ⌝ }
 {
-    let mut met: [u8; 12] = [0; 12];
+    let mut met: [u8; PLACES] = [0; PLACES];
     let mut marks: [u8; 164] = [0; 164];
     let mut left = n;
     while 0 < left {
         let i = left - 1;
-        let a = 45 + i * 53;
-        let e = a + 53;
+        let a = PLACES_AT + i * PLACE_SIZE;
+        let e = a + PLACE_SIZE;
         let name = name_mark(&s[a..e]);
         let seat = seat_mark(&s[a..e], name);
         met[i] = marks[seat] | marks[name];
@@ -236,14 +255,14 @@ fn marks_met(s: &[u8], n: usize) -> [u8; 12]
 
 // Whether both places are the active user process of one session and credential, or both the elevation of one session.
 fn are_rivals<'a>(a: &'a [u8], b: &'a [u8]) -> bool
-    requires { ⌜ length (now a) ≡ 53 ⌝ }
-    requires { ⌜ length (now b) ≡ 53 ⌝ }
-    ensures { λ r. ⌜ r ≡ areRivals (processOf (now (a .entry))) (processOf (now (b .entry))) ⌝ }
+    requires { ⌜ length (now a) ≡ placeSize ⌝ }
+    requires { ⌜ length (now b) ≡ placeSize ⌝ }
+    ensures { λ r. ⌜ r ≡ areRivals (processFrom (now (a .entry))) (processFrom (now (b .entry))) ⌝ }
 {
-    let kind = a[1];
-    let other = b[1];
-    let session = a[2];
-    let elsewhere = b[2];
+    let kind = a[KIND_AT];
+    let other = b[KIND_AT];
+    let session = a[SESSION_AT];
+    let elsewhere = b[SESSION_AT];
     if session != elsewhere {
         return false;
     }
@@ -251,18 +270,18 @@ fn are_rivals<'a>(a: &'a [u8], b: &'a [u8]) -> bool
         return false;
     }
     if kind == 0 {
-        return a[0] == b[0];
+        return a[OWNER_AT] == b[OWNER_AT];
     }
     kind == 1
 }
 
 // Whether the names of two places agree in all 48 bytes: 16, then 16, then 16.
 fn same_name<'a>(a: &'a [u8], b: &'a [u8]) -> bool
-    requires { ⌜ length (now a) ≡ 53 ⌝ }
-    requires { ⌜ length (now b) ≡ 53 ⌝ }
-    ensures { λ r. ⌜ r ≡ sameBytes (drop 5 (now (a .entry))) (drop 5 (now (b .entry))) ⌝ }
+    requires { ⌜ length (now a) ≡ placeSize ⌝ }
+    requires { ⌜ length (now b) ≡ placeSize ⌝ }
+    ensures { λ r. ⌜ r ≡ sameBytes (drop nameAt (now (a .entry))) (drop nameAt (now (b .entry))) ⌝ }
 {
-    if !same16(a, b, 5) {
+    if !same16(a, b, NAME_AT) {
         return false;
     }
     if !same16(a, b, 21) {
@@ -272,9 +291,9 @@ fn same_name<'a>(a: &'a [u8], b: &'a [u8]) -> bool
 }
 
 fn are_apart<'a>(a: &'a [u8], b: &'a [u8]) -> bool
-    requires { ⌜ length (now a) ≡ 53 ⌝ }
-    requires { ⌜ length (now b) ≡ 53 ⌝ }
-    ensures { λ r. ⌜ r ≡ areApart (processOf (now (a .entry))) (processOf (now (b .entry))) ⌝ }
+    requires { ⌜ length (now a) ≡ placeSize ⌝ }
+    requires { ⌜ length (now b) ≡ placeSize ⌝ }
+    ensures { λ r. ⌜ r ≡ areApart (processFrom (now (a .entry))) (processFrom (now (b .entry))) ⌝ }
 {
     if are_rivals(a, b) {
         return false;
@@ -284,17 +303,17 @@ fn are_apart<'a>(a: &'a [u8], b: &'a [u8]) -> bool
 
 // Whether the place at i is apart from each later one.
 fn is_apart(s: &[u8], n: usize, i: usize) -> bool
-    requires { ⌜ length (now s) ≡ 681 ⌝ }
-    requires { ⌜ n ≤ 12 ⌝ }
+    requires { ⌜ length (now s) ≡ stateLength ⌝ }
+    requires { ⌜ n ≤ places ⌝ }
     requires { ⌜ i < n ⌝ }
     ensures { λ r. ⌜ r ≡ laterApart (now (s .entry)) n i ⌝ }
 {
-    let a = 45 + i * 53;
-    let e = a + 53;
+    let a = PLACES_AT + i * PLACE_SIZE;
+    let e = a + PLACE_SIZE;
     let mut j = i + 1;
     while j < n {
-        let f = 45 + j * 53;
-        let g = f + 53;
+        let f = PLACES_AT + j * PLACE_SIZE;
+        let g = f + PLACE_SIZE;
         if !are_apart(&s[a..e], &s[f..g]) {
             return false;
         }
@@ -305,8 +324,8 @@ fn is_apart(s: &[u8], n: usize, i: usize) -> bool
 
 // Whether the place at i is apart from each later one, where `met` is 0 if none of those has a mark of it: then none is compared.
 fn is_clear(s: &[u8], n: usize, i: usize, met: u8) -> bool
-    requires { ⌜ length (now s) ≡ 681 ⌝ }
-    requires { ⌜ n ≤ 12 ⌝ }
+    requires { ⌜ length (now s) ≡ stateLength ⌝ }
+    requires { ⌜ n ≤ places ⌝ }
     requires { ⌜ i < n ⌝ }
     requires { ⌜ Met met (laterApart (now s) n i) ⌝ }
     ensures { λ r. ⌜ r ≡ laterApart (now (s .entry)) n i ⌝ }
@@ -318,9 +337,9 @@ fn is_clear(s: &[u8], n: usize, i: usize, met: u8) -> bool
 }
 
 fn all_apart(s: &[u8], n: usize) -> bool
-    requires { ⌜ length (now s) ≡ 681 ⌝ }
-    requires { ⌜ n ≤ 12 ⌝ }
-    ensures { λ r. ⌜ r ≡ pairwise areApart (map processOf (rows n 53 (drop 45 (now (s .entry))))) ⌝ }
+    requires { ⌜ length (now s) ≡ stateLength ⌝ }
+    requires { ⌜ n ≤ places ⌝ }
+    ensures { λ r. ⌜ r ≡ pairwise areApart (map processFrom (rows n placeSize (drop placesAt (now (s .entry))))) ⌝ }
 {
     let met = marks_met(s, n);
     let mut i: usize = 0;
@@ -340,11 +359,11 @@ fn all_apart(s: &[u8], n: usize) -> bool
 pub fn holds(s: &[u8]) -> bool
     ensures { λ r. ⌜ r ≡ holdsState (now (s .entry)) ⌝ }
 {
-    if s.len() != 681 {
+    if s.len() != STATE_LENGTH {
         return false;
     }
-    let n = state_read::wide(s[44]);
-    if 12 < n {
+    let n = rows::wide(s[COUNT_AT]);
+    if PLACES < n {
         return false;
     }
     if !are_free(s, n) {

@@ -1,27 +1,41 @@
 // The bytes of a state, written into a slice of 681. docs/STATE.md draws the layout.
 ghost use mathlib.Core.Path.{_≡_};
 ghost use mathlib.Core.List.{map, [], _∷_};
+ghost use Prim.Native.Nat.{_*_};
 ghost use lib.ListN.{length};
 ghost use Rattle.lists.specs.Lists.{join};
-ghost use Rattle.codec.specs.Codec.{Put};
-ghost use Rattle.layout.specs.Layout.{byteOf, phaseNumber, sessionBytes, flagNumber, grantsBytes, processBytes, stateWritten, nextWritten};
+ghost use Rattle.rows.specs.Bytes.{byteOf};
+ghost use Rattle.rows.specs.Rows.{Put};
+ghost use Rattle.layout.specs.Layout.{credentialSize, placeSize, sessionsAt, sessionSize, credentialsAt, countAt, placesAt, stateLength, phaseByte, kindByte, sessionBytes, flagNumber, grantsBytes, processBytes, stateWritten, nextWritten};
+ghost use Rattle.claims.specs.Module.{sessionCount, credentialCount};
+ghost use Rattle.table.specs.Table.{places};
+use claims::CREDENTIALS;
 use claims::Grants;
 use claims::Phase;
+use claims::SESSIONS;
 use claims::SessionState;
 use claims::State;
+use layout::COUNT_AT;
+use layout::CREDENTIAL_SIZE;
+use layout::CREDENTIALS_AT;
+use layout::FLAG_AT;
+use layout::KIND_AT;
+use layout::NAME_AT;
+use layout::NEXT_AT;
+use layout::OWNER_AT;
+use layout::PLACE_SIZE;
+use layout::PLACES_AT;
+use layout::SESSION_AT;
+use layout::STATE_LENGTH;
+use layout::WORD_AT;
+use names::Kind;
+use table::PLACES;
 use table::Process;
-
-// A number in one byte; one that a byte does not hold stands for none.
-fn byte_of(n: usize) -> u8
-    ensures { λ r. ⌜ r ≡ byteOf n ⌝ }
-{
-    if n < 256 { n as u8 } else { 255 }
-}
 
 // ---- a session
 
-fn phase_number(phase: Phase) -> u8
-    ensures { λ r. ⌜ r ≡ phaseNumber phase ⌝ }
+fn phase_byte(phase: Phase) -> u8
+    ensures { λ r. ⌜ r ≡ phaseByte phase ⌝ }
 {
     match phase {
         Phase::Closed => 0,
@@ -30,15 +44,15 @@ fn phase_number(phase: Phase) -> u8
     }
 }
 
-fn put_sessions(s: &mut [u8], l: [SessionState; 4])
-    requires { ⌜ length (now s) ≡ 681 ⌝ }
-    ensures { λ r. ⌜ Put 0 4 (join (map sessionBytes l)) (now (s .entry)) (now (s .exit)) ⌝ }
+fn put_sessions(s: &mut [u8], l: [SessionState; SESSIONS])
+    requires { ⌜ length (now s) ≡ stateLength ⌝ }
+    ensures { λ r. ⌜ Put sessionsAt (sessionCount * sessionSize) (join (map sessionBytes l)) (now (s .entry)) (now (s .exit)) ⌝ }
 {
     let mut i: usize = 0;
-    while i < 4 {
+    while i < SESSIONS {
         let one = l[i];
         let phase = one.phase;
-        s[i] = phase_number(phase);
+        s[i] = phase_byte(phase);
         i += 1;
     }
 }
@@ -52,26 +66,22 @@ fn flag_number(flag: bool) -> u8
 }
 
 fn put_grants(part: &mut [u8], g: Grants)
-    requires { ⌜ length (now part) ≡ 5 ⌝ }
+    requires { ⌜ length (now part) ≡ credentialSize ⌝ }
     ensures { λ r. ⌜ now (part .exit) ≡ grantsBytes g ⌝ }
 {
-    let w = g.word;
-    part[0] = flag_number(g.provisioned);
-    part[1] = (w % 256) as u8;
-    part[2] = (w / 256 % 256) as u8;
-    part[3] = (w / 256 / 256 % 256) as u8;
-    part[4] = (w / 256 / 256 / 256 % 256) as u8;
+    part[FLAG_AT] = flag_number(g.provisioned);
+    rows::put_number32(part, WORD_AT, g.word);
 }
 
-fn put_credentials(s: &mut [u8], l: [Grants; 8])
-    requires { ⌜ length (now s) ≡ 681 ⌝ }
-    ensures { λ r. ⌜ Put 4 40 (join (map grantsBytes l)) (now (s .entry)) (now (s .exit)) ⌝ }
+fn put_credentials(s: &mut [u8], l: [Grants; CREDENTIALS])
+    requires { ⌜ length (now s) ≡ stateLength ⌝ }
+    ensures { λ r. ⌜ Put credentialsAt (credentialCount * credentialSize) (join (map grantsBytes l)) (now (s .entry)) (now (s .exit)) ⌝ }
 {
     let mut i: usize = 0;
-    while i < 8 {
+    while i < CREDENTIALS {
         let g = l[i];
-        let a = 4 + i * 5;
-        let e = a + 5;
+        let a = CREDENTIALS_AT + i * CREDENTIAL_SIZE;
+        let e = a + CREDENTIAL_SIZE;
         put_grants(&mut s[a..e], g);
         i += 1;
     }
@@ -80,37 +90,45 @@ fn put_credentials(s: &mut [u8], l: [Grants; 8])
 // ---- the count
 
 fn put_count(s: &mut [u8], count: usize)
-    requires { ⌜ length (now s) ≡ 681 ⌝ }
-    ensures { λ r. ⌜ Put 44 1 (byteOf count ∷ []) (now (s .entry)) (now (s .exit)) ⌝ }
+    requires { ⌜ length (now s) ≡ stateLength ⌝ }
+    ensures { λ r. ⌜ Put countAt 1 (byteOf count ∷ []) (now (s .entry)) (now (s .exit)) ⌝ }
 {
-    s[44] = byte_of(count);
+    s[COUNT_AT] = rows::byte_of(count);
 }
 
 // ---- a place
 
+fn kind_byte(kind: Kind) -> u8
+    ensures { λ r. ⌜ r ≡ kindByte kind ⌝ }
+{
+    match kind {
+        Kind::User => 0,
+        Kind::Elevation => 1,
+        Kind::Saved => 2,
+    }
+}
+
 fn put_process(part: &mut [u8], p: Process)
-    requires { ⌜ length (now part) ≡ 53 ⌝ }
+    requires { ⌜ length (now part) ≡ placeSize ⌝ }
     ensures { λ r. ⌜ now (part .exit) ≡ processBytes p ⌝ }
 {
     let kind = p.kind;
-    let next = p.next;
-    part[0] = byte_of(p.credential.0 as usize);
-    part[1] = names::type_number(kind);
-    part[2] = p.session.0;
-    part[3] = (next % 256) as u8;
-    part[4] = (next / 256 % 256) as u8;
-    names::put_name(&mut part[5..53], p.name);
+    part[OWNER_AT] = rows::byte_of(p.credential.0 as usize);
+    part[KIND_AT] = kind_byte(kind);
+    part[SESSION_AT] = p.session.0;
+    rows::put_number16(part, NEXT_AT, p.next);
+    names::put_name(&mut part[NAME_AT..PLACE_SIZE], p.name);
 }
 
-fn put_places(s: &mut [u8], l: [Process; 12])
-    requires { ⌜ length (now s) ≡ 681 ⌝ }
-    ensures { λ r. ⌜ Put 45 636 (join (map processBytes l)) (now (s .entry)) (now (s .exit)) ⌝ }
+fn put_places(s: &mut [u8], l: [Process; PLACES])
+    requires { ⌜ length (now s) ≡ stateLength ⌝ }
+    ensures { λ r. ⌜ Put placesAt (places * placeSize) (join (map processBytes l)) (now (s .entry)) (now (s .exit)) ⌝ }
 {
     let mut i: usize = 0;
-    while i < 12 {
+    while i < PLACES {
         let p = l[i];
-        let a = 45 + i * 53;
-        let e = a + 53;
+        let a = PLACES_AT + i * PLACE_SIZE;
+        let e = a + PLACE_SIZE;
         put_process(&mut s[a..e], p);
         i += 1;
     }
@@ -122,7 +140,7 @@ fn put_places(s: &mut [u8], l: [Process; 12])
 pub fn write(s: &mut [u8], st: State)
     ensures { λ r. ⌜ now (s .exit) ≡ stateWritten (now (s .entry)) st ⌝ }
 {
-    if s.len() == 681 {
+    if s.len() == STATE_LENGTH {
         let sessions = st.sessions;
         let credentials = st.credentials;
         let t = st.table;
@@ -138,11 +156,10 @@ pub fn write(s: &mut [u8], st: State)
 pub fn write_next(s: &mut [u8], at: usize, next: u16)
     ensures { λ r. ⌜ now (s .exit) ≡ nextWritten (now (s .entry)) at next ⌝ }
 {
-    if s.len() == 681 {
-        if at < 12 {
-            let a = 48 + at * 53;
-            s[a] = (next % 256) as u8;
-            s[a + 1] = (next / 256 % 256) as u8;
+    if s.len() == STATE_LENGTH {
+        if at < PLACES {
+            let a = PLACES_AT + at * PLACE_SIZE;
+            rows::put_number16(s, a + NEXT_AT, next);
         }
     }
 }

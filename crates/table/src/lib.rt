@@ -4,6 +4,7 @@ ghost use mathlib.Core.List.{[]};
 ghost use Rattle.table.specs.Table.{standing, size, tableOf, freePlace, isActive, isActiveIn, isAmong, isNamed, foundPlace, findActive, findNamed, countAmong, processAt, appended, replaced, removed, withoutSession};
 use names::Credential;
 use names::Kind;
+use names::NAME_LENGTH;
 use names::Name;
 use names::Session;
 
@@ -15,9 +16,11 @@ pub struct Process {
     pub name: Name,
 }
 
+pub const PLACES: usize = 12;
+
 // The processes that stand are those of the first `count` places; a count past 12 says that all 12 do.
 pub struct Table {
-    pub places: [Process; 12],
+    pub places: [Process; PLACES],
     pub count: usize,
 }
 
@@ -43,7 +46,7 @@ pub enum Found {
 pub fn size(t: Table) -> usize
     ensures { λ r. ⌜ r ≡ size t ⌝ }
 {
-    if t.count < 12 { t.count } else { 12 }
+    if t.count < PLACES { t.count } else { PLACES }
 }
 
 // What a free place holds.
@@ -55,7 +58,9 @@ fn free_place() -> Process
         kind: Kind::User,
         session: Session(0),
         next: 0,
-        name: Name { bytes: [0; 48] },
+        name: Name {
+            bytes: [0; NAME_LENGTH],
+        },
     }
 }
 
@@ -64,7 +69,7 @@ pub fn empty() -> Table
     ensures { λ r. ⌜ r ≡ tableOf [] ⌝ }
 {
     Table {
-        places: [free_place(); 12],
+        places: [free_place(); PLACES],
         count: 0,
     }
 }
@@ -217,7 +222,7 @@ fn tidied(t: Table) -> Table
     let n = size(t);
     let mut places = t.places;
     let mut i = n;
-    while i < 12 {
+    while i < PLACES {
         places[i] = free_place();
         i += 1;
     }
@@ -233,7 +238,7 @@ pub fn appended(t: Table, p: Process) -> Table
 {
     let u = tidied(t);
     let n = u.count;
-    if n < 12 {
+    if n < PLACES {
         let mut places = u.places;
         places[n] = p;
         Table {
@@ -290,7 +295,7 @@ pub fn without_session(t: Table, s: Session) -> Table
 {
     let n = size(t);
     let places = t.places;
-    let mut kept = [free_place(); 12];
+    let mut kept = [free_place(); PLACES];
     let mut k: usize = 0;
     let mut i: usize = 0;
     while i < n {

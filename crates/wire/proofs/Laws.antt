@@ -3,23 +3,29 @@
 use Prim.Native.Nat.{ℕ, zero, suc, _+_, _*_, _<_, _≤_}
 use mathlib.Core.Path.{_≡_, refl, sym, ap, _∙_}
 use mathlib.Core.Bool.{true, cond}
-use mathlib.Core.List.{List, [], _∷_, _++_, map, append-assoc}
+use mathlib.Core.List.{List, [], _∷_, _++_, map, append-nil}
 use native.Mathlib.Nat.{zero-add}
 use native.Mathlib.Omega.{arith}
 use borrow.Author.Tests.{eq-eqb, ne-eqb, le-leb, lt-ltb, le-ltb, ltb-false, eqb-true, eqb-false}
 use lib.Dec.{eqb, ltb}
 use lib.ListN.{length, getD, take, drop, length-append}
 use lib.Seq.{take-at, drop-at, drop-drop, length-take-le}
-use Rattle.lists.specs.Bytes.{bytesOf}
+use Rattle.rows.specs.Bytes.{bytesOf, numberAt}
+use Rattle.rows.specs.Rows.{every}
+use Rattle.rows.specs.Rows as R
 use Rattle.lists.specs.Lists.{select, join}
-use Rattle.lists.proofs.Bytes.{number-back}
+use Rattle.rows.proofs.Bytes.{number-in}
+use Rattle.rows.proofs.Over.{over-room, over-short, later-kept, written-in}
+use Rattle.rows.proofs.Rows.{array-long, array-row, array-fits}
+use Rattle.lists.specs.Each.{Each, each-nil, each-cons}
+use Rattle.lists.proofs.Each.{each-at}
 use Rattle.lists.proofs.Tests.{split, clash, and-both}
 use Rattle.names.specs.Names.{rowBytes, isRow, readRow}
 use Rattle.names.specs.Names as Names
 use Rattle.names.specs.declared.Row.{Row}
 use Rattle.names.specs.declared.RowRead.{RowRead}
 use Rattle.names.specs.declared.Session.{Session}
-use Rattle.names.proofs.Laws.{RowFits, length-row, row-back, row-read}
+use Rattle.names.proofs.Laws.{RowFits, row-codec}
 use Rattle.table.specs.Table.{standing, isAmong}
 use Rattle.table.specs.declared.Process.{Process}
 use Rattle.claims.specs.Numbers.{_when_, _unless_, _▸_}
@@ -31,53 +37,28 @@ use Rattle.calls.specs.Calls.{List′, isWanted, mayList, isShort, number, list
 use Rattle.calls.specs.Listing.{amongOf, rowOf, rowsOf, authProcesses, messageLength, listing}
 use Rattle.calls.specs.declared.Listed.{Listed}
 use Rattle.calls.specs.declared.Wanted.{Wanted}
-use Rattle.wire.specs.Bytes.{head, isHeaded, headNumber, allFrom, over}
-use Rattle.wire.specs.Wire.{request, requestNumber, readRequest, rowPart, isRowAt, isListing, countNumber, readCount, zeroRow, rowNumber, readRowAt, rowsAmong, listingOver, listingLength, listedBytes}
-use Rattle.wire.proofs.Bytes.{all-of, all-same, over-room, over-short}
-
--- ---- every message, wherever it was written: a refused one writes nothing, the bytes before it and after it are kept, and it stands between
-module _ (at n : ℕ) (bytes old : List ℕ) where
-  pub refused-kept : length old < at + n → over at n bytes old ≡ old
-  refused-kept h = over-short at n bytes old h
-
-  module _ (e : length bytes ≡ n) (h : at + n ≤ length old) where
-    front : length (take at old) ≡ at
-    front = length-take-le at old (omega arith)
-
-    pub before-kept : take at (over at n bytes old) ≡ take at old
-    before-kept = rw (over-room at n bytes old h) (take-at (take at old) (bytes ++ drop (at + n) old) at front)
-
-    pub later-kept : drop (at + n) (over at n bytes old) ≡ drop (at + n) old
-    later-kept =
-        rw (over-room at n bytes old h, ← append-assoc (take at old) bytes)
-        (drop-at (take at old ++ bytes) (drop (at + n) old) (at + n) (rw (length-append, front, e)))
-
-    pub message-in : take n (drop at (over at n bytes old)) ≡ bytes
-    message-in =
-        rw (over-room at n bytes old h, drop-at (take at old) (bytes ++ drop (at + n) old) at front)
-        (take-at bytes (drop (at + n) old) n e)
+use Rattle.wire.specs.Wire.{head, isHeaded, headNumber, getAuthProcesses, request, requestNumber, readRequest, rowPart, isListing, countNumber, readCount, zeroRow, rowNumber, readRowAt, rowsAmong, listingOver, listingLength, listedBytes}
 
 -- ---- "Byte 1 is reserved: .. ignored on reading": whichever byte stands there, a message is read alike
 module _ (code byte other : ℕ) (rest : List ℕ) where
   pub request-reserved : readRequest (code ∷ byte ∷ rest) ≡ readRequest (code ∷ other ∷ rest)
-  unfolding readRequest requestNumber isHeaded headNumber
+  unfolding readRequest requestNumber isHeaded headNumber numberAt
   request-reserved = refl
 
   part-same : (at : ℕ) → rowPart (code ∷ byte ∷ rest) at ≡ rowPart (code ∷ other ∷ rest) at
   unfolding rowPart
-  part-same at = rw (← drop-drop (51 * at) 4 (code ∷ byte ∷ rest), ← drop-drop (51 * at) 4 (code ∷ other ∷ rest))
+  part-same at = rw (← drop-drop (at * 51) 4 (code ∷ byte ∷ rest), ← drop-drop (at * 51) 4 (code ∷ other ∷ rest))
 
   number-same : countNumber (code ∷ byte ∷ rest) ≡ countNumber (code ∷ other ∷ rest)
-  unfolding countNumber isListing isHeaded headNumber isRowAt
-  number-same =
-      rw (all-same (isRowAt (code ∷ byte ∷ rest)) (isRowAt (code ∷ other ∷ rest)) (headNumber (code ∷ byte ∷ rest)) 0 (λ k. ap isRow (part-same k)))
+  unfolding countNumber isListing isHeaded headNumber numberAt
+  number-same = refl
 
   pub count-reserved : readCount (code ∷ byte ∷ rest) ≡ readCount (code ∷ other ∷ rest)
-  unfolding readCount headNumber
+  unfolding readCount headNumber numberAt
   count-reserved = rw number-same
 
   pub row-reserved : (at : ℕ) → readRowAt (code ∷ byte ∷ rest) at ≡ readRowAt (code ∷ other ∷ rest) at
-  unfolding readRowAt rowNumber headNumber
+  unfolding readRowAt rowNumber headNumber numberAt
   row-reserved at = rw (number-same, part-same at)
 
 -- ---- the request
@@ -86,48 +67,14 @@ unfolding request head bytesOf
 length-request credential = refl
 
 request-number : (credential : ℕ) → credential < 65536 → headNumber (request credential) ≡ credential
-unfolding request head headNumber bytesOf
-request-number credential h = number-back 2 credential h
+unfolding request head headNumber
+request-number credential h = rw append-nil at (number-in 2 credential (getAuthProcesses ∷ 0 ∷ []) [] h)
 
 pub request-back : (credential : ℕ) → credential < 65536 → readRequest (request credential) ≡ record { number = 0; credential = credential }
 unfolding readRequest requestNumber isHeaded request head bytesOf _unless_
 request-back credential h = ap (λ (c : ℕ). record { number = 0; credential = c }) (request-number credential h)
 
 -- ---- the response
-abbrev pub Each : {A : Type 0} → (A → Type 0) → List A → Type 0
-Each P [] = Unit
-Each P (x ∷ xs) = P x × Each P xs
-
--- the rows, one after another
-length-rows : (rows : List Row) → Each RowFits rows → length (join (map rowBytes rows)) ≡ 51 * length rows
-unfolding join
-length-rows [] g = refl
-length-rows (row ∷ rows) g = rw (length-append, length-row row (g .0 .name), length-rows rows (g .1)) (omega arith)
-
-rows-part : (rows : List Row) → Each RowFits rows → (at : ℕ) → at < length rows → take 51 (drop (51 * at) (join (map rowBytes rows))) ≡ rowBytes (getD rows at zeroRow)
-unfolding join
-rows-part [] g at h = absurd (omega arith)
-rows-part (row ∷ rows) g zero h = take-at (rowBytes row) (join (map rowBytes rows)) 51 (length-row row (g .0 .name))
-rows-part (row ∷ rows) g (suc at) h =
-    let e : 51 * suc at ≡ 51 + 51 * at = omega arith in
-    rw (e, ← drop-drop (51 * at) 51 (rowBytes row ++ join (map rowBytes rows)), drop-at (rowBytes row) (join (map rowBytes rows)) 51 (length-row row (g .0 .name)))
-    (rows-part rows (g .1) at (omega arith))
-
-each-at : {A : Type 0} (P : A → Type 0) (l : List A) → Each P l → (i : ℕ) (d : A) → i < length l → P (getD l i d)
-each-at P [] g i d h = absurd (omega arith)
-each-at P (x ∷ xs) g zero d h = g .0
-each-at P (x ∷ xs) g (suc i) d h = each-at P xs (g .1) i d (omega arith)
-
--- what was written as a row is one
-row-is : (row : Row) → RowFits row → isRow (rowBytes row) ≡ true
-unfolding readRow
-row-is row v =
-    split (isRow (rowBytes row)) (λ e. e) (λ e. clash (ap (λ (r : RowRead). r .fits) (row-back row v)) (rw e))
-
--- and it is read back
-row-of-bytes : (row : Row) → RowFits row → Names.rowOf (rowBytes row) ≡ row
-row-of-bytes row v = ap (λ (r : RowRead). r .row) (sym (row-read (rowBytes row) (row-is row v)) ∙ row-back row v)
-
 code-is : (rows : List Row) → getD (listing rows) 0 0 ≡ authProcesses
 unfolding listing
 code-is rows = refl
@@ -135,23 +82,23 @@ code-is rows = refl
 module _ (rows : List Row) (g : Each RowFits rows) where
   pub length-listing : length (listing rows) ≡ messageLength (length rows)
   unfolding listing messageLength bytesOf
-  length-listing = omega (arith, length-rows rows g)
+  length-listing = omega (arith, array-long row-codec g)
 
   -- the part of each row holds it
   part-back : (at : ℕ) → at < length rows → rowPart (listing rows) at ≡ rowBytes (getD rows at zeroRow)
   unfolding rowPart listing bytesOf
-  part-back at h = rw (← drop-drop (51 * at) 4 (listing rows)) (rows-part rows g at h)
+  part-back at h = rw (← drop-drop (at * 51) 4 (listing rows)) (rw append-nil at (array-row row-codec [] g at zeroRow h))
 
   row-fits : (at : ℕ) → at < length rows → RowFits (getD rows at zeroRow)
-  row-fits at h = each-at RowFits rows g at zeroRow h
+  row-fits at h = each-at at zeroRow h g
 
   module _ (small : length rows ≤ 65535) where
     count-is : headNumber (listing rows) ≡ length rows
-    unfolding headNumber listing bytesOf
-    count-is = number-back 2 (length rows) (omega arith)
+    unfolding headNumber listing
+    count-is = number-in 2 (length rows) (authProcesses ∷ 0 ∷ []) (join (map rowBytes rows)) (omega arith)
 
     taken : isListing (listing rows) ≡ true
-    unfolding isListing isHeaded isRowAt
+    unfolding isListing isHeaded listing bytesOf
     taken = and-both (and-both long code) each
       where
         long : eqb (length (listing rows)) (messageLength (headNumber (listing rows))) ≡ true
@@ -160,12 +107,8 @@ module _ (rows : List Row) (g : Each RowFits rows) where
         code : eqb (getD (listing rows) 0 0) authProcesses ≡ true
         code = eq-eqb (getD (listing rows) 0 0) authProcesses (code-is rows)
 
-        each : allFrom (isRowAt (listing rows)) 0 (headNumber (listing rows)) ≡ true
-        each =
-            all-of (isRowAt (listing rows)) (headNumber (listing rows)) 0
-            (λ at h.
-            let k : at < length rows = omega (arith, count-is) in
-            rw (zero-add, part-back at k) (row-is (getD rows at zeroRow) (row-fits at k)))
+        each : every isRow (R.rows (headNumber (listing rows)) 51 (drop 4 (listing rows))) ≡ true
+        each = rw count-is (rw append-nil at (array-fits row-codec [] g))
 
     numbered : countNumber (listing rows) ≡ 0
     unfolding countNumber
@@ -185,7 +128,7 @@ module _ (rows : List Row) (g : Each RowFits rows) where
     unfolding readRowAt
     row-at-back at h =
         let none : rowNumber (listing rows) at ≡ 0 = asked at ∙ unless-true 1 (lt-ltb at (length rows) h) in
-        rw (none, part-back at h, row-of-bytes (getD rows at zeroRow) (row-fits at h))
+        rw (none, part-back at h, row-codec .back (getD rows at zeroRow) (row-fits at h))
 
     pub row-past-back : (at : ℕ) → length rows ≤ at → readRowAt (listing rows) at ≡ record { number = 1; row = zeroRow }
     unfolding readRowAt
@@ -199,7 +142,7 @@ module _ (rows : List Row) (g : Each RowFits rows) (old : List ℕ) where
   unfolding listingOver listingLength
   listing-in h =
       rw (le-leb (messageLength (length rows)) (length old) h)
-      (message-in 0 (messageLength (length rows)) (listing rows) old (length-listing rows g) (rw zero-add h))
+      (written-in 0 (messageLength (length rows)) (listing rows) old (length-listing rows g) (rw zero-add h))
 
   pub listing-later : messageLength (length rows) ≤ length old → drop (listingLength rows old) (listingOver rows old) ≡ drop (messageLength (length rows)) old
   unfolding listingOver listingLength
@@ -209,14 +152,14 @@ module _ (rows : List Row) (g : Each RowFits rows) (old : List ℕ) where
 
 pub listing-refused : (rows : List Row) (old : List ℕ) → length old < messageLength (length rows) → listingOver rows old ≡ old
 unfolding listingOver
-listing-refused rows old h = refused-kept 0 (messageLength (length rows)) (listing rows) old (rw zero-add h)
+listing-refused rows old h = over-short 0 (messageLength (length rows)) (listing rows) old (rw zero-add h)
 
 -- ---- the rows of a table whose processes have names of 48 bytes and credentials of 2
 pub rows-fit : (wanted : Wanted) (l : List Process) → Each (λ p. RowFits (rowOf p)) l → Each RowFits (rowsAmong wanted l)
 unfolding rowsAmong select
-rows-fit wanted [] g = tt
-rows-fit wanted (p ∷ l) g =
-    split (isAmong (amongOf wanted) p) (λ e. rw e (g .0, rows-fit wanted l (g .1))) (λ e. rw e (rows-fit wanted l (g .1)))
+rows-fit wanted [] each-nil = each-nil
+rows-fit wanted (p ∷ l) (each-cons q g) =
+    split (isAmong (amongOf wanted) p) (λ e. rw e (each-cons q (rows-fit wanted l g))) (λ e. rw e (rows-fit wanted l g))
 
 -- those that the listing of a state has
 pub rows-of : (st : State) (wanted : Wanted) → rowsOf st wanted ≡ rowsAmong wanted (standing (st .table))

@@ -1,5 +1,4 @@
-pub mod Bytes
+pub mod Laws
 pub mod Rows
 pub mod Rules
-pub mod Laws
 pub mod Unique

@@ -12,14 +12,20 @@ use borrow.Author.Tests.{not-true, not-false, eq-eqb, ne-eqb, le-leb, lt-leb, lt
 use mir.Val.{Fits}
 use mir.Syntax.{w16, w64}
 use lib.Dec.{eqb, leb, ltb}
-use lib.ListN.{length, getD, take, drop, set, length-take, length-drop, length-map, List·getD-eq-default}
+use lib.ListN.{length, getD, take, drop, set, length-set, length-take, length-drop, length-map, List·getD-eq-default}
 use lib.Seq.{getD-take, getD-drop}
-use Rattle.lists.specs.Bytes.{bytesOf, number}
+use Rattle.rows.specs.Bytes.{bytesOf, numberAt}
+use Rattle.rows.specs.Rows.{rows, every, over, Put}
+use Rattle.rows.proofs.Bytes.{length-bytes}
+use Rattle.rows.proofs.Over.{over-short, over-length, put-byte, put-length, put-next}
+use Rattle.rows.proofs.Rows.{row-passes}
+use Rattle.rows.proofs.Loops as Loops
 use Rattle.lists.proofs.Lists.{length-mapped}
 use Rattle.lists.proofs.Tests.{split, and-left, and-right}
-use Rattle.names.specs.Names.{rowBytes, rowIn, isRow, readRow}
+use Rattle.names.specs.Names.{typeOf, rowBytes, rowIn, isRow, readRow}
 use Rattle.names.specs.declared.Row.{Row}
 use Rattle.names.specs.declared.RowRead.{RowRead}
+use Rattle.names.specs.declared.RowType.{RowType}
 use Rattle.names.proofs.Laws.{row-read, row-in}
 use Rattle.table.specs.Table.{standing, size, isAmong, countAmong}
 use Rattle.table.specs.declared.Among.{Among}
@@ -31,20 +37,15 @@ use Rattle.claims.specs.Numbers.{_unless_}
 use Rattle.claims.proofs.Laws.{stop, pass, when-true, when-false, unless-true, unless-false}
 use Rattle.calls.specs.Listing.{amongOf, rowOf, authProcesses, messageLength, listing}
 use Rattle.calls.specs.declared.Wanted.{Wanted}
-use Rattle.wire.specs.Bytes.{head, isHeaded, headNumber, allFrom, over}
-use Rattle.wire.specs.Wire.{request, getAuthProcesses, requestNumber, readRequest, requestRoom, rowPart, isRowAt, isListing, countNumber, readCount, refusedRow, rowNumber, readRowAt, rowsAmong, rowsOver, listingOver, listingLength}
+use Rattle.wire.specs.Wire.{head, isHeaded, headNumber, request, getAuthProcesses, requestNumber, readRequest, requestRoom, rowPart, isListing, countNumber, readCount, refusedRow, rowNumber, readRowAt, rowsAmong, rowsOver, listingOver, listingLength}
 use Rattle.wire.specs.declared.CountRead.{CountRead}
 use Rattle.wire.specs.declared.RequestRead.{RequestRead}
 use Rattle.wire.specs.declared.RowAnswer.{RowAnswer}
-use Rattle.wire.proofs.Bytes.{Tested, tested-none, tested-more, tested-miss, tested-all, all-at, over-short, over-length}
-use Rattle.wire.proofs.Rows.{rows-few, Written, written-none, written-room, written-hit, written-miss, written-all, listing-whole}
+use Rattle.wire.proofs.Rows.{rows-few, Written, written-none, written-room, written-hit, written-miss, written-length, written-all, listing-whole}
 use Rattle.wire.proofs.Rows as Rows
 use Rattle.wire.proofs.Laws.{list-bytes, list-stays}
 
 -- ---- what both messages begin with
-pub byte-past : (l : List ℕ) (at : ℕ) → length l ≤ at → 0 ≡ getD l at 0
-byte-past l at h = sym (List·getD-eq-default l 0 h)
-
 module _ (code long : ℕ) (message : List ℕ) where
   pub headed-code : {x : ℕ} → length message ≡ long → x ≡ getD message 0 0 → eqb x code ≡ isHeaded code long message
   unfolding isHeaded
@@ -54,17 +55,23 @@ module _ (code long : ℕ) (message : List ℕ) where
   unfolding isHeaded
   headed-length h = rw (ne-eqb (length message) long h)
 
-pub head-number : (message : List ℕ) {low high n : ℕ} → low ≡ getD message 2 0 → high ≡ getD message 3 0 → n ≡ number (low ∷ high ∷ []) → n ≡ headNumber message
+pub head-number : (message : List ℕ) {n : ℕ} → n ≡ numberAt 2 2 message → n ≡ headNumber message
 unfolding headNumber
-head-number message l h e = e ∙ rw (l, h)
+head-number message e = e
 
-pub head-put : (old : List ℕ) (code n : ℕ) → 4 ≤ length old → set (set (set (set old 0 code) 1 0) 2 (n % 256)) 3 (n / 256 % 256) ≡ over 0 4 (head code n) old
-unfolding head bytesOf over
-head-put [] code n h = absurd (omega arith)
-head-put (x ∷ []) code n h = absurd (omega arith)
-head-put (x ∷ y ∷ []) code n h = absurd (omega arith)
-head-put (x ∷ y ∷ z ∷ []) code n h = absurd (omega arith)
-head-put (x ∷ y ∷ z ∷ w ∷ old) code n h = rw (le-leb 4 (length (x ∷ y ∷ z ∷ w ∷ old)) h)
+module _ (old : List ℕ) (code byte n : ℕ) (h : 4 ≤ length old) {new : List ℕ} (q : new ≡ over 2 2 (bytesOf 2 n) (set (set old 0 code) 1 byte)) where
+  number-put : Put 2 2 (bytesOf 2 n) (set (set old 0 code) 1 byte) new
+  number-put = record { long = length-bytes 2 n; is = q }
+
+  pub head-same : length new ≡ length old
+  head-same = put-length number-put ∙ simp length-set
+
+  pub head-put : byte ≡ 0 → new ≡ over 0 4 (head code n) old
+  unfolding head
+  head-put e =
+      let code-put : Put 0 1 (code ∷ []) old (set old 0 code) = put-byte 0 code old (omega arith) in
+      let byte-put : Put 1 1 (byte ∷ []) (set old 0 code) (set (set old 0 code) 1 byte) = put-byte 1 byte (set old 0 code) (simp length-set (omega arith)) in
+      put-next (put-next code-put byte-put (omega arith)) number-put (omega arith) .is ∙ rw e
 
 pub head-reach : (k : ℕ) (l : List ℕ) → 4 ≤ length l → k < 4 → k < length l
 head-reach k l h i = omega arith
@@ -96,33 +103,13 @@ module _ (old : List ℕ) where
   request-put credential e = e
 
 -- ---- the rows of a response
-module _ (message : List ℕ) (at : ℕ) where
-  part-long : 4 + 51 * at + 51 ≤ length message → length (rowPart message at) ≡ 51
-  unfolding rowPart
-  part-long h = rw (length-take, length-drop) (omega arith)
+module _ (message : List ℕ) (count : ℕ) (h : length message ≡ messageLength count) where
+  pub rows-reach : (at : ℕ) → at < count → 4 + at * 51 + 51 ≤ length message
+  unfolding messageLength
+  rows-reach at k = omega arith
 
-  pub row-whole : {x : ℕ} → 4 + 51 * at + 51 ≤ length message → x ≡ getD message (4 + 51 * at + 2) 0 → leb x 2 ≡ isRowAt message at
-  unfolding isRowAt isRow rowPart
-  row-whole {x} h e =
-      let k : 2 < 51 = omega arith in
-      rw (eq-eqb (length (take 51 (drop (4 + 51 * at) message))) 51 (part-long h), getD-take 51 (drop (4 + 51 * at) message) 2 0 k, getD-drop (4 + 51 * at) message 2 0, e)
-
-  pub row-cut : length message < 4 + 51 * at + 51 → leb (4 + 51 * at + 51) (length message) ≡ isRowAt message at
-  unfolding isRowAt isRow rowPart
-  row-cut h =
-      let k : length (take 51 (drop (4 + 51 * at) message)) ≡ 51 → ⊥ = λ z. omega (arith, length-take 51 (drop (4 + 51 * at) message), length-drop (4 + 51 * at) message) in
-      rw (ne-eqb (length (take 51 (drop (4 + 51 * at) message))) 51 k) (lt-leb (4 + 51 * at + 51) (length message) h)
-
-module _ {f : ℕ → Bool} {n i : ℕ} (v : Tested f n i) where
-  module _ {b : Bool} (h : i < n) (e : b ≡ f i) where
-    pub test-on : not b ≡ false → Tested f n (i + 1)
-    test-on t = tested-more v h (sym e ∙ not-false b t)
-
-    pub test-miss : not b ≡ true → false ≡ allFrom f 0 n
-    test-miss t = sym (tested-miss v h (sym e ∙ not-true b t))
-
-  pub test-all : n ≤ i → true ≡ allFrom f 0 n
-  test-all h = sym (tested-all v h)
+  pub rows-fits : (at : ℕ) → at < count → Fits w16 count → Fits w64 (4 + at * 51 + 51)
+  rows-fits at k w = omega arith
 
 -- ---- the response
 module _ (message : List ℕ) {n : ℕ} {a : Bool} (c : n ≡ headNumber message) (e : a ≡ isHeaded authProcesses (4 + 51 * n) message) where
@@ -130,7 +117,11 @@ module _ (message : List ℕ) {n : ℕ} {a : Bool} (c : n ≡ headNumber message
   unfolding messageLength
   headed = e ∙ rw c
 
-  pub listing-rows : {b : Bool} → a ≡ true → b ≡ allFrom (isRowAt message) 0 n → b ≡ isListing message
+  pub listing-long : a ≡ true → length message ≡ messageLength n
+  unfolding isHeaded messageLength
+  listing-long t = eqb-true (length message) (4 + 51 * n) (and-left (eqb (length message) (4 + 51 * n)) (eqb (getD message 0 0) authProcesses) (sym e ∙ t))
+
+  pub listing-rows : {b : Bool} → a ≡ true → b ≡ every isRow (rows n 51 (drop 4 message)) → b ≡ isListing message
   unfolding isListing
   listing-rows t q = q ∙ rw (sym headed ∙ t, c)
 
@@ -162,20 +153,22 @@ module _ (message : List ℕ) where
   row-stop at e = stop (1 unless ltb at (headNumber message)) (λ z. omega arith) ∙ e
 
   module _ (t : isListing message ≡ true) where
-    listing-long : length message ≡ 4 + 51 * headNumber message
-    unfolding isListing isHeaded messageLength
-    listing-long =
-        eqb-true (length message) (4 + 51 * headNumber message)
-        (and-left (eqb (length message) (4 + 51 * headNumber message)) (eqb (getD message 0 0) authProcesses)
-        (and-left (eqb (length message) (4 + 51 * headNumber message) && eqb (getD message 0 0) authProcesses) (allFrom (isRowAt message) 0 (headNumber message)) t))
+    taken-headed : isHeaded authProcesses (messageLength (headNumber message)) message ≡ true
+    unfolding isListing
+    taken-headed = and-left (isHeaded authProcesses (messageLength (headNumber message)) message) (every isRow (rows (headNumber message) 51 (drop 4 message))) t
 
-    listing-row : (at : ℕ) → at < headNumber message → isRow (take 51 (drop (4 + 51 * at) message)) ≡ true
-    unfolding isListing isRowAt rowPart
-    listing-row at h =
-        let every : allFrom (isRowAt message) 0 (headNumber message) ≡ true =
-        and-right (isHeaded authProcesses (messageLength (headNumber message)) message) (allFrom (isRowAt message) 0 (headNumber message)) t
-        in
-        rw zero-add at (all-at (isRowAt message) (headNumber message) 0 at every h)
+    taken-long : length message ≡ 4 + 51 * headNumber message
+    unfolding isHeaded messageLength
+    taken-long =
+        eqb-true (length message) (4 + 51 * headNumber message)
+        (and-left (eqb (length message) (4 + 51 * headNumber message)) (eqb (getD message 0 0) authProcesses) taken-headed)
+
+    taken-row : (at : ℕ) → at < headNumber message → isRow (rowPart message at) ≡ true
+    unfolding isListing rowPart
+    taken-row at h =
+        row-passes isRow (headNumber message) 51 4 message
+        (and-right (isHeaded authProcesses (messageLength (headNumber message)) message) (every isRow (rows (headNumber message) 51 (drop 4 message))) t)
+        at h
 
 -- ---- a row of the response, by what `read_count` answered
 module _ (message : List ℕ) (at : ℕ) {counted : CountRead} (e : counted ≡ readCount message) where
@@ -212,17 +205,20 @@ module _ (message : List ℕ) (at : ℕ) {counted : CountRead} (e : counted ≡ 
         q ∙ rw one
 
     module _ (k : at < counted .count) where
-      pub row-inside : 4 + 51 * at + 51 ≤ length message
-      row-inside = omega (arith, counts, listing-long message listed)
+      pub row-inside : 4 + at * 51 + 51 ≤ length message
+      row-inside = omega (arith, counts, taken-long message listed)
 
-      pub row-answer : {read : RowRead} → read ≡ readRow (take (4 + 51 * at + 51 - (4 + 51 * at)) (drop (4 + 51 * at) message)) → _≡_ {A = RowAnswer} (record { number = 0; row = read .row }) (readRowAt message at)
+      pub row-answer : {read : RowRead} → read ≡ readRow (take (4 + at * 51 + 51 - (4 + at * 51)) (drop (4 + at * 51) message)) → _≡_ {A = RowAnswer} (record { number = 0; row = read .row }) (readRowAt message at)
       unfolding readRowAt rowPart
       row-answer q =
           let none : rowNumber message at ≡ 0 = asked ∙ unless-true 1 (lt-ltb at (headNumber message) (omega (arith, counts))) in
-          let whole : 4 + 51 * at + 51 - (4 + 51 * at) ≡ 51 = omega arith in
-          rw (none, q, whole, row-read (take 51 (drop (4 + 51 * at) message)) (listing-row message listed at (omega (arith, counts))))
+          let whole : 4 + at * 51 + 51 - (4 + at * 51) ≡ 51 = omega arith in
+          rw (none, q, whole, row-read (take 51 (drop (4 + at * 51) message)) (taken-row message listed at (omega (arith, counts))))
 
 -- ---- the rows of a table
+pub row-made : (p : Process) {k : RowType} → k ≡ typeOf (p .kind) → _≡_ {A = Row} (record { credential = p .credential; kind = k; name = p .name }) (rowOf p)
+row-made p e = rw e
+
 module _ (wanted : Wanted) {among : Among} (e : among ≡ amongOf wanted) where
   pub wanted-is : {b : Bool} (p : Process) → b ≡ isAmong among p → b ≡ isAmong (amongOf wanted) p
   wanted-is p q = q ∙ rw e
@@ -246,26 +242,25 @@ module _ (t : Table) {n : ℕ} (e : n ≡ size t) where
 
 module _ {wanted : Wanted} {old : List ℕ} {l : List Process} {n : ℕ} {new : List ℕ} {k i : ℕ} {b : Bool}
     (v : Written wanted old l n new k i) (h : i < n) (e : b ≡ isAmong (amongOf wanted) (getD l i noProcess)) where
-  pub rows-room : b ≡ true → 4 + 51 * k + 51 ≤ length new
+  pub rows-room : b ≡ true → 4 + k * 51 + 51 ≤ length new
   rows-room t = written-room v h (sym e ∙ t)
 
   pub rows-on : {k′ : ℕ} {ys new′ : List ℕ} {row : Row}
       → b ≡ true → row ≡ rowOf (getD l i noProcess)
-      → ys ≡ rowIn (take (4 + 51 * k + 51 - (4 + 51 * k)) (drop (4 + 51 * k) new)) row
-      → new′ ≡ putMid (4 + 51 * k) (4 + 51 * k + 51 - (4 + 51 * k)) new ys → k′ ≡ k + 1
-      → length ys ≡ length (take (4 + 51 * k + 51 - (4 + 51 * k)) (drop (4 + 51 * k) new))
+      → ys ≡ rowIn (take (4 + k * 51 + 51 - (4 + k * 51)) (drop (4 + k * 51) new)) row
+      → new′ ≡ putMid (4 + k * 51) (4 + k * 51 + 51 - (4 + k * 51)) new ys → k′ ≡ k + 1
+      → length ys ≡ length (take (4 + k * 51 + 51 - (4 + k * 51)) (drop (4 + k * 51) new))
       → Written wanted old l n new′ k′ (i + 1)
   rows-on {ys = ys} {row = row} t r q g m s =
-      let whole : 4 + 51 * k + 51 - (4 + 51 * k) ≡ 51 = omega arith in
-      let long : length (take 51 (drop (4 + 51 * k) new)) ≡ 51 = Rows.part-long v h (sym e ∙ t) in
-      let bytes : ys ≡ rowBytes (rowOf (getD l i noProcess)) = (rw whole at q) ∙ row-in (take 51 (drop (4 + 51 * k) new)) row long ∙ ap rowBytes r in
-      rw (g, m, whole) (written-hit v h (sym e ∙ t) bytes ((rw whole at s) ∙ long))
+      let part : List ℕ = take (4 + k * 51 + 51 - (4 + k * 51)) (drop (4 + k * 51) new) in
+      let bytes : ys ≡ rowBytes (rowOf (getD l i noProcess)) = q ∙ row-in part row (Rows.part-long v h (sym e ∙ t)) ∙ ap rowBytes r in
+      rw (g, m) (written-hit v h (sym e ∙ t) bytes s)
 
   pub rows-over : {k′ : ℕ} {new′ : List ℕ} → b ≡ false → new′ ≡ new → k′ ≡ k → Written wanted old l n new′ k′ (i + 1)
   rows-over t g m = rw (g, m) (written-miss v h (sym e ∙ t))
 
 pub rows-length : {wanted : Wanted} {old : List ℕ} {l : List Process} {n : ℕ} {new : List ℕ} {k i : ℕ} → Written wanted old l n new k i → length new ≡ length old
-rows-length v = v .long
+rows-length v = written-length v
 
 -- ---- the message
 module _ (t : Table) (wanted : Wanted) {count : ℕ} (e : count ≡ length (rowsAmong wanted (standing t))) (h : length (t .places) ≡ 12) where
@@ -309,4 +304,4 @@ module _ (t : Table) (wanted : Wanted) (old : List ℕ) {count : ℕ} (e : count
       pub listing-put : {new : List ℕ} → new ≡ rowsOver (rowsAmong wanted (standing t)) mid → new ≡ listingOver (rowsAmong wanted (standing t)) old
       listing-put q = q ∙ rw (m, e) (listing-whole (rowsAmong wanted (standing t)) old (omega (arith, length-is)))
 
-pub ruleset rules = (needs, length-mapped, byte-past, headed-code, headed-length, head-number, head-put, head-reach, over-stays, request-refused, request-got, room-short, room-enough, request-put, row-whole, row-cut, tested-none, test-on, test-miss, test-all, listing-rows, listing-not, count-refused, count-got, row-refused, row-past, row-inside, row-answer, wanted-is, count-is, rows-begin, rows-end, rows-room, rows-on, rows-over, rows-length, rows-fit, listing-fits, count-fits, listing-short, listing-stays, listing-length, listing-room, listing-put, list-bytes, list-stays)
+pub ruleset rules = (needs, length-mapped, headed-code, headed-length, head-number, head-same, head-put, head-reach, over-stays, request-refused, request-got, room-short, room-enough, request-put, rows-reach, rows-fits, Loops.rows-begin, Loops.rows-on, Loops.rows-fail, Loops.rows-all, listing-long, listing-rows, listing-not, count-refused, count-got, row-refused, row-past, row-inside, row-answer, row-made, wanted-is, count-is, rows-begin, rows-end, rows-room, rows-on, rows-over, rows-length, rows-fit, listing-fits, count-fits, listing-short, listing-stays, listing-length, listing-room, listing-put, list-bytes, list-stays)

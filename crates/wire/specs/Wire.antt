@@ -1,10 +1,12 @@
 -- "Listing messages on the wire": what the readers and the writers answer, and what the list call leaves in the lent buffer
 use Prim.Native.Nat.{ℕ, _+_, _*_}
 use mathlib.Core.Bool.{Bool, cond, _&&_}
-use mathlib.Core.List.{List, _++_, map}
+use mathlib.Core.List.{List, _∷_, _++_, map}
 use lib.Dec.{eqb, ltb, leb}
-use lib.ListN.{length, take, drop}
+use lib.ListN.{length, getD, take, drop}
 use Rattle.lists.specs.Lists.{select, join}
+use Rattle.rows.specs.Bytes.{bytesOf, numberAt}
+use Rattle.rows.specs.Rows.{rows, every, over}
 use Rattle.names.specs.Names.{rowBytes, isRow, noRow}
 use Rattle.names.specs.Names as Names
 use Rattle.names.specs.declared.Row.{Row}
@@ -18,10 +20,21 @@ use Rattle.claims.specs.declared.State.{State}
 use Rattle.calls.specs.Calls.{List′, number}
 use Rattle.calls.specs.Listing.{amongOf, rowOf, rowsOf, authProcesses, messageLength, listing}
 use Rattle.calls.specs.declared.Wanted.{Wanted}
-use Rattle.wire.specs.Bytes.{head, isHeaded, headNumber, allFrom, over}
 use Rattle.wire.specs.declared.CountRead.{CountRead}
 use Rattle.wire.specs.declared.RequestRead.{RequestRead}
 use Rattle.wire.specs.declared.RowAnswer.{RowAnswer}
+
+-- ---- what both messages begin with. "Byte 1 is reserved: written zero": a code, the reserved byte and a number of two bytes
+unfoldable pub head : ℕ → ℕ → List ℕ
+head code n = code ∷ 0 ∷ bytesOf 2 n
+
+-- "ignored on reading": a message has a code and a length, whatever byte 1 is
+unfoldable pub isHeaded : ℕ → ℕ → List ℕ → Bool
+isHeaded code long message = eqb (length message) long && eqb (getD message 0 0) code
+
+-- the number that follows the reserved byte; "Two-byte numbers are little endian."
+unfoldable pub headNumber : List ℕ → ℕ
+headNumber message = numberAt 2 2 message
 
 -- ---- GET_AUTH_PROCESSES: 004 Table 16, "(Table 44): code, reserved, credential in 2 bytes, 65535 for all"
 abbrev pub getAuthProcesses : ℕ
@@ -50,17 +63,14 @@ requestRoom old = No.room when ltb (length old) 4
 
 -- the part that the row at a place has
 unfoldable pub rowPart : List ℕ → ℕ → List ℕ
-rowPart message at = take 51 (drop (4 + 51 * at) message)
-
-unfoldable pub isRowAt : List ℕ → ℕ → Bool
-isRowAt message at = isRow (rowPart message at)
+rowPart message at = take 51 (drop (4 + at * 51) message)
 
 -- "it refuses with 14 a wrong code, a length under 4 or other than 4 + 51 × count, or a type over 2"; a length under 4 is other than
 -- 4 + 51 × count, whatever the count
 unfoldable pub isListing : List ℕ → Bool
 isListing message =
     isHeaded authProcesses (messageLength (headNumber message)) message
-    && allFrom (isRowAt message) 0 (headNumber message)
+    && every isRow (rows (headNumber message) 51 (drop 4 message))
 
 unfoldable pub countNumber : List ℕ → ℕ
 countNumber message = No.message unless isListing message
@@ -89,7 +99,7 @@ unfoldable pub readRowAt : List ℕ → ℕ → RowAnswer
 readRowAt message at =
     record {
       number = rowNumber message at;
-      row = cond (eqb (rowNumber message at) No.done) (Names.rowOf (rowPart message at)) zeroRow;
+      row = cond (eqb (rowNumber message at) No.done) (Names.rowFrom (rowPart message at)) zeroRow;
     }
 
 -- ---- AUTH_PROCESSES written
@@ -100,7 +110,7 @@ rowsAmong wanted l = map rowOf (select (isAmong (amongOf wanted)) l)
 
 -- "Rows are written one after another into the middle of the lent response, in table order."
 unfoldable pub rowsOver : List Row → List ℕ → List ℕ
-rowsOver rows old = over 4 (51 * length rows) (join (map rowBytes rows)) old
+rowsOver rows old = over 4 (length rows * 51) (join (map rowBytes rows)) old
 
 -- "The message has 4 + 51 × count bytes and later bytes of the buffer are not touched."
 unfoldable pub listingOver : List Row → List ℕ → List ℕ

@@ -1,12 +1,13 @@
 // The listing messages: GET_AUTH_PROCESSES and AUTH_PROCESSES, read and written; and the list call, with its bytes.
 ghost use mathlib.Core.Path.{_≡_};
 ghost use Prim.Native.Nat.{_≤_};
-ghost use lib.ListN.{length, getD};
+ghost use lib.ListN.{length, drop};
+ghost use Rattle.rows.specs.Rows.{rows, every, over};
+ghost use Rattle.names.specs.Names.{isRow};
 ghost use Rattle.table.specs.Table.{isAmong, standing};
 ghost use Rattle.calls.specs.Calls.{listed};
 ghost use Rattle.calls.specs.Listing.{amongOf, rowOf, messageLength};
-ghost use Rattle.wire.specs.Bytes.{head, isHeaded, headNumber, allFrom, over};
-ghost use Rattle.wire.specs.Wire.{request, readRequest, requestRoom, isRowAt, isListing, readCount, refusedRow, readRowAt, rowsAmong, rowsOver, listingOver, listingLength, listedBytes};
+ghost use Rattle.wire.specs.Wire.{head, isHeaded, headNumber, request, readRequest, requestRoom, isListing, readCount, refusedRow, readRowAt, rowsAmong, rowsOver, listingOver, listingLength, listedBytes};
 use calls::Listed;
 use calls::Wanted;
 use claims::ARGUMENT;
@@ -16,9 +17,9 @@ use claims::MESSAGE;
 use claims::ROOM;
 use claims::State;
 use names::Credential;
-use names::Kind;
 use names::Name;
 use names::Row;
+use names::RowType;
 use names::Session;
 use table::Process;
 use table::Table;
@@ -48,27 +49,18 @@ pub struct RowAnswer {
 
 // ---- what both messages begin with
 
-// The byte at a place; 0 past the end.
-fn byte_at(message: &[u8], at: usize) -> u8
-    ensures { λ r. ⌜ r ≡ getD (now (message .entry)) at 0 ⌝ }
-{
-    if at < message.len() { message[at] } else { 0 }
-}
-
 // Whether a message has a code and a length. Byte 1 is not looked at.
 fn is_headed(message: &[u8], code: u8, long: usize) -> bool
     ensures { λ r. ⌜ r ≡ isHeaded code long (now (message .entry)) ⌝ }
 {
-    message.len() == long && byte_at(message, 0) == code
+    message.len() == long && rows::byte_at(message, 0) == code
 }
 
 // The number after the reserved byte.
 fn head_number(message: &[u8]) -> u16
     ensures { λ r. ⌜ r ≡ headNumber (now (message .entry)) ⌝ }
 {
-    let low = byte_at(message, 2);
-    let high = byte_at(message, 3);
-    names::number16(low, high)
+    rows::number16(message, 2)
 }
 
 // A code, the reserved byte and a number, at the front of a buffer that has room for them.
@@ -78,8 +70,7 @@ fn put_head(buffer: &mut [u8], code: u8, number: u16)
     if 4 <= buffer.len() {
         buffer[0] = code;
         buffer[1] = 0;
-        buffer[2] = (number % 256) as u8;
-        buffer[3] = (number / 256 % 256) as u8;
+        rows::put_number16(buffer, 2, number);
     }
 }
 
@@ -114,22 +105,17 @@ pub fn put_request(buffer: &mut [u8], credential: u16) -> u8
 
 // ---- AUTH_PROCESSES read
 
-// Whether a row stands whole at a place, with a type of at most 2.
-fn is_row_at(message: &[u8], at: u16) -> bool
-    ensures { λ r. ⌜ r ≡ isRowAt (now (message .entry)) at ⌝ }
-{
-    let start = 4 + 51 * (at as usize);
-    let end = start + 51;
-    end <= message.len() && byte_at(message, start + 2) <= 2
-}
-
-// Whether one does at each of the first places.
+// Whether each row is one, in a message that is as long as its count says.
 fn are_rows(message: &[u8], count: u16) -> bool
-    ensures { λ r. ⌜ r ≡ allFrom (isRowAt (now (message .entry))) 0 count ⌝ }
+    requires { ⌜ length (now message) ≡ messageLength count ⌝ }
+    ensures { λ r. ⌜ r ≡ every isRow (rows count 51 (drop 4 (now (message .entry)))) ⌝ }
 {
-    let mut at: u16 = 0;
-    while at < count {
-        if !is_row_at(message, at) {
+    let n = count as usize;
+    let mut at: usize = 0;
+    while at < n {
+        let start = 4 + at * 51;
+        let end = start + 51;
+        if !names::is_row(&message[start..end]) {
             return false;
         }
         at += 1;
@@ -168,7 +154,7 @@ fn refused_row(number: u8) -> RowAnswer
         number: number,
         row: Row {
             credential: Credential(0),
-            kind: Kind::User,
+            kind: RowType::ActiveUser,
             name: Name { bytes: [0; 48] },
         },
     }
@@ -187,7 +173,7 @@ pub fn read_row_at(message: &[u8], at: usize) -> RowAnswer
     if count <= at {
         return refused_row(ARGUMENT);
     }
-    let start = 4 + 51 * at;
+    let start = 4 + at * 51;
     let end = start + 51;
     let found = names::read_row(&message[start..end]);
     let row = found.row;
@@ -213,7 +199,7 @@ fn row_of(p: Process) -> Row
     let name = p.name;
     Row {
         credential: credential,
-        kind: kind,
+        kind: names::type_of(kind),
         name: name,
     }
 }
@@ -238,7 +224,7 @@ fn put_rows(buffer: &mut [u8], t: Table, wanted: Wanted)
     while i < n {
         let p = places[i];
         if is_wanted(p, wanted) {
-            let start = 4 + 51 * k;
+            let start = 4 + k * 51;
             let end = start + 51;
             names::put_row(&mut buffer[start..end], row_of(p));
             k += 1;

@@ -1,24 +1,20 @@
 use Rattle.names.proofs.Rules.{rules}
 use Rattle.names.proofs.put_row.Statement.{statement}
 use Rattle.names.proofs.put_row.Tie as tie
+use Rattle.names.proofs.put_row.Reads as reads
+use Rattle.names.proofs.put_row.Lts as lts
+use Rattle.names.proofs.put_name.Reads as put-name-reads
+use Rattle.names.proofs.type_number.Reads as type-number-reads
+use Rattle.rows.proofs.put_number16.Reads as put-number16-reads
 
-cast-part : tie.Need-cast-part
-cast-part c = search rules
-
-slice-write-part : tie.Need-slice-write-part
-slice-write-part c = search rules
-
-cast-part-2 : tie.Need-cast-part-2
-cast-part-2 c = search rules
-
-slice-write-part-2 : tie.Need-slice-write-part-2
-slice-write-part-2 c = search rules
+put-number16-requires : tie.Need-put-number16-requires
+put-number16-requires c κs = search rules
 
 type-number-requires : tie.Need-type-number-requires
 type-number-requires c κs = search rules
 
-slice-write-part-3 : tie.Need-slice-write-part-3
-slice-write-part-3 c = search rules
+slice-write-part : tie.Need-slice-write-part
+slice-write-part c = search rules
 
 sub-put-name : tie.Need-sub-put-name
 sub-put-name c = search rules
@@ -45,12 +41,9 @@ pub put-row-spec : {M : Type 1} → statement M
 put-row-spec =
     tie.close
     (tie.spec
-    cast-part
-    slice-write-part
-    cast-part-2
-    slice-write-part-2
+    put-number16-requires
     type-number-requires
-    slice-write-part-3
+    slice-write-part
     sub-put-name
     part-put-name-start
     part-put-name-end

@@ -5,6 +5,12 @@ use native.Mathlib.Omega.{arith}
 use Rattle.names.proofs.Rules.{rules}
 use Rattle.names.proofs.read_row.Statement.{statement}
 use Rattle.names.proofs.read_row.Tie as tie
+use Rattle.names.proofs.read_row.Reads as reads
+use Rattle.names.proofs.read_row.Lts as lts
+use Rattle.names.proofs.is_row.Reads as is-row-reads
+use Rattle.names.proofs.no_row.Reads as no-row-reads
+use Rattle.names.proofs.read_name.Reads as read-name-reads
+use Rattle.rows.proofs.number16.Reads as number16-reads
 
 is-row-requires : tie.Need-is-row-requires
 is-row-requires c κs = search rules
@@ -15,11 +21,8 @@ no-row-requires c κs = search rules
 returns : tie.Need-returns
 returns c = search rules
 
-shared-slice-read-low : tie.Need-shared-slice-read-low
-shared-slice-read-low c = search rules
-
-shared-slice-read-high : tie.Need-shared-slice-read-high
-shared-slice-read-high c = search rules
+number16-requires : tie.Need-number16-requires
+number16-requires c κs = search rules
 
 shared-slice-read-number : tie.Need-shared-slice-read-number
 shared-slice-read-number c = search rules
@@ -36,11 +39,8 @@ part-read-name-end c = search rules
 read-name-requires : tie.Need-read-name-requires
 read-name-requires c κs = search rules
 
-number16-requires : tie.Need-number16-requires
-number16-requires c κs = search rules
-
-kind-of-requires : tie.Need-kind-of-requires
-kind-of-requires c κs = search rules
+type-numbered-requires : tie.Need-type-numbered-requires
+type-numbered-requires c κs = search rules
 
 returns-2 : tie.Need-returns-2
 returns-2 c = search rules
@@ -52,13 +52,11 @@ read-row-spec =
     is-row-requires
     no-row-requires
     returns
-    shared-slice-read-low
-    shared-slice-read-high
+    number16-requires
     shared-slice-read-number
     sub-read-name
     part-read-name-start
     part-read-name-end
     read-name-requires
-    number16-requires
-    kind-of-requires
+    type-numbered-requires
     returns-2)

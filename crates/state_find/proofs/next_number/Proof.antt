@@ -14,20 +14,14 @@ size-in-requires c κs = search rules
 returns-3 : tie.Need-returns-3
 returns-3 c = search rules
 
-mul-a : tie.Need-mul-a
-mul-a c = search rules
-
-add-a : tie.Need-add-a
-add-a c = search rules
-
-shared-slice-read-number16 : tie.Need-shared-slice-read-number16
-shared-slice-read-number16 c = search rules
+mul-number16 : tie.Need-mul-number16
+mul-number16 c = search rules
 
 add-number16 : tie.Need-add-number16
 add-number16 c = search rules
 
-shared-slice-read-number16-2 : tie.Need-shared-slice-read-number16-2
-shared-slice-read-number16-2 c = search rules
+add-number16-2 : tie.Need-add-number16-2
+add-number16-2 c = search rules
 
 number16-requires : tie.Need-number16-requires
 number16-requires c κs = search rules
@@ -43,10 +37,8 @@ next-number-spec =
     returns-2
     size-in-requires
     returns-3
-    mul-a
-    add-a
-    shared-slice-read-number16
+    mul-number16
     add-number16
-    shared-slice-read-number16-2
+    add-number16-2
     number16-requires
     returns-4)

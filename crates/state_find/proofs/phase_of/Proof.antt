@@ -11,11 +11,11 @@ returns c = search rules
 returns-2 : tie.Need-returns-2
 returns-2 c = search rules
 
-shared-slice-read-phase-numbered : tie.Need-shared-slice-read-phase-numbered
-shared-slice-read-phase-numbered c = search rules
+shared-slice-read-phase-from : tie.Need-shared-slice-read-phase-from
+shared-slice-read-phase-from c = search rules
 
-phase-numbered-requires : tie.Need-phase-numbered-requires
-phase-numbered-requires c κs = search rules
+phase-from-requires : tie.Need-phase-from-requires
+phase-from-requires c κs = search rules
 
 returns-3 : tie.Need-returns-3
 returns-3 c = search rules
@@ -27,6 +27,6 @@ phase-of-spec =
     cast-at
     returns
     returns-2
-    shared-slice-read-phase-numbered
-    phase-numbered-requires
+    shared-slice-read-phase-from
+    phase-from-requires
     returns-3)

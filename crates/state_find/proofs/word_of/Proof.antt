@@ -11,32 +11,14 @@ returns c = search rules
 returns-2 : tie.Need-returns-2
 returns-2 c = search rules
 
-mul-a : tie.Need-mul-a
-mul-a c = search rules
-
-add-a : tie.Need-add-a
-add-a c = search rules
-
-shared-slice-read-number32 : tie.Need-shared-slice-read-number32
-shared-slice-read-number32 c = search rules
+mul-number32 : tie.Need-mul-number32
+mul-number32 c = search rules
 
 add-number32 : tie.Need-add-number32
 add-number32 c = search rules
 
-shared-slice-read-number32-2 : tie.Need-shared-slice-read-number32-2
-shared-slice-read-number32-2 c = search rules
-
 add-number32-2 : tie.Need-add-number32-2
 add-number32-2 c = search rules
-
-shared-slice-read-number32-3 : tie.Need-shared-slice-read-number32-3
-shared-slice-read-number32-3 c = search rules
-
-add-number32-3 : tie.Need-add-number32-3
-add-number32-3 c = search rules
-
-shared-slice-read-number32-4 : tie.Need-shared-slice-read-number32-4
-shared-slice-read-number32-4 c = search rules
 
 number32-requires : tie.Need-number32-requires
 number32-requires c κs = search rules
@@ -51,14 +33,8 @@ word-of-spec =
     cast-at
     returns
     returns-2
-    mul-a
-    add-a
-    shared-slice-read-number32
+    mul-number32
     add-number32
-    shared-slice-read-number32-2
     add-number32-2
-    shared-slice-read-number32-3
-    add-number32-3
-    shared-slice-read-number32-4
     number32-requires
     returns-3)

@@ -8,20 +8,14 @@ shared-slice-read-wide16 c = search rules
 wide16-requires : tie.Need-wide16-requires
 wide16-requires c κs = search rules
 
-shared-slice-read-kind-of : tie.Need-shared-slice-read-kind-of
-shared-slice-read-kind-of c = search rules
+shared-slice-read-kind-from : tie.Need-shared-slice-read-kind-from
+shared-slice-read-kind-from c = search rules
 
-kind-of-requires : tie.Need-kind-of-requires
-kind-of-requires c κs = search rules
+kind-from-requires : tie.Need-kind-from-requires
+kind-from-requires c κs = search rules
 
 shared-slice-read-session : tie.Need-shared-slice-read-session
 shared-slice-read-session c = search rules
-
-shared-slice-read-number16 : tie.Need-shared-slice-read-number16
-shared-slice-read-number16 c = search rules
-
-shared-slice-read-number16-2 : tie.Need-shared-slice-read-number16-2
-shared-slice-read-number16-2 c = search rules
 
 number16-requires : tie.Need-number16-requires
 number16-requires c κs = search rules
@@ -47,11 +41,9 @@ process-of-spec =
     (tie.spec
     shared-slice-read-wide16
     wide16-requires
-    shared-slice-read-kind-of
-    kind-of-requires
+    shared-slice-read-kind-from
+    kind-from-requires
     shared-slice-read-session
-    shared-slice-read-number16
-    shared-slice-read-number16-2
     number16-requires
     sub-read-name
     part-read-name-start

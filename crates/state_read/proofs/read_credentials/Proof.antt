@@ -1,12 +1,13 @@
-use Rattle.layout.specs.Layout.{grantsOf}
-use Rattle.codec.proofs.Loops.{FilledBy}
+use Rattle.layout.specs.Layout.{credentialSize, credentialsAt, grantsFrom}
+use Rattle.rows.proofs.Loops.{FilledBy}
 use Prim.Native.Nat.{_-_}
 use Rattle.state_read.proofs.Rules.{rules}
 use Rattle.state_read.proofs.read_credentials.Statement.{statement}
 use Rattle.state_read.proofs.read_credentials.Tie as tie
+use Rattle.claims.specs.Module.{credentialCount}
 
 abbrev Inv-loop : tie.InvT-loop
-Inv-loop s out₀ i₀ out i = FilledBy grantsOf 8 5 4 s out₀ out i
+Inv-loop s out₀ i₀ out i = FilledBy grantsFrom credentialCount credentialSize credentialsAt s out₀ out i
 
 abbrev μ-loop : tie.MeasureT-loop
 μ-loop s out₀ i₀ out i = 8 - i

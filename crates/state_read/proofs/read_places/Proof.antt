@@ -1,15 +1,16 @@
-use Rattle.layout.specs.Layout.{processOf}
-use Rattle.codec.proofs.Loops.{FilledBy}
+use Rattle.layout.specs.Layout.{placeSize, placesAt, processFrom}
+use Rattle.rows.proofs.Loops.{FilledBy}
 use Prim.Native.Nat.{_-_}
 use Rattle.state_read.proofs.Rules.{rules}
 use Rattle.state_read.proofs.read_places.Statement.{statement}
 use Rattle.state_read.proofs.read_places.Tie as tie
+use Rattle.table.specs.Table.{places}
 
 abbrev Inv-loop : tie.InvT-loop
-Inv-loop s out₀ i₀ out i = FilledBy processOf 12 53 45 s out₀ out i
+Inv-loop s out₀ i₀ out i = FilledBy processFrom places placeSize placesAt s out₀ out i
 
 abbrev μ-loop : tie.MeasureT-loop
-μ-loop s out₀ i₀ out i = 12 - i
+μ-loop s out₀ i₀ out i = places - i
 
 empty-requires : tie.Need-empty-requires Inv-loop μ-loop
 empty-requires c κs = search rules

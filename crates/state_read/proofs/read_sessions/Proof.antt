@@ -1,12 +1,13 @@
-use Rattle.layout.specs.Layout.{sessionOf}
-use Rattle.codec.proofs.Loops.{FilledBy}
+use Rattle.layout.specs.Layout.{sessionsAt, sessionSize, sessionFrom}
+use Rattle.rows.proofs.Loops.{FilledBy}
 use Prim.Native.Nat.{_-_}
 use Rattle.state_read.proofs.Rules.{rules}
 use Rattle.state_read.proofs.read_sessions.Statement.{statement}
 use Rattle.state_read.proofs.read_sessions.Tie as tie
+use Rattle.claims.specs.Module.{sessionCount}
 
 abbrev Inv-loop : tie.InvT-loop
-Inv-loop s out₀ i₀ out i = FilledBy sessionOf 4 1 0 s out₀ out i
+Inv-loop s out₀ i₀ out i = FilledBy sessionFrom sessionCount sessionSize sessionsAt s out₀ out i
 
 abbrev μ-loop : tie.MeasureT-loop
 μ-loop s out₀ i₀ out i = 4 - i
@@ -17,11 +18,11 @@ closed-session-requires c κs = search rules
 loop-holds : tie.Need-loop-holds Inv-loop μ-loop
 loop-holds c = search rules
 
-shared-slice-read-phase-numbered : tie.Need-shared-slice-read-phase-numbered Inv-loop μ-loop
-shared-slice-read-phase-numbered c = search rules
+shared-slice-read-phase-from : tie.Need-shared-slice-read-phase-from Inv-loop μ-loop
+shared-slice-read-phase-from c = search rules
 
-phase-numbered-requires : tie.Need-phase-numbered-requires Inv-loop μ-loop
-phase-numbered-requires c κs = search rules
+phase-from-requires : tie.Need-phase-from-requires Inv-loop μ-loop
+phase-from-requires c κs = search rules
 
 array-set-from-out : tie.Need-array-set-from-out Inv-loop μ-loop
 array-set-from-out c = search rules
@@ -46,8 +47,8 @@ read-sessions-spec =
     μ-loop
     closed-session-requires
     loop-holds
-    shared-slice-read-phase-numbered
-    phase-numbered-requires
+    shared-slice-read-phase-from
+    phase-from-requires
     array-set-from-out
     add-i
     loop-less

@@ -1,12 +1,12 @@
 use Prim.Native.Nat.{_-_}
-use Rattle.layout.specs.Layout.{processOf, areApart}
-use Rattle.codec.proofs.Loops.{PairedTo}
+use Rattle.layout.specs.Layout.{placeSize, placesAt, processFrom, areApart}
+use Rattle.rows.proofs.Loops.{PairedTo}
 use Rattle.state_test.proofs.Rules.{rules}
 use Rattle.state_test.proofs.all_apart.Statement.{statement}
 use Rattle.state_test.proofs.all_apart.Tie as tie
 
 abbrev Inv-loop : tie.InvT-loop
-Inv-loop s n met i₀ i = PairedTo areApart processOf n 53 45 s i
+Inv-loop s n met i₀ i = PairedTo areApart processFrom n placeSize placesAt s i
 
 abbrev μ-loop : tie.MeasureT-loop
 μ-loop s n met i₀ i = n - i

@@ -1,12 +1,13 @@
 use Prim.Native.Nat.{_-_}
-use Rattle.codec.proofs.Loops.{RowsTo}
+use Rattle.rows.proofs.Loops.{RowsTo}
 use Rattle.state_test.specs.Stands.{stands}
 use Rattle.state_test.proofs.Rules.{rules}
 use Rattle.state_test.proofs.all_stand.Statement.{statement}
 use Rattle.state_test.proofs.all_stand.Tie as tie
+use Rattle.layout.specs.Layout.{placeSize, placesAt}
 
 abbrev Inv-loop : tie.InvT-loop
-Inv-loop s n i₀ i = RowsTo (stands s) n 53 45 s i
+Inv-loop s n i₀ i = RowsTo (stands s) n placeSize placesAt s i
 
 abbrev μ-loop : tie.MeasureT-loop
 μ-loop s n i₀ i = n - i

@@ -1,15 +1,16 @@
-use Rattle.layout.specs.Layout.{grantsFit}
-use Rattle.codec.proofs.Loops.{RowsTo}
+use Rattle.layout.specs.Layout.{credentialSize, credentialsAt, grantsFit}
+use Rattle.rows.proofs.Loops.{RowsTo}
 use Prim.Native.Nat.{_-_}
 use Rattle.state_test.proofs.Rules.{rules}
 use Rattle.state_test.proofs.credentials_fit.Statement.{statement}
 use Rattle.state_test.proofs.credentials_fit.Tie as tie
+use Rattle.claims.specs.Module.{credentialCount}
 
 abbrev Inv-loop : tie.InvT-loop
-Inv-loop s i₀ i = RowsTo grantsFit 8 5 4 s i
+Inv-loop s i₀ i = RowsTo grantsFit credentialCount credentialSize credentialsAt s i
 
 abbrev μ-loop : tie.MeasureT-loop
-μ-loop s i₀ i = 8 - i
+μ-loop s i₀ i = credentialCount - i
 
 loop-holds : tie.Need-loop-holds Inv-loop μ-loop
 loop-holds c = search rules

@@ -1,16 +1,16 @@
 use Rattle.table.specs.Table.{freePlace}
-use Rattle.codec.specs.Codec.{rows}
+use Rattle.rows.specs.Rows.{rows}
 use lib.ListN.{getD, drop}
 use mathlib.Core.List.{map}
-use Rattle.layout.specs.Layout.{processOf, areApart}
-use Rattle.codec.proofs.Loops.{RecordsTo}
+use Rattle.layout.specs.Layout.{placeSize, placesAt, processFrom, areApart}
+use Rattle.rows.proofs.Loops.{RecordsTo}
 use Prim.Native.Nat.{_+_, _-_}
 use Rattle.state_test.proofs.Rules.{rules}
 use Rattle.state_test.proofs.is_apart.Statement.{statement}
 use Rattle.state_test.proofs.is_apart.Tie as tie
 
 abbrev Inv-loop : tie.InvT-loop
-Inv-loop s n i a e j₀ j = RecordsTo (areApart (getD (map processOf (rows n 53 (drop 45 s))) i freePlace)) processOf n 53 45 s (i + 1) j
+Inv-loop s n i a e j₀ j = RecordsTo (areApart (getD (map processFrom (rows n placeSize (drop placesAt s))) i freePlace)) processFrom n placeSize placesAt s (i + 1) j
 
 abbrev μ-loop : tie.MeasureT-loop
 μ-loop s n i a e j₀ j = n - j

@@ -2,12 +2,13 @@ use Prim.Native.Nat.{_-_}
 use Rattle.state_test.proofs.Rules.{FoldedTo, rules}
 use Rattle.state_test.proofs.name_mark.Statement.{statement}
 use Rattle.state_test.proofs.name_mark.Tie as tie
+use Rattle.layout.specs.Layout.{placeSize}
 
 abbrev Inv-loop : tie.InvT-loop
 Inv-loop row d₀ i₀ d i = FoldedTo row d i
 
 abbrev μ-loop : tie.MeasureT-loop
-μ-loop row d₀ i₀ d i = 53 - i
+μ-loop row d₀ i₀ d i = placeSize - i
 
 loop-holds : tie.Need-loop-holds Inv-loop μ-loop
 loop-holds c = search rules

@@ -23,12 +23,6 @@ returns-3 c = search rules
 returns-4 : tie.Need-returns-4
 returns-4 c = search rules
 
-shared-slice-read-number16 : tie.Need-shared-slice-read-number16
-shared-slice-read-number16 c = search rules
-
-shared-slice-read-number16-2 : tie.Need-shared-slice-read-number16-2
-shared-slice-read-number16-2 c = search rules
-
 number16-requires : tie.Need-number16-requires
 number16-requires c κs = search rules
 
@@ -49,8 +43,6 @@ process-fits-spec =
     returns-2
     returns-3
     returns-4
-    shared-slice-read-number16
-    shared-slice-read-number16-2
     number16-requires
     returns-5
     returns-6)

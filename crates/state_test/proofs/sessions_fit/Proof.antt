@@ -1,15 +1,16 @@
-use Rattle.layout.specs.Layout.{sessionFits}
-use Rattle.codec.proofs.Loops.{RowsTo}
+use Rattle.layout.specs.Layout.{sessionsAt, sessionSize, sessionFits}
+use Rattle.rows.proofs.Loops.{RowsTo}
 use Prim.Native.Nat.{_-_}
 use Rattle.state_test.proofs.Rules.{rules}
 use Rattle.state_test.proofs.sessions_fit.Statement.{statement}
 use Rattle.state_test.proofs.sessions_fit.Tie as tie
+use Rattle.claims.specs.Module.{sessionCount}
 
 abbrev Inv-loop : tie.InvT-loop
-Inv-loop s i₀ i = RowsTo sessionFits 4 1 0 s i
+Inv-loop s i₀ i = RowsTo sessionFits sessionCount sessionSize sessionsAt s i
 
 abbrev μ-loop : tie.MeasureT-loop
-μ-loop s i₀ i = 4 - i
+μ-loop s i₀ i = sessionCount - i
 
 loop-holds : tie.Need-loop-holds Inv-loop μ-loop
 loop-holds c = search rules

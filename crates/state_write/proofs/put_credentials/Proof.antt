@@ -1,12 +1,12 @@
-use Rattle.layout.specs.Layout.{grantsBytes}
-use Rattle.codec.proofs.Loops.{Wrote}
+use Rattle.layout.specs.Layout.{credentialSize, credentialsAt, grantsBytes}
+use Rattle.rows.proofs.Loops.{Wrote}
 use Prim.Native.Nat.{_-_}
 use Rattle.state_write.proofs.Rules.{rules}
 use Rattle.state_write.proofs.put_credentials.Statement.{statement}
 use Rattle.state_write.proofs.put_credentials.Tie as tie
 
 abbrev Inv-loop : tie.InvT-loop
-Inv-loop s₀ l i₀ s i = Wrote grantsBytes 5 4 l s₀ s i
+Inv-loop s₀ l i₀ s i = Wrote grantsBytes credentialSize credentialsAt l s₀ s i
 
 abbrev μ-loop : tie.MeasureT-loop
 μ-loop s₀ l i₀ s i = 8 - i

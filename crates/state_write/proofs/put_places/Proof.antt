@@ -1,15 +1,16 @@
-use Rattle.layout.specs.Layout.{processBytes}
-use Rattle.codec.proofs.Loops.{Wrote}
+use Rattle.layout.specs.Layout.{placeSize, placesAt, processBytes}
+use Rattle.rows.proofs.Loops.{Wrote}
 use Prim.Native.Nat.{_-_}
 use Rattle.state_write.proofs.Rules.{rules}
 use Rattle.state_write.proofs.put_places.Statement.{statement}
 use Rattle.state_write.proofs.put_places.Tie as tie
+use Rattle.table.specs.Table.{places}
 
 abbrev Inv-loop : tie.InvT-loop
-Inv-loop s₀ l i₀ s i = Wrote processBytes 53 45 l s₀ s i
+Inv-loop s₀ l i₀ s i = Wrote processBytes placeSize placesAt l s₀ s i
 
 abbrev μ-loop : tie.MeasureT-loop
-μ-loop s₀ l i₀ s i = 12 - i
+μ-loop s₀ l i₀ s i = places - i
 
 loop-holds : tie.Need-loop-holds Inv-loop μ-loop
 loop-holds c = search rules

@@ -1,4 +1,4 @@
-use Rattle.state_write.proofs.Rules.{rules}
+use Rattle.state_write.proofs.Rules.{process-same, rules}
 use Rattle.state_write.proofs.put_process.Statement.{statement}
 use Rattle.state_write.proofs.put_process.Tie as tie
 
@@ -11,8 +11,8 @@ byte-of-requires c κs = search rules
 slice-write-part : tie.Need-slice-write-part
 slice-write-part c = search rules
 
-type-number-requires : tie.Need-type-number-requires
-type-number-requires c κs = search rules
+kind-byte-requires : tie.Need-kind-byte-requires
+kind-byte-requires c κs = search rules
 
 slice-write-part-2 : tie.Need-slice-write-part-2
 slice-write-part-2 c = search rules
@@ -20,17 +20,8 @@ slice-write-part-2 c = search rules
 slice-write-part-3 : tie.Need-slice-write-part-3
 slice-write-part-3 c = search rules
 
-cast-part : tie.Need-cast-part
-cast-part c = search rules
-
-slice-write-part-4 : tie.Need-slice-write-part-4
-slice-write-part-4 c = search rules
-
-cast-part-2 : tie.Need-cast-part-2
-cast-part-2 c = search rules
-
-slice-write-part-5 : tie.Need-slice-write-part-5
-slice-write-part-5 c = search rules
+put-number16-requires : tie.Need-put-number16-requires
+put-number16-requires c κs = search rules
 
 sub-put-name : tie.Need-sub-put-name
 sub-put-name c = search rules
@@ -45,7 +36,7 @@ put-name-requires : tie.Need-put-name-requires
 put-name-requires c κs = search rules
 
 same-length : tie.Need-same-length
-same-length c = search rules
+same-length c = search process-same
 
 returns : tie.Need-returns
 returns c = search rules
@@ -57,13 +48,10 @@ put-process-spec =
     cast-byte-of
     byte-of-requires
     slice-write-part
-    type-number-requires
+    kind-byte-requires
     slice-write-part-2
     slice-write-part-3
-    cast-part
-    slice-write-part-4
-    cast-part-2
-    slice-write-part-5
+    put-number16-requires
     sub-put-name
     part-put-name-start
     part-put-name-end

@@ -1,12 +1,12 @@
-use Rattle.layout.specs.Layout.{sessionBytes}
-use Rattle.codec.proofs.Loops.{Wrote}
+use Rattle.layout.specs.Layout.{sessionsAt, sessionSize, sessionBytes}
+use Rattle.rows.proofs.Loops.{Wrote}
 use Prim.Native.Nat.{_-_}
 use Rattle.state_write.proofs.Rules.{rules}
 use Rattle.state_write.proofs.put_sessions.Statement.{statement}
 use Rattle.state_write.proofs.put_sessions.Tie as tie
 
 abbrev Inv-loop : tie.InvT-loop
-Inv-loop s₀ l i₀ s i = Wrote sessionBytes 1 0 l s₀ s i
+Inv-loop s₀ l i₀ s i = Wrote sessionBytes sessionSize sessionsAt l s₀ s i
 
 abbrev μ-loop : tie.MeasureT-loop
 μ-loop s₀ l i₀ s i = 4 - i
@@ -17,8 +17,8 @@ loop-holds c = search rules
 array-copy-out-one : tie.Need-array-copy-out-one Inv-loop μ-loop
 array-copy-out-one c = search rules
 
-phase-number-requires : tie.Need-phase-number-requires Inv-loop μ-loop
-phase-number-requires c κs = search rules
+phase-byte-requires : tie.Need-phase-byte-requires Inv-loop μ-loop
+phase-byte-requires c κs = search rules
 
 slice-write-s : tie.Need-slice-write-s Inv-loop μ-loop
 slice-write-s c = search rules
@@ -46,7 +46,7 @@ put-sessions-spec =
     μ-loop
     loop-holds
     array-copy-out-one
-    phase-number-requires
+    phase-byte-requires
     slice-write-s
     add-i
     loop-less

@@ -8,20 +8,11 @@ mul-a c = search rules
 add-a : tie.Need-add-a
 add-a c = search rules
 
-cast-s : tie.Need-cast-s
-cast-s c = search rules
+add-put-number16 : tie.Need-add-put-number16
+add-put-number16 c = search rules
 
-slice-write-s : tie.Need-slice-write-s
-slice-write-s c = search rules
-
-cast-s-2 : tie.Need-cast-s-2
-cast-s-2 c = search rules
-
-add-s : tie.Need-add-s
-add-s c = search rules
-
-slice-write-s-2 : tie.Need-slice-write-s-2
-slice-write-s-2 c = search rules
+put-number16-requires : tie.Need-put-number16-requires
+put-number16-requires c κs = search rules
 
 same-length : tie.Need-same-length
 same-length c = search rules
@@ -41,11 +32,8 @@ write-next-spec =
     (tie.spec
     mul-a
     add-a
-    cast-s
-    slice-write-s
-    cast-s-2
-    add-s
-    slice-write-s-2
+    add-put-number16
+    put-number16-requires
     same-length
     returns
     returns-2

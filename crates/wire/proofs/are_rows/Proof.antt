@@ -1,21 +1,39 @@
-use Rattle.wire.specs.Wire.{isRowAt}
-use Rattle.wire.proofs.Bytes.{Tested}
 use Prim.Native.Nat.{_-_}
+use Rattle.rows.proofs.Loops.{RowsTo}
+use Rattle.names.specs.Names.{isRow}
 use Rattle.wire.proofs.Rules.{rules}
 use Rattle.wire.proofs.are_rows.Statement.{statement}
 use Rattle.wire.proofs.are_rows.Tie as tie
 
 abbrev Inv-loop : tie.InvT-loop
-Inv-loop message count at₀ at = Tested (isRowAt message) count at
+Inv-loop message count n at₀ at = RowsTo isRow count 51 4 message at
 
 abbrev μ-loop : tie.MeasureT-loop
-μ-loop message count at₀ at = count - at
+μ-loop message count n at₀ at = count - at
 
 loop-holds : tie.Need-loop-holds Inv-loop μ-loop
 loop-holds c = search rules
 
-is-row-at-requires : tie.Need-is-row-at-requires Inv-loop μ-loop
-is-row-at-requires c κs = search rules
+mul-start : tie.Need-mul-start Inv-loop μ-loop
+mul-start c = search rules
+
+add-start : tie.Need-add-start Inv-loop μ-loop
+add-start c = search rules
+
+add-end : tie.Need-add-end Inv-loop μ-loop
+add-end c = search rules
+
+sub-is-row : tie.Need-sub-is-row Inv-loop μ-loop
+sub-is-row c = search rules
+
+part-is-row-start : tie.Need-part-is-row-start Inv-loop μ-loop
+part-is-row-start c = search rules
+
+part-is-row-end : tie.Need-part-is-row-end Inv-loop μ-loop
+part-is-row-end c = search rules
+
+is-row-requires : tie.Need-is-row-requires Inv-loop μ-loop
+is-row-requires c κs = search rules
 
 returns : tie.Need-returns Inv-loop μ-loop
 returns c = search rules
@@ -39,7 +57,13 @@ are-rows-spec =
     Inv-loop
     μ-loop
     loop-holds
-    is-row-at-requires
+    mul-start
+    add-start
+    add-end
+    sub-is-row
+    part-is-row-start
+    part-is-row-end
+    is-row-requires
     returns
     add-at
     loop-less

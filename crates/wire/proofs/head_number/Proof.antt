@@ -2,12 +2,6 @@ use Rattle.wire.proofs.Rules.{rules}
 use Rattle.wire.proofs.head_number.Statement.{statement}
 use Rattle.wire.proofs.head_number.Tie as tie
 
-byte-at-requires : tie.Need-byte-at-requires
-byte-at-requires c κs = search rules
-
-byte-at-requires-2 : tie.Need-byte-at-requires-2
-byte-at-requires-2 c κs = search rules
-
 number16-requires : tie.Need-number16-requires
 number16-requires c κs = search rules
 
@@ -15,5 +9,4 @@ returns : tie.Need-returns
 returns c = search rules
 
 pub head-number-spec : {M : Type 1} → statement M
-head-number-spec =
-    tie.close (tie.spec byte-at-requires byte-at-requires-2 number16-requires returns)
+head-number-spec = tie.close (tie.spec number16-requires returns)

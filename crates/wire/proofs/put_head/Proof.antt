@@ -8,17 +8,8 @@ slice-write-buffer c = search rules
 slice-write-buffer-2 : tie.Need-slice-write-buffer-2
 slice-write-buffer-2 c = search rules
 
-cast-buffer : tie.Need-cast-buffer
-cast-buffer c = search rules
-
-slice-write-buffer-3 : tie.Need-slice-write-buffer-3
-slice-write-buffer-3 c = search rules
-
-cast-buffer-2 : tie.Need-cast-buffer-2
-cast-buffer-2 c = search rules
-
-slice-write-buffer-4 : tie.Need-slice-write-buffer-4
-slice-write-buffer-4 c = search rules
+put-number16-requires : tie.Need-put-number16-requires
+put-number16-requires c κs = search rules
 
 same-length : tie.Need-same-length
 same-length c = search rules
@@ -35,10 +26,7 @@ put-head-spec =
     (tie.spec
     slice-write-buffer
     slice-write-buffer-2
-    cast-buffer
-    slice-write-buffer-3
-    cast-buffer-2
-    slice-write-buffer-4
+    put-number16-requires
     same-length
     returns
     returns-2)
