@@ -26,6 +26,11 @@ credentialOf n = record { 0 = cond (ltb n 65536) n 65535 }
 unfoldable pub wantedOf : ℕ → Wanted
 wantedOf n = cond (eqb n 65535) Every (Only (credentialOf n))
 
+-- and back, by cases: "65535 for all"
+abbrev pub wantedNumber : Wanted → ℕ
+wantedNumber Every = 65535
+wantedNumber (Only c) = c .0
+
 -- "a flag (claim kind, verdict, keep, provisioned) other than 0 or 1" is 1
 unfoldable pub isFlag : ℕ → Bool
 isFlag n = leb n 1
@@ -39,6 +44,11 @@ userClaimOf credential number verdict = record { credential = credentialOf crede
 
 unfoldable pub claimOf : ℕ → ℕ → ℕ → ℕ → Claim
 claimOf kind credential number verdict = cond (flagOf kind) Elevated (ByUser (userClaimOf credential number verdict))
+
+-- and back, by cases
+abbrev pub kindNumber : Claim → ℕ
+kindNumber Elevated = 1
+kindNumber (ByUser u) = 0
 
 -- "there an elevated claim's credential, number and verdict are ignored whatever they hold, by the check for 1 too"
 unfoldable pub isClaimed : ℕ → ℕ → Bool
