@@ -4,12 +4,14 @@ use mathlib.Core.Path.{_≡_}
 use mathlib.Core.List.{List}
 use lib.ListN.{length}
 use Rattle.lists.specs.Each.{Each}
+use Rattle.names.specs.Names.{nameLength}
 use Rattle.names.specs.declared.Name.{Name}
+use Rattle.claims.specs.Module.{credentialCount}
 use Rattle.claims.specs.declared.Grants.{Grants}
 use Rattle.calls.specs.Calls.{Call, Open, Close, Drop, Select, Start, Continue, Elevate, End, Record, List′, Kill, SetWord}
 
 abbrev pub IsWhole : Name → Type 0
-IsWhole name = length (name .bytes) ≡ 48
+IsWhole name = length (name .bytes) ≡ nameLength
 
 abbrev pub IsWord : ℕ → Type 0
 IsWord word = word < 256 ^ 4
@@ -30,5 +32,5 @@ Fits (SetWord s claim c word) = IsWord word
 
 -- "A fresh module is made from eight such pairs"
 pub record Eight (pairs : List Grants) : Type 0 where
-  pub many : length pairs ≡ 8
+  pub many : length pairs ≡ credentialCount
   pub words : Each (λ g. IsWord (g .word)) pairs
