@@ -5,13 +5,15 @@ use mathlib.Core.Path.{_≡_, refl, sym}
 use mathlib.Core.Logic.{_≢_}
 use mathlib.Core.Bool.{true}
 use native.Mathlib.Omega.{arith}
+use borrow.Author.Tests.{eq-eqb}
 use lib.ListN.{length}
+use Rattle.lists.proofs.Tests.{and-left}
 use Rattle.lists.proofs.Each.{inside, each-at, pairs-at}
 use Rattle.names.specs.declared.Credential.{Credential}
 use Rattle.names.specs.declared.Kind.{Kind}
 use Rattle.names.specs.declared.Kind.the-variants.{User, Elevation, Saved}
 use Rattle.names.specs.declared.Session.{Session}
-use Rattle.table.specs.Table.{size, freePlace, processAt}
+use Rattle.table.specs.Table.{size, freePlace, processAt, isActiveIn}
 use Rattle.table.specs.Table as T
 use Rattle.table.specs.declared.Active.the-variants.{UserOf, ElevationIn}
 use Rattle.table.specs.declared.Process.{Process}
@@ -30,6 +32,15 @@ running : (k : Kind) → k ≢ Saved → isRunning k ≡ true
 running User n = refl
 running Elevation n = refl
 running Saved n = absurd (n refl)
+
+-- an active process of a session is active in it; and one that is active in a session is active
+pub active-in : (s : Session) (p : Process) → isRunning (p .kind) ≡ true → p .session .0 ≡ s .0 → isActiveIn s p ≡ true
+unfolding isActiveIn
+active-in s p k q = rw (k, eq-eqb (p .session .0) (s .0) q)
+
+pub in-active : (s : Session) (p : Process) → isActiveIn s p ≡ true → isRunning (p .kind) ≡ true
+unfolding isActiveIn
+in-active s p a = and-left (isRunning (p .kind)) _ a
 
 -- ---- the rules by places
 pub by-places : (st : State) → Rules st → RulesByPlaces st

@@ -5,7 +5,7 @@ use mathlib.Core.Path.{_≡_, refl, sym, ap, _∙_}
 use mathlib.Core.Bool.{Bool, true, false}
 use mathlib.Core.List.{List, [], _∷_, _++_}
 use native.Mathlib.Omega.{arith}
-use borrow.Author.Tests.{eqb-true, eq-eqb}
+use borrow.Author.Tests.{eqb-true}
 use lib.Dec.{eqb}
 use lib.ListN.{length, set, length-append, length-set}
 use lib.Seq.{getD-set-other}
@@ -27,12 +27,7 @@ use Rattle.claims.specs.declared.SessionState.{SessionState}
 use Rattle.claims.specs.declared.State.{State}
 use Rattle.calls.specs.Calls.{withTable, withPhase, withWord, fresh}
 use Rattle.facts.specs.Facts.{processes, isRunning, Owned, Apart, Rules}
-use Rattle.facts.proofs.Laws.{apart-turn}
-
--- an active process of a session is active in it
-active-in : (s : Session) (p : Process) → isRunning (p .kind) ≡ true → p .session .0 ≡ s .0 → isActiveIn s p ≡ true
-unfolding isActiveIn
-active-in s p k q = rw (k, eq-eqb (p .session .0) (s .0) q)
+use Rattle.facts.proofs.Laws.{apart-turn, active-in}
 
 -- ---- the processes
 module _ (st : State) where

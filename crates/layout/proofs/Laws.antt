@@ -136,10 +136,6 @@ module _ {b : List ℕ} (v : Shape b) where
   unfolding placesIn
   places-length = length-map (rows places placeSize (drop placesAt b)) processFrom ∙ rows-length places placeSize (drop placesAt b)
 
-  stand : length (standing (stateIn b .table)) ≡ countIn b
-  unfolding standing
-  stand = length-take-le (countIn b) (placesIn b) (omega (arith, v .room, places-length))
-
   shape-tidy : stateIn b .table ≡ tableOf (standing (stateIn b .table))
   unfolding placesIn standing
   shape-tidy =

@@ -1,10 +1,10 @@
 -- The test of demand 3's rules is those rules.
 -- Assumes nothing.
+use Prim.Native.Nat.{_≤_}
 use mathlib.Core.Path.{_≡_, refl}
 use mathlib.Core.Logic.{_↔_}
 use mathlib.Core.Bool.{true, false, not, _||_}
-use borrow.Author.Tests.{not-true, eq-eqb}
-use Prim.Native.Nat.{_≤_}
+use borrow.Author.Tests.{not-true}
 use lib.ListN.{length}
 use Rattle.lists.proofs.Tests.{split, clash, and-left, and-right, and-both}
 use Rattle.rows.specs.Rows.{every}
@@ -21,17 +21,8 @@ use Rattle.table.specs.declared.Process.{Process}
 use Rattle.claims.specs.Module.{phaseOf, isChosen, provisioned}
 use Rattle.claims.specs.declared.State.{State}
 use Rattle.layout.specs.Layout.{isOwned, areRivals, areApart, sound}
-use Rattle.facts.specs.Facts.{processes, isRunning, Owned, Apart, Rules}
-
--- ---- an active process is active in its session
-module _ (p : Process) where
-  active-own : isRunning (p .kind) ≡ true → isActiveIn (p .session) p ≡ true
-  unfolding isActiveIn
-  active-own k = rw (k, eq-eqb (p .session .0) (p .session .0) refl)
-
-  own-active : isActiveIn (p .session) p ≡ true → isRunning (p .kind) ≡ true
-  unfolding isActiveIn
-  own-active a = and-left (isRunning (p .kind)) _ a
+use Rattle.facts.specs.Facts.{processes, Owned, Apart, Rules}
+use Rattle.facts.proofs.Laws.{active-in, in-active}
 
 -- ---- an owner
 module _ (st : State) (p : Process) where
@@ -40,12 +31,12 @@ module _ (st : State) (p : Process) where
   owned-tells e =
       record {
         owner = and-left (provisioned st (p .credential)) _ e;
-        seated = λ k. rw (active-own p k) at (and-right (provisioned st (p .credential)) (not (isActiveIn (p .session) p) || isChosen (phaseOf st (p .session))) e);
+        seated = λ k. rw (active-in (p .session) p k refl) at (and-right (provisioned st (p .credential)) (not (isActiveIn (p .session) p) || isChosen (phaseOf st (p .session))) e);
       }
 
   owned-test : Owned st p → isOwned st p ≡ true
   unfolding isOwned
-  owned-test v = rw (v .owner) (split (isActiveIn (p .session) p) (λ a. rw (a, v .seated (own-active p a))) (λ a. rw a))
+  owned-test v = rw (v .owner) (split (isActiveIn (p .session) p) (λ a. rw (a, v .seated (in-active (p .session) p a))) (λ a. rw a))
 
 -- ---- two processes
 module _ (p q : Process) where
