@@ -17,7 +17,7 @@ slavotuk-bench: times the record entry beside ordinary Rust with the same answer
 
 usage: slavotuk-bench [--rounds N] [--calls N]
 
-  --rounds N   rounds that are timed, after a warm-up (21)
+  --rounds N   rounds that are timed, after a warm-up (61)
   --calls N    record calls in a round, 16 to 131068 (100000)
   --help       this text
 
@@ -52,7 +52,7 @@ fn main() -> ExitCode {
 
 fn parse(arguments: &[String]) -> Result<Options, String> {
     let mut options = Options {
-        rounds: 21,
+        rounds: 61,
         calls: 100_000,
     };
     let mut rest = arguments.iter();
