@@ -35,6 +35,7 @@ use names::Session;
 use table::Active;
 use table::Among;
 use table::Found;
+use table::PLACES;
 
 // Whose processes a listing is to have.
 pub enum Wanted {
@@ -112,7 +113,7 @@ fn is_full(st: State) -> bool
     ensures { λ r. ⌜ r ≡ isFull st ⌝ }
 {
     let t = st.table;
-    12 <= table::size(t)
+    PLACES <= table::size(t)
 }
 
 // ---- open, close, select

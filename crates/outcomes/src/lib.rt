@@ -7,11 +7,13 @@ use calls::Listed;
 use calls::Outcome;
 use calls::Wanted;
 use claims::Admission;
+use claims::CREDENTIALS;
 use claims::Claim;
 use claims::Class;
 use claims::DONE;
 use claims::Grants;
 use claims::Phase;
+use claims::SESSIONS;
 use claims::SessionState;
 use claims::State;
 use claims::UserClaim;
@@ -69,7 +71,7 @@ fn with_phase(st: State, s: Session, phase: Phase) -> State
     ensures { λ r. ⌜ r ≡ withPhase st s phase ⌝ }
 {
     let at = s.0 as usize;
-    if 4 <= at {
+    if SESSIONS <= at {
         return st;
     }
     let mut sessions = st.sessions;
@@ -87,7 +89,7 @@ fn with_word(st: State, c: Credential, word: u32) -> State
     ensures { λ r. ⌜ r ≡ withWord st c word ⌝ }
 {
     let at = c.0 as usize;
-    if 8 <= at {
+    if CREDENTIALS <= at {
         return st;
     }
     let mut credentials = st.credentials;
@@ -369,12 +371,12 @@ fn taken(pair: Grants) -> Grants
 }
 
 // The module made from eight pairs: all sessions closed, no process.
-pub fn fresh(pairs: [Grants; 8]) -> State
+pub fn fresh(pairs: [Grants; CREDENTIALS]) -> State
     ensures { λ r. ⌜ r ≡ fresh pairs ⌝ }
 {
     let mut credentials = pairs;
     let mut i: usize = 0;
-    while i < 8 {
+    while i < CREDENTIALS {
         let pair = credentials[i];
         credentials[i] = taken(pair);
         i += 1;
@@ -383,7 +385,7 @@ pub fn fresh(pairs: [Grants; 8]) -> State
     State {
         sessions: [SessionState {
             phase: Phase::Closed,
-        }; 4],
+        }; SESSIONS],
         credentials: credentials,
         table: t,
     }

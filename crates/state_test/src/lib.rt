@@ -275,6 +275,11 @@ fn are_rivals<'a>(a: &'a [u8], b: &'a [u8]) -> bool
     kind == 1
 }
 
+// Where the second and the third 16 bytes of a name lie.
+const SECOND_PART: usize = NAME_AT + 16;
+
+const THIRD_PART: usize = SECOND_PART + 16;
+
 // Whether the names of two places agree in all 48 bytes: 16, then 16, then 16.
 fn same_name<'a>(a: &'a [u8], b: &'a [u8]) -> bool
     requires { ⌜ length (now a) ≡ placeSize ⌝ }
@@ -284,10 +289,10 @@ fn same_name<'a>(a: &'a [u8], b: &'a [u8]) -> bool
     if !same16(a, b, NAME_AT) {
         return false;
     }
-    if !same16(a, b, 21) {
+    if !same16(a, b, SECOND_PART) {
         return false;
     }
-    same16(a, b, 37)
+    same16(a, b, THIRD_PART)
 }
 
 fn are_apart<'a>(a: &'a [u8], b: &'a [u8]) -> bool
