@@ -162,7 +162,7 @@ module _ (st : State) (s : Session) (claim : Claim) (name : Name) (h : hasNamed 
 
 module _ (st : State) (s : Session) (claim : Claim) (c : Credential) (mine : claimant st s claim ≡ c) (lacks : granted st c killOthers ≡ false) where
   own : reach st (claimant st s claim) ≡ Of c
-  unfolding reach
+  unfolding reach granted
   own = rw (mine, lacks)
 
   -- what no process has, none of the credential's has

@@ -22,7 +22,7 @@ use Rattle.claims.proofs.Laws.{admission-number, admission-credential, admissio
 use Rattle.calls.specs.declared.Answer.the-variants.{Done}
 use Rattle.calls.specs.declared.Outcome.{Outcome}
 use Rattle.calls.specs.declared.Wanted.{Wanted}
-use Rattle.calls.specs.Calls.{Call, Open, Close, Select, Start, Continue, Elevate, Drop, End, Record, List′, Kill, SetWord, saveOwn, listOthers, killOthers, setWords, isDevice, isWanted, hasNamed, lacksSaving, isOwn, mayList, isShort, reachOf, reach, number, effect, refusal, answerNumber, outcome}
+use Rattle.calls.specs.Calls.{Call, Open, Close, Select, Start, Continue, Elevate, Drop, End, Record, List′, Kill, SetWord, saveOwn, listOthers, killOthers, setWords, isDevice, isWanted, hasNamed, lacksSavingBy, lacksSaving, isOwn, mayListBy, mayList, isShort, reachBy, reach, number, effect, refusal, answerNumber, outcome}
 
 -- an accepted call does what it does; a refused one hands the state back as it was
 pub outcome-done : (st : State) (call : Call) → number st call ≡ 0 → outcome st call ≡ record { state = effect st call; answer = Done }
@@ -70,8 +70,8 @@ module _ (st : State) (s : Session) (claim : Claim) {by : Admission} (e : by ≡
   unfolding granted
   checked-grant class = rw (e, admission-word st s claim)
 
-  pub checked-reach : reachOf (by .word) (by .credential) ≡ reach st (claimant st s claim)
-  unfolding reach
+  pub checked-reach : reachBy (by .word) (by .credential) ≡ reach st (claimant st s claim)
+  unfolding reach granted
   checked-reach = rw (checked-grant killOthers, checked-credential)
 
   pub record-number : {n : ℕ} (class : Class) → n ≡ 1 unless isDevice class ▸ by .number ▸ 10 unless wordGrants (by .word) class → n ≡ number st (Record s claim class)
@@ -79,12 +79,12 @@ module _ (st : State) (s : Session) (claim : Claim) {by : Admission} (e : by ≡
   record-number class q = q ∙ rw (checked-number, checked-grant class)
 
   pub list-number : {n : ℕ} (wanted : Wanted) (room : ℕ)
-      → n ≡ 1 unless isWanted wanted ▸ by .number ▸ 10 unless (isOwn (by .credential) wanted || wordGrants (by .word) listOthers) ▸ 15 when isShort st wanted room
+      → n ≡ 1 unless isWanted wanted ▸ by .number ▸ 10 unless mayListBy (by .word) (by .credential) wanted ▸ 15 when isShort st wanted room
       → n ≡ number st (List′ s claim wanted room)
-  unfolding number mayList
+  unfolding number mayList granted
   list-number wanted room q = q ∙ rw (checked-number, checked-grant listOthers, checked-credential)
 
-  pub kill-number : {n : ℕ} (name : Name) → n ≡ by .number ▸ 6 unless hasNamed st name (reachOf (by .word) (by .credential)) → n ≡ number st (Kill s claim name)
+  pub kill-number : {n : ℕ} (name : Name) → n ≡ by .number ▸ 6 unless hasNamed st name (reachBy (by .word) (by .credential)) → n ≡ number st (Kill s claim name)
   unfolding number
   kill-number name q = q ∙ rw (checked-number, checked-reach)
 
@@ -94,6 +94,6 @@ module _ (st : State) (s : Session) (claim : Claim) {by : Admission} (e : by ≡
   set-word-number c word q = q ∙ rw (checked-number, checked-grant setWords)
 
 pub end-number : (st : State) (s : Session) (u : UserClaim) {by : Admission} → by ≡ admission st s (ByUser u) → {n : ℕ} (keep : Bool)
-    → n ≡ by .number ▸ 10 when (keep && not (wordGrants (by .word) saveOwn)) → n ≡ number st (End s u keep)
-unfolding number lacksSaving claimant
+    → n ≡ by .number ▸ 10 when lacksSavingBy (by .word) keep → n ≡ number st (End s u keep)
+unfolding number lacksSaving claimant granted
 end-number st s u e keep q = q ∙ rw (checked-number st s (ByUser u) e, checked-grant st s (ByUser u) e saveOwn)

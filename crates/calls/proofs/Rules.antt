@@ -47,7 +47,7 @@ use Rattle.calls.specs.declared.Outcome.{Outcome}
 use Rattle.calls.specs.declared.Wanted.{Wanted}
 use Rattle.calls.specs.declared.Wanted.the-variants.{Every, Only}
 use Rattle.calls.specs.Listing.{amongOf, rowsOf, messageLength}
-use Rattle.calls.specs.Calls.{Call, Open, Close, Select, Start, Continue, Elevate, Drop, End, Record, List′, Kill, SetWord, saveOwn, listOthers, killOthers, isDevice, isVersion, isWanted, isFull, hasNamed, namedPlace, lacksSaving, isOwn, mayList, isShort, reachOf, reach, number, withTable, withPhase, withWord, userProcess, elevation, activated, saved, oneMore, counted, ended, effect, refusal, outcome, listed, taken, fresh}
+use Rattle.calls.specs.Calls.{Call, Open, Close, Select, Start, Continue, Elevate, Drop, End, Record, List′, Kill, SetWord, saveOwn, listOthers, killOthers, isDevice, isVersion, isWanted, isFull, hasNamed, namedPlace, lacksSaving, isOwn, mayList, isShort, reachBy, reach, number, withTable, withPhase, withWord, userProcess, elevation, activated, saved, oneMore, counted, ended, effect, refusal, outcome, listed, taken, fresh}
 use Rattle.calls.proofs.Laws.{outcome-done, outcome-refused, checked-number, checked-reach, record-number, list-number, kill-number, set-word-number, end-number}
 
 -- ---- a call: refused with its number, or done
@@ -192,10 +192,10 @@ short-is st wanted room e = rw e
 
 -- ---- whom a kill reaches
 module _ (word : ℕ) (c : Credential) {b : Bool} (e : b ≡ wordGrants word killOthers) where
-  pub reach-all : b ≡ true → All ≡ reachOf word c
+  pub reach-all : b ≡ true → All ≡ reachBy word c
   reach-all h = rw (sym e ∙ h)
 
-  pub reach-own : b ≡ false → Of c ≡ reachOf word c
+  pub reach-own : b ≡ false → Of c ≡ reachBy word c
   reach-own h = rw (sym e ∙ h)
 
 pub named-among : (st : State) (name : Name) {a among : Among} {b : Bool} → a ≡ among → b ≡ hasNamed st name a → b ≡ hasNamed st name among
@@ -307,7 +307,7 @@ module _ (st : State) {x : State} where
 
     module _ (s : Session) (claim : Claim) (e : y ≡ counted st s claim) where
       pub effect-kill : (name : Name) {by : Admission} {among : Among} {at : ℕ} {t : Table}
-          → by ≡ admission st s claim → among ≡ reachOf (by .word) (by .credential) → at ≡ namedPlace st name among → t ≡ removed (y .table) at → x ≡ withTable y t
+          → by ≡ admission st s claim → among ≡ reachBy (by .word) (by .credential) → at ≡ namedPlace st name among → t ≡ removed (y .table) at → x ≡ withTable y t
           → x ≡ effect st (Kill s claim name)
       unfolding effect
       effect-kill name a b d f g = g ∙ rw (f, d, b ∙ checked-reach st s claim a, e)

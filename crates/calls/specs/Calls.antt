@@ -18,7 +18,7 @@ use Rattle.table.specs.declared.Process.{Process}
 use Rattle.table.specs.declared.Table.{Table}
 use Rattle.claims.specs.Numbers as No
 use Rattle.claims.specs.Numbers.{_when_, _unless_, _▸_}
-use Rattle.claims.specs.Module.{isHandle, closedSession, phaseOf, isClosed, isCredential, unprovisioned, provisioned, wordGrants, granted, hasActive, activePlace, activeProcess}
+use Rattle.claims.specs.Module.{isHandle, closedSession, phaseOf, isClosed, isCredential, unprovisioned, provisioned, wordOf, wordGrants, granted, hasActive, activePlace, activeProcess}
 use Rattle.claims.specs.Claim.{entered, admitted, claimant}
 use Rattle.claims.specs.declared.Claim.{Claim}
 use Rattle.claims.specs.declared.Claim.the-variants.{Elevated, ByUser}
@@ -89,27 +89,33 @@ unfoldable pub namedPlace : State → Name → Among → ℕ
 namedPlace st name among = firstIndex (isNamed name among) (standing (st .table))
 
 -- "10 if keep and class 2 is clear"
+abbrev pub lacksSavingBy : ℕ → Bool → Bool
+lacksSavingBy word keep = keep && not (wordGrants word saveOwn)
+
 unfoldable pub lacksSaving : State → Credential → Bool → Bool
-lacksSaving st c keep = keep && not (granted st c saveOwn)
+lacksSaving st c keep = lacksSavingBy (wordOf st c) keep
 
 -- "10 if wanted differs from the claim's credential and class 0 is clear (a credential may always list its own)"
 unfoldable pub isOwn : Credential → Wanted → Bool
 isOwn c Every = false
 isOwn c (Only wanted) = eqb (wanted .0) (c .0)
 
+abbrev pub mayListBy : ℕ → Credential → Wanted → Bool
+mayListBy word c wanted = isOwn c wanted || wordGrants word listOthers
+
 unfoldable pub mayList : State → Credential → Wanted → Bool
-mayList st c wanted = isOwn c wanted || granted st c listOthers
+mayList st c wanted = mayListBy (wordOf st c) c wanted
 
 -- "response buffer too short"
 unfoldable pub isShort : State → Wanted → ℕ → Bool
 isShort st wanted room = ltb room (messageLength (length (rowsOf st wanted)))
 
 -- "It may kill its own credential's processes of every type, and all when class 1 is granted."
-abbrev pub reachOf : ℕ → Credential → Among
-reachOf word c = cond (wordGrants word killOthers) All (Of c)
+abbrev pub reachBy : ℕ → Credential → Among
+reachBy word c = cond (wordGrants word killOthers) All (Of c)
 
 unfoldable pub reach : State → Credential → Among
-reach st c = cond (granted st c killOthers) All (Of c)
+reach st c = reachBy (wordOf st c) c
 
 -- ---- the number: that of the first test that holds, 0 where none does
 unfoldable pub number : State → Call → ℕ

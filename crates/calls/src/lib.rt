@@ -1,6 +1,5 @@
 // What each call asks: its tests in their order, and the number that it answers. What a call does where that is 0 is in `outcomes`.
 ghost use mathlib.Core.Path.{_≡_};
-ghost use mathlib.Core.Bool.{not, _&&_, _||_};
 ghost use lib.ListN.{length};
 ghost use Rattle.claims.specs.Numbers.{_when_, _unless_, _▸_};
 ghost use Rattle.claims.specs.Numbers as No;
@@ -8,7 +7,7 @@ ghost use Rattle.claims.specs.Module.{isCredential, provisioned, wordGrants, ha
 ghost use Rattle.claims.specs.Claim.{entered};
 ghost use Rattle.table.specs.declared.Among.the-variants.{All};
 ghost use Rattle.calls.specs.Listing.{amongOf, rowsOf, messageLength};
-ghost use Rattle.calls.specs.Calls.{Open, Close, Select, Start, Continue, Elevate, Drop, saveOwn, listOthers, setWords, isDevice, isVersion, isWanted, isFull, hasNamed, namedPlace, isOwn, isShort, reachOf, number, answerNumber};
+ghost use Rattle.calls.specs.Calls.{Open, Close, Select, Start, Continue, Elevate, Drop, setWords, isDevice, isVersion, isWanted, isFull, hasNamed, namedPlace, lacksSavingBy, isOwn, mayListBy, isShort, reachBy, number, answerNumber};
 use claims::ALREADY_ACTIVE;
 use claims::ARGUMENT;
 use claims::Admission;
@@ -256,14 +255,14 @@ pub fn drop_number(st: State, s: Session) -> u8
 // ---- end
 
 fn lacks_saving(word: u32, keep: bool) -> bool
-    ensures { λ r. ⌜ r ≡ keep && not (wordGrants word saveOwn) ⌝ }
+    ensures { λ r. ⌜ r ≡ lacksSavingBy word keep ⌝ }
 {
     keep && !claims::word_grants(word, Class(SAVE_OWN))
 }
 
 // Of a protected call: its tests go on where the check of its claim ended.
 pub fn end_number(by: Admission, keep: bool) -> u8
-    ensures { λ r. ⌜ r ≡ by .number ▸ No.notGranted when (keep && not (wordGrants (by .word) saveOwn)) ⌝ }
+    ensures { λ r. ⌜ r ≡ by .number ▸ No.notGranted when lacksSavingBy (by .word) keep ⌝ }
 {
     if by.number != DONE {
         return by.number;
@@ -328,7 +327,7 @@ fn is_own(c: Credential, wanted: Wanted) -> bool
 }
 
 fn may_list(by: Admission, wanted: Wanted) -> bool
-    ensures { λ r. ⌜ r ≡ isOwn (by .credential) wanted || wordGrants (by .word) listOthers ⌝ }
+    ensures { λ r. ⌜ r ≡ mayListBy (by .word) (by .credential) wanted ⌝ }
 {
     let c = by.credential;
     is_own(c, wanted) || claims::word_grants(by.word, Class(LIST_OTHERS))
@@ -348,7 +347,7 @@ fn is_short(st: State, wanted: Wanted, room: usize) -> bool
 }
 
 pub fn list_number(st: State, by: Admission, wanted: Wanted, room: usize) -> u8
-    ensures { λ r. ⌜ r ≡ No.argument unless isWanted wanted ▸ by .number ▸ No.notGranted unless (isOwn (by .credential) wanted || wordGrants (by .word) listOthers) ▸ No.room when isShort st wanted room ⌝ }
+    ensures { λ r. ⌜ r ≡ No.argument unless isWanted wanted ▸ by .number ▸ No.notGranted unless mayListBy (by .word) (by .credential) wanted ▸ No.room when isShort st wanted room ⌝ }
 {
     if !is_wanted(wanted) {
         return ARGUMENT;
@@ -369,7 +368,7 @@ pub fn list_number(st: State, by: Admission, wanted: Wanted, room: usize) -> u8
 
 // Which processes a claim may kill.
 pub fn reach(by: Admission) -> Among
-    ensures { λ r. ⌜ r ≡ reachOf (by .word) (by .credential) ⌝ }
+    ensures { λ r. ⌜ r ≡ reachBy (by .word) (by .credential) ⌝ }
 {
     if claims::word_grants(by.word, Class(KILL_OTHERS)) {
         return Among::All;
@@ -379,7 +378,7 @@ pub fn reach(by: Admission) -> Among
 }
 
 pub fn kill_number(st: State, by: Admission, name: Name) -> u8
-    ensures { λ r. ⌜ r ≡ by .number ▸ No.noProcess unless hasNamed st name (reachOf (by .word) (by .credential)) ⌝ }
+    ensures { λ r. ⌜ r ≡ by .number ▸ No.noProcess unless hasNamed st name (reachBy (by .word) (by .credential)) ⌝ }
 {
     if by.number != DONE {
         return by.number;
