@@ -2,14 +2,14 @@
 -- Assumes nothing.
 use Prim.Native.Nat.{ℕ, _<_, _≤_, zero, suc, _+_}
 use mathlib.Core.Path.{_≡_, refl, sym, ap, _∙_}
-use mathlib.Core.Bool.{Bool, true, false, not, _&&_}
+use mathlib.Core.Bool.{Bool, true, false, not}
 use mathlib.Core.List.{List, [], _∷_}
 use native.Mathlib.Omega.{arith}
-use lib.Dec.{eqb, leb}
-use lib.ListN.{length, drop, getD, set, replicate, drop-of-length-le}
+use lib.Dec.{eqb}
+use lib.ListN.{length, drop, getD, set, replicate}
 use borrow.Author.Needs.{needs}
-use borrow.Author.Tests.{eqb-true, eq-eqb, ne-eqb, lt-ltb, le-ltb, lt-leb, le-leb}
-use Rattle.lists.proofs.Tests.{split, clash, and-right, and-left}
+use borrow.Author.Tests.{eqb-true, eq-eqb, ne-eqb}
+use Rattle.lists.proofs.Tests.{clash, and-right, and-left}
 use Rattle.names.specs.Names.{typeNumber, nameIn, nameLength}
 use Rattle.names.specs.declared.Credential.{Credential}
 use Rattle.names.specs.declared.NameRead.{NameRead}
@@ -17,18 +17,15 @@ use Rattle.names.specs.declared.Session.{Session}
 use Rattle.names.proofs.Laws.{name-in}
 use Rattle.claims.specs.Numbers.{_unless_, _▸_}
 use Rattle.claims.specs.declared.Claim.{Claim}
-use Rattle.claims.specs.declared.Claim.the-variants.{Elevated, ByUser}
 use Rattle.claims.specs.declared.Class.{Class}
 use Rattle.claims.specs.declared.State.{State}
 use Rattle.claims.specs.declared.UserClaim.{UserClaim}
 use Rattle.claims.proofs.Laws.{stop, pass, unless-true, unless-false}
 use Rattle.calls.specs.Calls.{Call, Open, Close, Select, Start, Continue, Elevate, Drop, End, Record, Kill, SetWord, number, outcome, answerNumber, List′, listed, fresh}
 use Rattle.calls.specs.declared.Answer.{Answer}
-use Rattle.rows.specs.Bytes.{byteOf}
 use Rattle.calls.specs.declared.Listed.{Listed}
 use Rattle.calls.specs.declared.Outcome.{Outcome}
 use Rattle.calls.specs.declared.Wanted.{Wanted}
-use Rattle.calls.specs.declared.Wanted.the-variants.{Every, Only}
 use Rattle.calls.proofs.Laws.{answer-number}
 use Rattle.layout.specs.Layout.{stateLength, stateOf, stateBytes, stateWritten, holdsState}
 use Rattle.layout.proofs.Laws.{holds-shape, state-written}
@@ -38,83 +35,15 @@ use Rattle.wire.specs.Wire.{listedBytes, readRowAt}
 use Rattle.wire.specs.declared.CountRead.{CountRead}
 use Rattle.wire.specs.declared.RequestRead.{RequestRead}
 use Rattle.wire.specs.declared.RowAnswer.{RowAnswer}
-use lib.Seq.{drop-cons}
-use native.Mathlib.Numerals.{add-one}
 use Rattle.lists.proofs.Loops.{Copied, copied-none, copied-more, copied-all}
-use Rattle.rows.specs.Rows.{every}
 use Rattle.claims.specs.Module.{unprovisioned, credentialCount}
 use Rattle.claims.specs.declared.Grants.{Grants}
-use Rattle.host.specs.Fresh.{pairsOf, arePairs, canFresh, FreshEntry}
-use Rattle.host.specs.Arguments.{sessionOf, classOf, credentialOf, wantedOf, isFlag, userClaimOf, claimOf, isClaimed}
+use Rattle.arguments.specs.Arguments.{pairsOf, arePairs}
+use Rattle.arguments.proofs.Rules.{fine-both}
+use Rattle.host.specs.Fresh.{canFresh, FreshEntry}
 use Rattle.host.specs.Messages.{entryResponse, entryLength, ListEntry, Given, rowEntryNumber, RowEntry}
 use Rattle.host.specs.Stored.{LeavesRefused, Stored}
 use Rattle.host.specs.Version.{versionNumber, libraryVersion}
-
--- ---- arguments
-module _ (n : ℕ) where
-  pub session-is : {b : ℕ} → b ≡ byteOf n → _≡_ {A = Session} (record { 0 = b }) (sessionOf n)
-  unfolding sessionOf
-  session-is e = rw e
-
-  pub class-is : {b : ℕ} → b ≡ byteOf n → _≡_ {A = Class} (record { 0 = b }) (classOf n)
-  unfolding classOf
-  class-is e = rw e
-
-  pub credential-in : n < 65536 → _≡_ {A = Credential} (record { 0 = n }) (credentialOf n)
-  unfolding credentialOf
-  credential-in h = rw (lt-ltb n 65536 h)
-
-  pub credential-out : 65536 ≤ n → _≡_ {A = Credential} (record { 0 = 65535 }) (credentialOf n)
-  unfolding credentialOf
-  credential-out h = rw (le-ltb n 65536 h)
-
-  pub wanted-every : n ≡ 65535 → Every ≡ wantedOf n
-  unfolding wantedOf
-  wanted-every h = rw (eq-eqb n 65535 h)
-
-  pub wanted-only : {c : Credential} → (n ≡ 65535 → ⊥) → c ≡ credentialOf n → Only c ≡ wantedOf n
-  unfolding wantedOf
-  wanted-only h e = rw (ne-eqb n 65535 h, e)
-
-  pub flag-is : leb n 1 ≡ isFlag n
-  unfolding isFlag
-  flag-is = refl
-
-module _ (credential number verdict : ℕ) where
-  pub user-claim-is : {c : Credential} → c ≡ credentialOf credential → _≡_ {A = UserClaim} (record { credential = c; number = number; verdict = eqb verdict 1 }) (userClaimOf credential number verdict)
-  unfolding userClaimOf
-  user-claim-is e = rw e
-
-  module _ (kind : ℕ) where
-    pub claim-elevated : kind ≡ 1 → Elevated ≡ claimOf kind credential number verdict
-    unfolding claimOf
-    claim-elevated h = rw (eq-eqb kind 1 h)
-
-    pub claim-user : {u : UserClaim} → (kind ≡ 1 → ⊥) → u ≡ userClaimOf credential number verdict → ByUser u ≡ claimOf kind credential number verdict
-    unfolding claimOf
-    claim-user h e = rw (ne-eqb kind 1 h, e)
-
-module _ (kind verdict : ℕ) where
-  pub claimed-elevated : kind ≡ 1 → true ≡ isClaimed kind verdict
-  unfolding isClaimed isFlag
-  claimed-elevated h = rw h
-
-  pub claimed-user : {b : Bool} → kind ≡ 0 → b ≡ isFlag verdict → b ≡ isClaimed kind verdict
-  unfolding isClaimed isFlag
-  claimed-user h e = e ∙ rw h
-
-  pub claimed-none : (kind ≡ 0 → ⊥) → (kind ≡ 1 → ⊥) → eqb kind 0 ≡ isClaimed kind verdict
-  unfolding isClaimed isFlag
-  claimed-none h k =
-      let g : 1 < kind = omega (arith, h, k) in
-      rw (lt-leb kind 1 g, ne-eqb kind 0 h)
-
-module _ (a b : Bool) where
-  pub both-true : {c : Bool} → a ≡ true → c ≡ b → c ≡ a && b
-  both-true h e = e ∙ rw h
-
-  pub both-false : a ≡ false → a ≡ a && b
-  both-false h = rw h
 
 -- ---- what an outcome leaves
 module _ (before : List ℕ) (o : Outcome) {a : Answer} {n : ℕ} (e : a ≡ o .answer) (q : n ≡ answerNumber a) where
@@ -258,51 +187,14 @@ module _ (message : List ℕ) (at credential kind : ℕ) (name : List ℕ) {read
         }
 
 -- ---- a fresh module
-pub record Flags (l : List ℕ) (i : ℕ) : Type 0 where
-  pub low : i ≤ length l
-  pub rest : every isFlag l ≡ every isFlag (drop i l)
-
-pub flags-begin : (l : List ℕ) → Flags l 0
-flags-begin l = record { low = omega arith; rest = refl }
-
-module _ {l : List ℕ} {i : ℕ} (v : Flags l i) where
-  module _ (h : i < length l) where
-    ahead : every isFlag l ≡ leb (getD l i 0) 1 && every isFlag (drop (i + 1) l)
-    unfolding every isFlag
-    ahead = v .rest ∙ rw (drop-cons l i 0 h, add-one)
-
-    pub flags-on : getD l i 0 ≤ 1 → Flags l (i + 1)
-    flags-on k = record { low = omega arith; rest = ahead ∙ rw (le-leb (getD l i 0) 1 k) }
-
-    pub flags-fail : 1 < getD l i 0 → false ≡ every isFlag l
-    flags-fail k = sym (ahead ∙ rw (lt-leb (getD l i 0) 1 k))
-
-  pub flags-all : length l ≤ i → true ≡ every isFlag l
-  unfolding every
-  flags-all h = sym (v .rest ∙ rw (drop-of-length-le l h))
-
-module _ (flags words : List ℕ) where
-  pub pairs-flags : (length flags ≡ credentialCount → ⊥) → false ≡ arePairs flags words
+module _ (flags words : List ℕ) (e : arePairs flags words ≡ true) where
+  pub flags-long : length flags ≡ credentialCount
   unfolding arePairs
-  pairs-flags h = rw (ne-eqb (length flags) credentialCount h)
+  flags-long = eqb-true (length flags) credentialCount (and-left (eqb (length flags) credentialCount) _ e)
 
-  module _ (k : length flags ≡ credentialCount) where
-    pub pairs-words : (length words ≡ credentialCount → ⊥) → false ≡ arePairs flags words
-    unfolding arePairs
-    pairs-words h = rw (eq-eqb (length flags) credentialCount k, ne-eqb (length words) credentialCount h)
-
-    pub pairs-are : {b : Bool} → length words ≡ credentialCount → b ≡ every isFlag flags → b ≡ arePairs flags words
-    unfolding arePairs
-    pairs-are h e = e ∙ rw (eq-eqb (length flags) credentialCount k, eq-eqb (length words) credentialCount h)
-
-  module _ (e : arePairs flags words ≡ true) where
-    pub flags-long : length flags ≡ credentialCount
-    unfolding arePairs
-    flags-long = eqb-true (length flags) credentialCount (and-left (eqb (length flags) credentialCount) _ e)
-
-    pub words-long : length words ≡ credentialCount
-    unfolding arePairs
-    words-long = eqb-true (length words) credentialCount (and-left (eqb (length words) credentialCount) _ (and-right (eqb (length flags) credentialCount) _ e))
+  pub words-long : length words ≡ credentialCount
+  unfolding arePairs
+  words-long = eqb-true (length words) credentialCount (and-left (eqb (length words) credentialCount) _ (and-right (eqb (length flags) credentialCount) _ e))
 
 pub pairs-length : (flags words : List ℕ) → length flags ≡ length words → length (pairsOf flags words) ≡ length flags
 unfolding pairsOf
@@ -404,9 +296,6 @@ module _ {s t : Session} (e : s ≡ t) where
 pub fine-fits : {read other : NameRead} → read ≡ other → read .fits ≡ other .fits
 fine-fits e = rw e
 
-pub fine-both : {x a b c d : Bool} → x ≡ a && b → a ≡ c → b ≡ d → x ≡ c && d
-fine-both e f g = e ∙ rw (f, g)
-
 -- ---- whether a slice holds a state; the library's version
 module _ (bytes : List ℕ) {h : Bool} (e : h ≡ holdsState bytes) where
   pub holds-done : h ≡ true → 0 ≡ holdsNumber bytes
@@ -421,4 +310,4 @@ pub version-is : 65536 ≡ libraryVersion
 unfolding libraryVersion versionNumber
 version-is = refl
 
-pub ruleset rules = (needs, session-is, class-is, credential-in, credential-out, wanted-every, wanted-only, flag-is, user-claim-is, claim-elevated, claim-user, claimed-elevated, claimed-user, claimed-none, both-true, both-false, stored-done, stored-refused, call-leaves, list-leaves, call-none, call-made, record-unclaimed, record-claimed, same-open, same-close, same-select, same-drop, same-start, same-continue, same-elevate, same-end, same-record, same-kill, same-set-word, fine-fits, fine-both, list-none, list-called, given-refused, given-done, request-number, request-credential, count-number, count-count, row-refused, row-nowhere, row-done, flags-begin, flags-on, flags-fail, flags-all, pairs-flags, pairs-words, pairs-are, pairs-begin, pairs-on, pairs-all, eight-flags, eight-words, fresh-long, fresh-refused, fresh-made, holds-done, holds-none, version-is)
+pub ruleset rules = (needs, stored-done, stored-refused, call-leaves, list-leaves, call-none, call-made, record-unclaimed, record-claimed, same-open, same-close, same-select, same-drop, same-start, same-continue, same-elevate, same-end, same-record, same-kill, same-set-word, fine-fits, fine-both, list-none, list-called, given-refused, given-done, request-number, request-credential, count-number, count-count, row-refused, row-nowhere, row-done, pairs-begin, pairs-on, pairs-all, eight-flags, eight-words, fresh-long, fresh-refused, fresh-made, holds-done, holds-none, version-is)

@@ -1,4 +1,3 @@
-pub mod Arguments
 pub mod Fresh
 pub mod Messages
 pub mod Stored

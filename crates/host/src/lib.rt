@@ -3,110 +3,24 @@ ghost use mathlib.Core.Path.{_≡_};
 ghost use mathlib.Core.Bool.{true, _&&_};
 ghost use lib.ListN.{length};
 ghost use Rattle.rows.specs.Bytes.{byteOf};
-ghost use Rattle.rows.specs.Rows.{every, over};
+ghost use Rattle.rows.specs.Rows.{over};
 ghost use Rattle.names.specs.Names.{readName};
 ghost use Rattle.calls.specs.Calls.{Open, Close, Select, Start, Continue, Elevate, Drop, End, Record, Kill, SetWord};
 ghost use Rattle.state_record.specs.Entry.{holdsNumber, Entry};
 ghost use Rattle.wire.specs.Wire.{request, readRequest, requestRoom, readCount};
-ghost use Rattle.host.specs.Arguments.{sessionOf, classOf, credentialOf, wantedOf, isFlag, flagOf, userClaimOf, claimOf, isClaimed};
-ghost use Rattle.host.specs.Fresh.{pairsOf, arePairs, FreshEntry};
+ghost use Rattle.arguments.specs.Arguments.{sessionOf, classOf, credentialOf, wantedOf, isFlag, flagOf, userClaimOf, claimOf, isClaimed, pairsOf};
+ghost use Rattle.host.specs.Fresh.{FreshEntry};
 ghost use Rattle.host.specs.Messages.{Given, ListEntry, RowEntry};
 ghost use Rattle.host.specs.Stored.{LeavesRefused, Stored};
 ghost use Rattle.host.specs.Version.{libraryVersion};
 ghost use Rattle.claims.specs.Module.{credentialCount};
 use calls::Outcome;
-use calls::Wanted;
 use claims::ARGUMENT;
 use claims::CREDENTIALS;
-use claims::Claim;
-use claims::Class;
 use claims::DONE;
 use claims::Grants;
-use claims::UserClaim;
 use layout::STATE_LENGTH;
-use names::Credential;
 use names::NAME_LENGTH;
-use names::Session;
-
-// ---- arguments
-
-fn session_of(n: u32) -> Session
-    ensures { λ r. ⌜ r ≡ sessionOf n ⌝ }
-{
-    Session(rows::byte_of(n as usize))
-}
-
-fn class_of(n: u32) -> Class
-    ensures { λ r. ⌜ r ≡ classOf n ⌝ }
-{
-    Class(rows::byte_of(n as usize))
-}
-
-fn credential_of(n: u32) -> Credential
-    ensures { λ r. ⌜ r ≡ credentialOf n ⌝ }
-{
-    if n < 65536 {
-        Credential(n as u16)
-    } else {
-        Credential(65535)
-    }
-}
-
-fn wanted_of(n: u32) -> Wanted
-    ensures { λ r. ⌜ r ≡ wantedOf n ⌝ }
-{
-    if n == 65535 {
-        return Wanted::Every;
-    }
-    Wanted::Only(credential_of(n))
-}
-
-fn is_flag(n: u32) -> bool
-    ensures { λ r. ⌜ r ≡ isFlag n ⌝ }
-{
-    n <= 1
-}
-
-fn are_flags(m: u32, n: u32) -> bool
-    ensures { λ r. ⌜ r ≡ isFlag m && isFlag n ⌝ }
-{
-    both(is_flag(m), is_flag(n))
-}
-
-fn user_claim_of(credential: u32, number: u16, verdict: u32) -> UserClaim
-    ensures { λ r. ⌜ r ≡ userClaimOf credential number verdict ⌝ }
-{
-    let c = credential_of(credential);
-    UserClaim {
-        credential: c,
-        number: number,
-        verdict: verdict == 1,
-    }
-}
-
-fn claim_of(kind: u32, credential: u32, number: u16, verdict: u32) -> Claim
-    ensures { λ r. ⌜ r ≡ claimOf kind credential number verdict ⌝ }
-{
-    if kind == 1 {
-        return Claim::Elevated;
-    }
-    Claim::ByUser(user_claim_of(credential, number, verdict))
-}
-
-fn is_claimed(kind: u32, verdict: u32) -> bool
-    ensures { λ r. ⌜ r ≡ isClaimed kind verdict ⌝ }
-{
-    if kind == 1 {
-        return true;
-    }
-    kind == 0 && is_flag(verdict)
-}
-
-fn both(a: bool, b: bool) -> bool
-    ensures { λ r. ⌜ r ≡ a && b ⌝ }
-{
-    a && b
-}
 
 // The number of an outcome, and its state in the slice: that of a refusal is there already.
 fn stored(state: &mut [u8], outcome: Outcome) -> u32
@@ -133,7 +47,10 @@ pub extern "C" fn slavotuk_open(state: &mut [u8], session: u32) -> u32
         return ARGUMENT as u32;
     }
     let st = state_read::read(state);
-    stored(state, outcomes::open_session(st, session_of(session)))
+    stored(
+        state,
+        outcomes::open_session(st, arguments::session_of(session)),
+    )
 }
 
 #[no_mangle]
@@ -144,7 +61,10 @@ pub extern "C" fn slavotuk_close(state: &mut [u8], session: u32) -> u32
         return ARGUMENT as u32;
     }
     let st = state_read::read(state);
-    stored(state, outcomes::close_session(st, session_of(session)))
+    stored(
+        state,
+        outcomes::close_session(st, arguments::session_of(session)),
+    )
 }
 
 #[no_mangle]
@@ -157,7 +77,11 @@ pub extern "C" fn slavotuk_select(state: &mut [u8], session: u32, version: u32) 
     let st = state_read::read(state);
     stored(
         state,
-        outcomes::select_version(st, session_of(session), rows::byte_of(version as usize)),
+        outcomes::select_version(
+            st,
+            arguments::session_of(session),
+            rows::byte_of(version as usize),
+        ),
     )
 }
 
@@ -179,8 +103,8 @@ pub extern "C" fn slavotuk_start(
         state,
         outcomes::start(
             st,
-            session_of(session),
-            credential_of(credential),
+            arguments::session_of(session),
+            arguments::credential_of(credential),
             read.name,
         ),
     )
@@ -204,8 +128,8 @@ pub extern "C" fn slavotuk_continue(
         state,
         outcomes::continue_saved(
             st,
-            session_of(session),
-            credential_of(credential),
+            arguments::session_of(session),
+            arguments::credential_of(credential),
             read.name,
         ),
     )
@@ -222,7 +146,10 @@ pub extern "C" fn slavotuk_elevate(
     ensures { λ r. ⌜ Entry (readName (now (name .entry)) .fits && isFlag verdict) (now (state .entry)) (Elevate (sessionOf session) (credentialOf credential) (readName (now (name .entry)) .name) (flagOf verdict)) r (now (state .exit)) ⌝ }
 {
     let read = names::read_name(name);
-    if !state_record::is_ready(both(read.fits, is_flag(verdict)), state) {
+    if !state_record::is_ready(
+        arguments::both(read.fits, arguments::is_flag(verdict)),
+        state,
+    ) {
         return ARGUMENT as u32;
     }
     let st = state_read::read(state);
@@ -230,8 +157,8 @@ pub extern "C" fn slavotuk_elevate(
         state,
         outcomes::elevate(
             st,
-            session_of(session),
-            credential_of(credential),
+            arguments::session_of(session),
+            arguments::credential_of(credential),
             read.name,
             verdict == 1,
         ),
@@ -246,7 +173,10 @@ pub extern "C" fn slavotuk_drop(state: &mut [u8], session: u32) -> u32
         return ARGUMENT as u32;
     }
     let st = state_read::read(state);
-    stored(state, outcomes::drop_elevation(st, session_of(session)))
+    stored(
+        state,
+        outcomes::drop_elevation(st, arguments::session_of(session)),
+    )
 }
 
 #[no_mangle]
@@ -260,7 +190,7 @@ pub extern "C" fn slavotuk_end(
 ) -> u32
     ensures { λ r. ⌜ Entry (isFlag verdict && isFlag keep) (now (state .entry)) (End (sessionOf session) (userClaimOf credential number verdict) (flagOf keep)) r (now (state .exit)) ⌝ }
 {
-    if !state_record::is_ready(are_flags(verdict, keep), state) {
+    if !state_record::is_ready(arguments::are_flags(verdict, keep), state) {
         return ARGUMENT as u32;
     }
     let st = state_read::read(state);
@@ -268,8 +198,8 @@ pub extern "C" fn slavotuk_end(
         state,
         outcomes::end(
             st,
-            session_of(session),
-            user_claim_of(credential, number, verdict),
+            arguments::session_of(session),
+            arguments::user_claim_of(credential, number, verdict),
             keep == 1,
         ),
     )
@@ -287,14 +217,14 @@ pub extern "C" fn slavotuk_record(
 ) -> u32
     ensures { λ r. ⌜ Entry (isClaimed kind verdict) (now (state .entry)) (Record (sessionOf session) (claimOf kind credential number verdict) (classOf class)) r (now (state .exit)) ⌝ }
 {
-    if !is_claimed(kind, verdict) {
+    if !arguments::is_claimed(kind, verdict) {
         return ARGUMENT as u32;
     }
     state_record::record(
         state,
-        session_of(session),
-        claim_of(kind, credential, number, verdict),
-        class_of(class),
+        arguments::session_of(session),
+        arguments::claim_of(kind, credential, number, verdict),
+        arguments::class_of(class),
     ) as u32
 }
 
@@ -311,7 +241,10 @@ pub extern "C" fn slavotuk_kill(
     ensures { λ r. ⌜ Entry (readName (now (name .entry)) .fits && isClaimed kind verdict) (now (state .entry)) (Kill (sessionOf session) (claimOf kind credential number verdict) (readName (now (name .entry)) .name)) r (now (state .exit)) ⌝ }
 {
     let read = names::read_name(name);
-    if !state_record::is_ready(both(read.fits, is_claimed(kind, verdict)), state) {
+    if !state_record::is_ready(
+        arguments::both(read.fits, arguments::is_claimed(kind, verdict)),
+        state,
+    ) {
         return ARGUMENT as u32;
     }
     let st = state_read::read(state);
@@ -319,8 +252,8 @@ pub extern "C" fn slavotuk_kill(
         state,
         outcomes::kill(
             st,
-            session_of(session),
-            claim_of(kind, credential, number, verdict),
+            arguments::session_of(session),
+            arguments::claim_of(kind, credential, number, verdict),
             read.name,
         ),
     )
@@ -339,7 +272,7 @@ pub extern "C" fn slavotuk_set_word(
 ) -> u32
     ensures { λ r. ⌜ Entry (isClaimed kind verdict) (now (state .entry)) (SetWord (sessionOf session) (claimOf kind credential number verdict) (credentialOf target) word) r (now (state .exit)) ⌝ }
 {
-    if !state_record::is_ready(is_claimed(kind, verdict), state) {
+    if !state_record::is_ready(arguments::is_claimed(kind, verdict), state) {
         return ARGUMENT as u32;
     }
     let st = state_read::read(state);
@@ -347,9 +280,9 @@ pub extern "C" fn slavotuk_set_word(
         state,
         outcomes::set_word(
             st,
-            session_of(session),
-            claim_of(kind, credential, number, verdict),
-            credential_of(target),
+            arguments::session_of(session),
+            arguments::claim_of(kind, credential, number, verdict),
+            arguments::credential_of(target),
             word,
         ),
     )
@@ -371,16 +304,16 @@ pub extern "C" fn slavotuk_list(
 ) -> u32
     ensures { λ r. ⌜ ListEntry (isClaimed kind verdict) (now (state .entry)) (sessionOf session) (claimOf kind credential number verdict) (wantedOf wanted) (now (response .entry)) r (now (state .exit)) (now (response .exit)) (now (long .exit)) ⌝ }
 {
-    if !state_record::is_ready(is_claimed(kind, verdict), state) {
+    if !state_record::is_ready(arguments::is_claimed(kind, verdict), state) {
         *long = 0;
         return ARGUMENT as u32;
     }
     let st = state_read::read(state);
     let listed = wire::list(
         st,
-        session_of(session),
-        claim_of(kind, credential, number, verdict),
-        wanted_of(wanted),
+        arguments::session_of(session),
+        arguments::claim_of(kind, credential, number, verdict),
+        arguments::wanted_of(wanted),
         response,
     );
     let outcome = listed.outcome;
@@ -448,32 +381,6 @@ pub extern "C" fn slavotuk_read_row(
 
 // ---- a fresh module
 
-fn are_all_flags(l: &[u8]) -> bool
-    ensures { λ r. ⌜ r ≡ every isFlag (now (l .entry)) ⌝ }
-{
-    let mut i: usize = 0;
-    while i < l.len() {
-        let one = l[i];
-        if one > 1 {
-            return false;
-        }
-        i += 1;
-    }
-    true
-}
-
-fn are_pairs(provisioned: &[u8], words: &[u32]) -> bool
-    ensures { λ r. ⌜ r ≡ arePairs (now (provisioned .entry)) (now (words .entry)) ⌝ }
-{
-    if provisioned.len() != CREDENTIALS {
-        return false;
-    }
-    if words.len() != CREDENTIALS {
-        return false;
-    }
-    are_all_flags(provisioned)
-}
-
 fn pairs_of(provisioned: &[u8], words: &[u32]) -> [Grants; CREDENTIALS]
     requires { ⌜ (length (now provisioned) ≡ credentialCount) × (length (now words) ≡ credentialCount) ⌝ }
     ensures { λ r. ⌜ r ≡ pairsOf (now (provisioned .entry)) (now (words .entry)) ⌝ }
@@ -501,7 +408,7 @@ pub extern "C" fn slavotuk_fresh(state: &mut [u8], provisioned: &[u8], words: &[
     if state.len() != STATE_LENGTH {
         return ARGUMENT as u32;
     }
-    if !are_pairs(provisioned, words) {
+    if !arguments::are_pairs(provisioned, words) {
         return ARGUMENT as u32;
     }
     let next = outcomes::fresh(pairs_of(provisioned, words));

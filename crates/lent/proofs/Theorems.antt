@@ -34,7 +34,8 @@ use Rattle.layout.proofs.Laws.{state-back, holds-written, holds-is, one-form}
 use Rattle.wire.specs.Wire.{rowsAmong, listedBytes}
 use Rattle.wire.proofs.Laws.{length-listing, rows-fit}
 use Rattle.state_record.specs.Entry.{isMade, entryNumber, entryBytes, Entry}
-use Rattle.host.specs.Fresh.{pairsOf, arePairs, canFresh, FreshEntry}
+use Rattle.arguments.specs.Arguments.{pairsOf, arePairs}
+use Rattle.host.specs.Fresh.{canFresh, FreshEntry}
 use Rattle.host.specs.Messages.{entryResponse, entryLength, ListEntry}
 use Rattle.host.proofs.Rules.{pairs-length, flags-long, words-long}
 use Rattle.history.specs.History.{history, callsIn}

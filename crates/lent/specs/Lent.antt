@@ -17,7 +17,8 @@ use Rattle.calls.specs.Run.{run}
 use Rattle.calls.specs.declared.Wanted.{Wanted}
 use Rattle.layout.specs.Layout.{stateOf, stateBytes, holdsState}
 use Rattle.state_record.specs.Entry.{Entry}
-use Rattle.host.specs.Fresh.{pairsOf, FreshEntry}
+use Rattle.arguments.specs.Arguments.{pairsOf}
+use Rattle.host.specs.Fresh.{FreshEntry}
 use Rattle.host.specs.Messages.{ListEntry}
 use Rattle.history.specs.History.{Event, history, callsIn}
 use Rattle.history.specs.Lives.{Life, nobody}

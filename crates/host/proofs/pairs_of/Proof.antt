@@ -1,5 +1,5 @@
 use Rattle.lists.proofs.Loops.{Copied}
-use Rattle.host.specs.Fresh.{pairsOf}
+use Rattle.arguments.specs.Arguments.{pairsOf}
 use Prim.Native.Nat.{_-_}
 use Rattle.host.proofs.Rules.{rules}
 use Rattle.host.proofs.pairs_of.Statement.{statement}

@@ -1,6 +1,6 @@
-use Rattle.host.proofs.Rules.{rules}
-use Rattle.host.proofs.session_of.Statement.{statement}
-use Rattle.host.proofs.session_of.Tie as tie
+use Rattle.arguments.proofs.Rules.{rules}
+use Rattle.arguments.proofs.session_of.Statement.{statement}
+use Rattle.arguments.proofs.session_of.Tie as tie
 
 byte-of-requires : tie.Need-byte-of-requires
 byte-of-requires c κs = search rules

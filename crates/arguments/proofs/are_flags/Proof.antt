@@ -1,6 +1,6 @@
-use Rattle.host.proofs.Rules.{rules}
-use Rattle.host.proofs.are_flags.Statement.{statement}
-use Rattle.host.proofs.are_flags.Tie as tie
+use Rattle.arguments.proofs.Rules.{rules}
+use Rattle.arguments.proofs.are_flags.Statement.{statement}
+use Rattle.arguments.proofs.are_flags.Tie as tie
 
 is-flag-requires : tie.Need-is-flag-requires
 is-flag-requires c κs = search rules

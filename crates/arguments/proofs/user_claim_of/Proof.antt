@@ -1,6 +1,6 @@
-use Rattle.host.proofs.Rules.{rules}
-use Rattle.host.proofs.user_claim_of.Statement.{statement}
-use Rattle.host.proofs.user_claim_of.Tie as tie
+use Rattle.arguments.proofs.Rules.{rules}
+use Rattle.arguments.proofs.user_claim_of.Statement.{statement}
+use Rattle.arguments.proofs.user_claim_of.Tie as tie
 
 credential-of-requires : tie.Need-credential-of-requires
 credential-of-requires c κs = search rules

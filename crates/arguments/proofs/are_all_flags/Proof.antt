@@ -1,8 +1,8 @@
 use lib.ListN.{length}
 use Prim.Native.Nat.{_-_}
-use Rattle.host.proofs.Rules.{rules, Flags}
-use Rattle.host.proofs.are_all_flags.Statement.{statement}
-use Rattle.host.proofs.are_all_flags.Tie as tie
+use Rattle.arguments.proofs.Rules.{rules, Flags}
+use Rattle.arguments.proofs.are_all_flags.Statement.{statement}
+use Rattle.arguments.proofs.are_all_flags.Tie as tie
 
 abbrev Inv-loop : tie.InvT-loop
 Inv-loop l i₀ i = Flags l i

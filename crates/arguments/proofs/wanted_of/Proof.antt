@@ -1,6 +1,6 @@
-use Rattle.host.proofs.Rules.{rules}
-use Rattle.host.proofs.wanted_of.Statement.{statement}
-use Rattle.host.proofs.wanted_of.Tie as tie
+use Rattle.arguments.proofs.Rules.{rules}
+use Rattle.arguments.proofs.wanted_of.Statement.{statement}
+use Rattle.arguments.proofs.wanted_of.Tie as tie
 
 returns : tie.Need-returns
 returns c = search rules

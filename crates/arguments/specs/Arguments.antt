@@ -1,13 +1,18 @@
 -- What a program in C or Rust hands in, and which call an entry makes of it.
 use Prim.Native.Nat.{ℕ}
 use mathlib.Core.Bool.{Bool, cond, _&&_, _||_}
+use mathlib.Core.List.{List, [], _∷_}
 use lib.Dec.{eqb, ltb, leb}
+use lib.ListN.{length}
 use Rattle.rows.specs.Bytes.{byteOf}
+use Rattle.rows.specs.Rows.{every}
 use Rattle.names.specs.declared.Credential.{Credential}
 use Rattle.names.specs.declared.Session.{Session}
+use Rattle.claims.specs.Module.{credentialCount}
 use Rattle.claims.specs.declared.Claim.{Claim}
 use Rattle.claims.specs.declared.Claim.the-variants.{Elevated, ByUser}
 use Rattle.claims.specs.declared.Class.{Class}
+use Rattle.claims.specs.declared.Grants.{Grants}
 use Rattle.claims.specs.declared.UserClaim.{UserClaim}
 use Rattle.calls.specs.declared.Wanted.{Wanted}
 use Rattle.calls.specs.declared.Wanted.the-variants.{Every, Only}
@@ -53,3 +58,13 @@ kindNumber (ByUser u) = 0
 -- "there an elevated claim's credential, number and verdict are ignored whatever they hold, by the check for 1 too"
 unfoldable pub isClaimed : ℕ → ℕ → Bool
 isClaimed kind verdict = isFlag kind && (flagOf kind || isFlag verdict)
+
+-- "A fresh module is made from eight such pairs": the pairs as a list of flags and a list of words
+unfoldable pub pairsOf : List ℕ → List ℕ → List Grants
+pairsOf [] words = []
+pairsOf (flag ∷ flags) [] = []
+pairsOf (flag ∷ flags) (word ∷ words) = record { provisioned = flagOf flag; word = word } ∷ pairsOf flags words
+
+-- eight flags, each 0 or 1, and eight words
+unfoldable pub arePairs : List ℕ → List ℕ → Bool
+arePairs flags words = eqb (length flags) credentialCount && (eqb (length words) credentialCount && every isFlag flags)

@@ -1,6 +1,6 @@
-use Rattle.host.proofs.Rules.{rules}
-use Rattle.host.proofs.credential_of.Statement.{statement}
-use Rattle.host.proofs.credential_of.Tie as tie
+use Rattle.arguments.proofs.Rules.{rules}
+use Rattle.arguments.proofs.credential_of.Statement.{statement}
+use Rattle.arguments.proofs.credential_of.Tie as tie
 
 cast-t4 : tie.Need-cast-t4
 cast-t4 c = search rules
