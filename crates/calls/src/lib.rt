@@ -78,14 +78,14 @@ pub fn active_place(st: State, which: Active) -> usize
     ensures { λ r. ⌜ r ≡ activePlace st which ⌝ }
 {
     let t = st.table;
-    table::found_place(table::find_active(t, which), table::size(t))
+    table::found_place(table_search::find_active(t, which), table::size(t))
 }
 
 fn has_active(st: State, which: Active) -> bool
     ensures { λ r. ⌜ r ≡ hasActive st which ⌝ }
 {
     let t = st.table;
-    match table::find_active(t, which) {
+    match table_search::find_active(t, which) {
         Found::At(_) => true,
         Found::Nothing => false,
     }
@@ -95,14 +95,14 @@ pub fn named_place(st: State, name: Name, among: Among) -> usize
     ensures { λ r. ⌜ r ≡ namedPlace st name among ⌝ }
 {
     let t = st.table;
-    table::found_place(table::find_named(t, name, among), table::size(t))
+    table::found_place(table_search::find_named(t, name, among), table::size(t))
 }
 
 fn has_named(st: State, name: Name, among: Among) -> bool
     ensures { λ r. ⌜ r ≡ hasNamed st name among ⌝ }
 {
     let t = st.table;
-    match table::find_named(t, name, among) {
+    match table_search::find_named(t, name, among) {
         Found::At(_) => true,
         Found::Nothing => false,
     }
@@ -337,7 +337,7 @@ pub fn message_length(st: State, wanted: Wanted) -> usize
     ensures { λ r. ⌜ r ≡ messageLength (length (rowsOf st wanted)) ⌝ }
 {
     let t = st.table;
-    4 + 51 * table::count_among(t, among_of(wanted))
+    4 + 51 * table_search::count_among(t, among_of(wanted))
 }
 
 fn is_short(st: State, wanted: Wanted, room: usize) -> bool

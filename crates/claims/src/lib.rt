@@ -277,7 +277,7 @@ pub fn claim_view(st: State, s: Session, claim: Claim) -> ClaimView
     ensures { λ r. ⌜ r ≡ claimView st s claim ⌝ }
 {
     let t = st.table;
-    let found = table::find_active(t, claimed(s, claim));
+    let found = table_search::find_active(t, claimed(s, claim));
     let p = process_found(t, found);
     let owner = p.credential;
     let c = speaks_for(claim, owner);

@@ -168,7 +168,7 @@ fn counted_user(st: State, s: Session, u: UserClaim, by: Admission) -> State
     let at = by.place;
     let mut p = table::process_at(t, at);
     p.next = p.next + 1;
-    with_table(st, table::replaced(t, at, p))
+    with_table(st, table_change::replaced(t, at, p))
 }
 
 // The claim counted: an admitted user claim adds one to its process's next number.
@@ -202,7 +202,7 @@ pub fn close_session(st: State, s: Session) -> Outcome
         return refused(st, n);
     }
     let t = st.table;
-    let left = with_table(st, table::without_session(t, s));
+    let left = with_table(st, table_removal::without_session(t, s));
     accepted(with_phase(left, s, Phase::Closed))
 }
 
@@ -227,7 +227,7 @@ pub fn start(st: State, s: Session, c: Credential, name: Name) -> Outcome
         return refused(st, n);
     }
     let t = st.table;
-    accepted(with_table(st, table::appended(t, user_process(s, c, name))))
+    accepted(with_table(st, table_change::appended(t, user_process(s, c, name))))
 }
 
 pub fn continue_saved(st: State, s: Session, c: Credential, name: Name) -> Outcome
@@ -240,7 +240,7 @@ pub fn continue_saved(st: State, s: Session, c: Credential, name: Name) -> Outco
     let t = st.table;
     let at = calls::named_place(st, name, Among::SavedOf(c));
     let p = table::process_at(t, at);
-    accepted(with_table(st, table::replaced(t, at, activated(p, s))))
+    accepted(with_table(st, table_change::replaced(t, at, activated(p, s))))
 }
 
 pub fn elevate(st: State, s: Session, c: Credential, name: Name, verdict: bool) -> Outcome
@@ -251,7 +251,7 @@ pub fn elevate(st: State, s: Session, c: Credential, name: Name, verdict: bool) 
         return refused(st, n);
     }
     let t = st.table;
-    accepted(with_table(st, table::appended(t, elevation(s, c, name))))
+    accepted(with_table(st, table_change::appended(t, elevation(s, c, name))))
 }
 
 pub fn drop_elevation(st: State, s: Session) -> Outcome
@@ -263,7 +263,7 @@ pub fn drop_elevation(st: State, s: Session) -> Outcome
     }
     let t = st.table;
     let at = calls::active_place(st, Active::ElevationIn(s));
-    accepted(with_table(st, table::removed(t, at)))
+    accepted(with_table(st, table_removal::removed(t, at)))
 }
 
 // ---- end
@@ -275,9 +275,9 @@ fn ended(st: State, at: usize, keep: bool) -> State
     let t = st.table;
     if keep {
         let p = table::process_at(t, at);
-        with_table(st, table::replaced(t, at, saved(p)))
+        with_table(st, table_change::replaced(t, at, saved(p)))
     } else {
-        with_table(st, table::removed(t, at))
+        with_table(st, table_removal::removed(t, at))
     }
 }
 
@@ -339,7 +339,7 @@ pub fn kill(st: State, s: Session, claim: Claim, name: Name) -> Outcome
     let at = calls::named_place(st, name, calls::reach(by));
     let next = counted(st, s, claim, by);
     let t = next.table;
-    accepted(with_table(next, table::removed(t, at)))
+    accepted(with_table(next, table_removal::removed(t, at)))
 }
 
 // ---- set word

@@ -28,7 +28,8 @@ use Rattle.table.specs.declared.Found.the-variants.{At, Nothing}
 use Rattle.table.specs.declared.Process.{Process}
 use Rattle.table.specs.declared.Table.{Table}
 use Rattle.table.proofs.Laws.{standing-of, size-few}
-use Rattle.table.proofs.Rules.{noProcess, size-part, size-all, Searching, begin, on, hit, none, process-got, process-none}
+use Rattle.table.proofs.Rules.{noProcess, size-part, size-all, process-got, process-none}
+use Rattle.table_search.proofs.Rules.{Searching, begin, on, hit, none}
 use Rattle.claims.specs.Module.{closedSession, phaseOf, unprovisioned, provisioned, wordOf, sessionCount, credentialCount}
 use Rattle.claims.specs.Claim.{processFound}
 use Rattle.claims.specs.declared.Grants.{Grants}

@@ -209,7 +209,7 @@ fn row_count(t: Table, wanted: Wanted) -> usize
     ensures { λ r. ⌜ r ≡ length (rowsAmong wanted (standing t)) ⌝ }
 {
     let rows = calls::among_of(wanted);
-    table::count_among(t, rows)
+    table_search::count_among(t, rows)
 }
 
 // The rows, each in the 51 bytes from its own offset.

@@ -1,6 +1,6 @@
 use Rattle.layout.specs.Layout.{stateOf}
 use Rattle.table.specs.Table.{isActive}
-use Rattle.table.proofs.Rules.{Searching}
+use Rattle.table_search.proofs.Rules.{Searching}
 use Prim.Native.Nat.{_-_}
 use mathlib.Core.Logic.{⊎-elim}
 use native.Mathlib.Omega.{arith}

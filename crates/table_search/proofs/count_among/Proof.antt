@@ -1,10 +1,10 @@
-use Rattle.table.proofs.Rules.{Counting}
+use Rattle.table_search.proofs.Rules.{Counting}
 use Rattle.table.specs.Table.{isAmong}
 use Prim.Native.Nat.{_-_}
 use mathlib.Core.Logic.{⊎-elim}
-use Rattle.table.proofs.Rules.{rules}
-use Rattle.table.proofs.count_among.Statement.{statement}
-use Rattle.table.proofs.count_among.Tie as tie
+use Rattle.table_search.proofs.Rules.{rules}
+use Rattle.table_search.proofs.count_among.Statement.{statement}
+use Rattle.table_search.proofs.count_among.Tie as tie
 
 abbrev Inv-loop : tie.InvT-loop
 Inv-loop among n places k₀ i₀ k i = Counting (isAmong among) places n k i

@@ -1,6 +1,6 @@
-use Rattle.table.proofs.Rules.{rules}
-use Rattle.table.proofs.replaced.Statement.{statement}
-use Rattle.table.proofs.replaced.Tie as tie
+use Rattle.table_change.proofs.Rules.{rules}
+use Rattle.table_change.proofs.replaced.Statement.{statement}
+use Rattle.table_change.proofs.replaced.Tie as tie
 
 tidied-requires : tie.Need-tidied-requires
 tidied-requires c κs = search rules

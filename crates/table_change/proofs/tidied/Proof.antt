@@ -1,9 +1,9 @@
 use Rattle.lists.proofs.Loops.{Cleared}
 use Rattle.table.specs.Table.{freePlace}
 use Prim.Native.Nat.{_-_}
-use Rattle.table.proofs.Rules.{rules}
-use Rattle.table.proofs.tidied.Statement.{statement}
-use Rattle.table.proofs.tidied.Tie as tie
+use Rattle.table_change.proofs.Rules.{rules}
+use Rattle.table_change.proofs.tidied.Statement.{statement}
+use Rattle.table_change.proofs.tidied.Tie as tie
 
 abbrev Inv-loop : tie.InvT-loop
 Inv-loop n places₀ i₀ places i = Cleared places₀ n freePlace places i

@@ -1,8 +1,8 @@
-use Rattle.table.proofs.Rules.{Shifting}
+use Rattle.table_removal.proofs.Rules.{Shifting}
 use Prim.Native.Nat.{_-_}
-use Rattle.table.proofs.Rules.{rules}
-use Rattle.table.proofs.removed.Statement.{statement}
-use Rattle.table.proofs.removed.Tie as tie
+use Rattle.table_removal.proofs.Rules.{rules}
+use Rattle.table_removal.proofs.removed.Statement.{statement}
+use Rattle.table_removal.proofs.removed.Tie as tie
 
 abbrev Inv-loop : tie.InvT-loop
 Inv-loop at n places₀ i₀ places i = Shifting places₀ n at places i

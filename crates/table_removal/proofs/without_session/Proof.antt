@@ -1,10 +1,10 @@
 use Rattle.lists.proofs.Loops.{Kept}
 use Rattle.table.specs.Table.{isActiveIn, freePlace}
 use Prim.Native.Nat.{_-_}
 use mathlib.Core.Logic.{⊎-elim}
-use Rattle.table.proofs.Rules.{rules}
-use Rattle.table.proofs.without_session.Statement.{statement}
-use Rattle.table.proofs.without_session.Tie as tie
+use Rattle.table_removal.proofs.Rules.{rules}
+use Rattle.table_removal.proofs.without_session.Statement.{statement}
+use Rattle.table_removal.proofs.without_session.Tie as tie
 
 abbrev Inv-loop : tie.InvT-loop
 Inv-loop s n places kept₀ k₀ i₀ kept k i = Kept (isActiveIn s) places n 12 freePlace kept k i

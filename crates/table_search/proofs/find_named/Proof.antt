@@ -1,11 +1,11 @@
-use Rattle.table.proofs.Rules.{Searching}
+use Rattle.table_search.proofs.Rules.{Searching}
 use Rattle.table.specs.Table.{isNamed}
 use Prim.Native.Nat.{_-_}
 use mathlib.Core.Logic.{⊎-elim}
 use native.Mathlib.Omega.{arith}
-use Rattle.table.proofs.Rules.{rules}
-use Rattle.table.proofs.find_named.Statement.{statement}
-use Rattle.table.proofs.find_named.Tie as tie
+use Rattle.table_search.proofs.Rules.{rules}
+use Rattle.table_search.proofs.find_named.Statement.{statement}
+use Rattle.table_search.proofs.find_named.Tie as tie
 
 abbrev Inv-loop : tie.InvT-loop
 Inv-loop name among count places i₀ i = Searching (isNamed name among) places count i
