@@ -1,0 +1,292 @@
+//! What a word of a file means: a declaration of the tree, or a name of the logic's own library.
+
+use crate::source::{Declaration, Kind, Use};
+use crate::tree::{Folder, Id, Tree};
+use crate::words::{self, Piece};
+use std::collections::{BTreeSet, HashMap, HashSet};
+
+#[derive(Clone, Debug, PartialEq, Eq)]
+pub enum Meaning {
+    Ours(Id),
+    /// of this module outside the tree
+    Outside(String),
+}
+
+/// A module that a file takes names from.
+enum Module {
+    File(usize),
+    /// the types that the code of a crate declares
+    Declared(String),
+    /// what the checker makes of the contract of one function
+    Contract(Id),
+    Outside(String),
+}
+
+pub struct Scope<'a> {
+    tree: &'a Tree,
+    crate_name: &'a str,
+    names: HashMap<String, Meaning>,
+    aliases: HashMap<String, Module>,
+}
+
+impl<'a> Scope<'a> {
+    pub fn of(tree: &'a Tree, file: usize) -> Scope<'a> {
+        let mut scope = Scope {
+            tree,
+            crate_name: &tree.files[file].crate_name,
+            names: HashMap::new(),
+            aliases: HashMap::new(),
+        };
+        for used in &tree.files[file].content.uses {
+            scope.take(used);
+        }
+        scope.own(file);
+        scope
+    }
+
+    fn take(&mut self, used: &Use) {
+        let module = module(self.tree, &used.module);
+        for name in &used.names {
+            if let Some(meaning) = self.of_module(&module, name) {
+                self.names.insert(name.clone(), meaning);
+            }
+        }
+        if let Some(alias) = &used.alias {
+            self.aliases.insert(alias.clone(), module);
+        }
+    }
+
+    /// What the file itself declares; a file of code sees all the code of its crate.
+    fn own(&mut self, file: usize) {
+        let declarations = &self.tree.files[file].content.declarations;
+        for (at, declaration) in declarations
+            .iter()
+            .enumerate()
+            .filter(|(_, d)| d.kind != Kind::Module)
+        {
+            let meaning = Meaning::Ours(Id { file, at });
+            for name in bare_names(declaration) {
+                self.names.insert(name.to_string(), meaning.clone());
+            }
+        }
+    }
+
+    fn of_module(&self, module: &Module, name: &str) -> Option<Meaning> {
+        match module {
+            Module::File(file) => self
+                .tree
+                .named_in(*file, name)
+                .first()
+                .copied()
+                .map(Meaning::Ours),
+            Module::Declared(crate_name) => self.declared(crate_name, name),
+            Module::Contract(function) => Some(Meaning::Ours(*function)),
+            Module::Outside(path) => Some(Meaning::Outside(path.clone())),
+        }
+    }
+
+    /// A type, a constant, a function or a variant of the code of a crate.
+    fn declared(&self, crate_name: &str, name: &str) -> Option<Meaning> {
+        let variant = || {
+            let types = self
+                .tree
+                .declarations()
+                .filter(|id| self.tree.file(*id).crate_name == crate_name);
+            let mut types = types.filter(|id| self.tree.declaration(*id).kind == Kind::Type);
+            types.find(|id| self.tree.declaration(*id).has_member(name))
+        };
+        self.tree
+            .coded(crate_name, name)
+            .or_else(variant)
+            .map(Meaning::Ours)
+    }
+
+    /// A word of the logic. An operator is declared with holes at its sides; `A.x` is the x of the module called A here.
+    pub fn of_logic(&self, word: &str) -> Option<Meaning> {
+        if let Some(meaning) = self
+            .names
+            .get(word)
+            .or_else(|| self.names.get(&format!("_{word}_")))
+        {
+            return Some(meaning.clone());
+        }
+        let (alias, name) = word.split_once('.')?;
+        self.of_module(self.aliases.get(alias)?, name)
+    }
+
+    /// A word of the code: a name, `Type::Variant` or `crate::name`.
+    pub fn of_code(&self, word: &str) -> Option<Meaning> {
+        match word.split_once("::") {
+            None => self
+                .names
+                .get(word)
+                .cloned()
+                .filter(|meaning| self.is_code(meaning)),
+            Some((first, rest)) => {
+                let rest = rest.split("::").next().unwrap_or(rest);
+                let here = self.names.get(first).cloned();
+                here.or_else(|| self.declared(first, rest))
+                    .filter(|meaning| self.is_code(meaning))
+            }
+        }
+    }
+
+    fn is_code(&self, meaning: &Meaning) -> bool {
+        matches!(meaning, Meaning::Ours(id) if self.tree.file(*id).folder == Folder::Src)
+    }
+
+    pub fn crate_name(&self) -> &str {
+        self.crate_name
+    }
+}
+
+/// The names by which a declaration can be cited with no dot: its own, and the constructors of data.
+fn bare_names(declaration: &Declaration) -> Vec<&str> {
+    let mut names = vec![declaration.name.as_str()];
+    if declaration.kind == Kind::Data {
+        names.extend(
+            declaration
+                .members
+                .iter()
+                .map(|member| member.name.as_str()),
+        );
+    }
+    names
+}
+
+/// `Rattle.CRATE.specs.FILE`, with `·specs` or `·proofs` after a crate's own name; or a crate of code.
+fn module(tree: &Tree, path: &str) -> Module {
+    let outside = || Module::Outside(path.to_string());
+    let Some(ours) = path.strip_prefix("Rattle·") else {
+        let is_crate = tree.crates.iter().any(|c| c.name == path);
+        return if is_crate {
+            Module::Declared(path.to_string())
+        } else {
+            outside()
+        };
+    };
+    let Some((crate_name, rest)) = ours.split_once('.') else {
+        return outside();
+    };
+    let crate_name = crate_name.split('·').next().unwrap_or(crate_name);
+    let parts: Vec<&str> = rest.split('.').collect();
+    let file = |folder, stem| tree.find_file(crate_name, folder, stem).map(Module::File);
+    let found = match parts.as_slice() {
+        ["specs", "declared", ..] => Some(Module::Declared(crate_name.to_string())),
+        ["specs", stem] => file(Folder::Specs, stem),
+        ["proofs", stem] => file(Folder::Proofs, stem),
+        ["proofs", function, _] => tree.coded(crate_name, function).map(Module::Contract),
+        _ => None,
+    };
+    found.unwrap_or_else(outside)
+}
+
+/// A line that continues an item, or begins a clause of it.
+fn is_clause_start(line: &str, margin: usize) -> bool {
+    crate::source::indent(line) == margin
+}
+
+/// The words of the logic's lines that are bound there, clause by clause: for each line, those that it must not be linked by.
+pub fn bound(scope: &Scope, lines: &[String]) -> Vec<HashSet<String>> {
+    let margin = lines.first().map_or(0, |line| crate::source::indent(line));
+    let starts: Vec<usize> = (0..lines.len())
+        .filter(|at| *at == 0 || is_clause_start(&lines[*at], margin))
+        .collect();
+    let mut bounds = Vec::new();
+    for (n, start) in starts.iter().enumerate() {
+        let end = starts.get(n + 1).copied().unwrap_or(lines.len());
+        let names = bound_in(scope, &lines[*start..end].join(" "));
+        bounds.extend(std::iter::repeat(names).take(end - start));
+    }
+    bounds
+}
+
+/// Binders `(x y : T)`, `λ x.`, `let x :`, and the variables of the patterns on a clause's left side.
+fn bound_in(scope: &Scope, text: &str) -> HashSet<String> {
+    let pieces = words::of_logic(text);
+    let mut names = HashSet::new();
+    let mut run: Vec<&str> = Vec::new();
+    let is_clause = pieces.iter().find_map(|piece| match piece {
+        Piece::Word(":") => Some(false),
+        Piece::Word("=") => Some(true),
+        _ => None,
+    });
+    let mut left = is_clause == Some(true);
+    let mut first = true;
+    for piece in pieces {
+        match piece {
+            Piece::Word("=") => left = false,
+            Piece::Word(":") => names.extend(run.drain(..).map(str::to_string)),
+            Piece::Word("λ" | "let") => run.clear(),
+            Piece::Word(word) => {
+                if left && !first && !is_constructor(scope, word) {
+                    names.insert(word.to_string());
+                }
+                first = false;
+                run.push(word);
+            }
+            Piece::Other(".") => names.extend(run.drain(..).map(str::to_string)),
+            Piece::Other(text) if text.contains(['(', '{', ')', '}']) => run.clear(),
+            _ => {}
+        }
+    }
+    names
+}
+
+fn is_constructor(scope: &Scope, word: &str) -> bool {
+    match scope.of_logic(word) {
+        Some(Meaning::Ours(id)) => {
+            scope.tree.declaration(id).has_member(word) || word.starts_with(char::is_uppercase)
+        }
+        Some(Meaning::Outside(_)) => true,
+        None => false,
+    }
+}
+
+/// Whether a line of a function's statement, and each after it, is of the contract.
+pub fn begins_contract(line: &str) -> bool {
+    ["requires", "ensures"]
+        .iter()
+        .any(|word| line.trim_start().starts_with(word))
+}
+
+/// What lines of the logic cite, in their order, without what they bind.
+pub fn cited_by_logic(scope: &Scope, lines: &[String]) -> BTreeSet<Id> {
+    let bounds = bound(scope, lines);
+    let mut cited = BTreeSet::new();
+    for (line, bound) in lines.iter().zip(&bounds) {
+        for piece in words::of_logic(line) {
+            let Piece::Word(word) = piece else { continue };
+            if let Some(Meaning::Ours(id)) = scope.of_logic(word).filter(|_| !bound.contains(word))
+            {
+                cited.insert(id);
+            }
+        }
+    }
+    cited
+}
+
+/// What a function's contract cites.
+pub fn cited_by_contract(scope: &Scope, function: &Declaration) -> BTreeSet<Id> {
+    let from = function
+        .statement
+        .iter()
+        .position(|line| begins_contract(line))
+        .unwrap_or(function.statement.len());
+    cited_by_logic(scope, &function.statement[from..])
+}
+
+/// What lines of code cite.
+pub fn cited_by_code(scope: &Scope, lines: &[String]) -> BTreeSet<Id> {
+    let pieces = lines.iter().flat_map(|line| words::of_code(line));
+    let found = pieces.filter_map(|piece| match piece {
+        Piece::Word(word) => scope.of_code(word),
+        _ => None,
+    });
+    found
+        .filter_map(|meaning| match meaning {
+            Meaning::Ours(id) => Some(id),
+            Meaning::Outside(_) => None,
+        })
+        .collect()
+}

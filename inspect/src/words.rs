@@ -1,0 +1,158 @@
+//! Takes a line apart into words, as far as links and signs need it.
+
+#[derive(Clone, Copy, Debug, PartialEq, Eq)]
+pub enum Piece<'a> {
+    /// a name or a sign
+    Word(&'a str),
+    /// a field that is taken of what stands before it: ` .name`, with its dot
+    Field(&'a str),
+    Comment(&'a str),
+    /// spaces, brackets, commas
+    Other(&'a str),
+}
+
+impl<'a> Piece<'a> {
+    pub fn text(self) -> &'a str {
+        match self {
+            Piece::Word(text) | Piece::Field(text) | Piece::Comment(text) | Piece::Other(text) => {
+                text
+            }
+        }
+    }
+}
+
+/// The pieces of a line of the logic. A word goes up to a space or a bracket; a dot at its end is that of a λ.
+pub fn of_logic(line: &str) -> Vec<Piece<'_>> {
+    let mut pieces = Vec::new();
+    let mut rest = line;
+    if rest.trim_start().starts_with("--") {
+        return vec![Piece::Comment(line)];
+    }
+    while let Some(first) = rest.chars().next() {
+        let ends = |c: char| c.is_whitespace() || "(){};,".contains(c);
+        let length = if ends(first) {
+            rest.find(|c| !ends(c))
+        } else {
+            rest.find(ends)
+        }
+        .unwrap_or(rest.len());
+        let (text, after) = rest.split_at(length);
+        if ends(first) {
+            pieces.push(Piece::Other(text));
+        } else {
+            word_of_logic(text, &mut pieces);
+        }
+        rest = after;
+    }
+    pieces
+}
+
+fn word_of_logic<'a>(text: &'a str, pieces: &mut Vec<Piece<'a>>) {
+    if text.len() > 1 && text.starts_with('.') {
+        pieces.push(Piece::Field(text));
+    } else if let Some(word) = text.strip_suffix('.').filter(|word| !word.is_empty()) {
+        pieces.push(Piece::Word(word));
+        pieces.push(Piece::Other("."));
+    } else {
+        pieces.push(Piece::Word(text));
+    }
+}
+
+/// The pieces of a line of code. A word is a name with the `::` in it.
+pub fn of_code(line: &str) -> Vec<Piece<'_>> {
+    let mut pieces = Vec::new();
+    let mut rest = line;
+    let in_word = |c: char| c.is_alphanumeric() || c == '_' || c == ':';
+    while let Some(first) = rest.chars().next() {
+        if rest.starts_with("//") {
+            pieces.push(Piece::Comment(rest));
+            break;
+        }
+        let is_word = in_word(first) && first != ':';
+        let length = if is_word {
+            let end = rest.find(|c| !in_word(c)).unwrap_or(rest.len());
+            rest[..end].trim_end_matches(':').len()
+        } else {
+            first.len_utf8()
+        };
+        let (text, after) = rest.split_at(length);
+        let after_dot = matches!(pieces.last(), Some(Piece::Other(".")));
+        pieces.push(match is_word {
+            true if after_dot => Piece::Field(text),
+            true => Piece::Word(text),
+            false => Piece::Other(text),
+        });
+        rest = after;
+    }
+    pieces
+}
+
+#[cfg(test)]
+mod tests {
+    use super::*;
+    use Piece::{Comment, Field, Other, Word};
+
+    fn words(pieces: Vec<Piece<'_>>) -> Vec<Piece<'_>> {
+        pieces
+            .into_iter()
+            .filter(|piece| !matches!(piece, Other(_)))
+            .collect()
+    }
+
+    #[test]
+    fn the_logics_words_fields_and_signs() {
+        assert_eq!(
+            words(of_logic("same a b = λ x. No.done ▸ (f {st} [] .bytes .0)")),
+            [
+                Word("same"),
+                Word("a"),
+                Word("b"),
+                Word("="),
+                Word("λ"),
+                Word("x"),
+                Word("No.done"),
+                Word("▸"),
+                Word("f"),
+                Word("st"),
+                Word("[]"),
+                Field(".bytes"),
+                Field(".0")
+            ]
+        );
+        assert_eq!(of_logic("  -- \"all\""), [Comment("  -- \"all\"")]);
+    }
+
+    #[test]
+    fn the_codes_words_paths_and_fields() {
+        assert_eq!(
+            words(of_code(
+                "let x: u8 = rows::number16(part, Kind::User).len(); // why"
+            )),
+            [
+                Word("let"),
+                Word("x"),
+                Word("u8"),
+                Word("rows::number16"),
+                Word("part"),
+                Word("Kind::User"),
+                Field("len"),
+                Comment("// why")
+            ]
+        );
+    }
+
+    #[test]
+    fn nothing_is_lost() {
+        for line in [
+            "    record { 0 = numberAt 2 0 part };",
+            "λ (e : Event). e .call",
+            "a ≢ b′ .",
+            "",
+        ] {
+            let joined: String = of_logic(line).into_iter().map(Piece::text).collect();
+            assert_eq!(joined, line);
+            let joined: String = of_code(line).into_iter().map(Piece::text).collect();
+            assert_eq!(joined, line);
+        }
+    }
+}
