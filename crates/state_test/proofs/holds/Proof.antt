@@ -2,6 +2,9 @@ use Rattle.state_test.proofs.Rules.{rules}
 use Rattle.state_test.proofs.holds.Statement.{statement}
 use Rattle.state_test.proofs.holds.Tie as tie
 
+all-fit-requires : tie.Need-all-fit-requires
+all-fit-requires c κs = search rules
+
 returns : tie.Need-returns
 returns c = search rules
 
@@ -13,33 +16,6 @@ wide-requires c κs = search rules
 
 returns-2 : tie.Need-returns-2
 returns-2 c = search rules
-
-are-free-requires : tie.Need-are-free-requires
-are-free-requires c κs = search rules
-
-returns-3 : tie.Need-returns-3
-returns-3 c = search rules
-
-sessions-fit-requires : tie.Need-sessions-fit-requires
-sessions-fit-requires c κs = search rules
-
-returns-4 : tie.Need-returns-4
-returns-4 c = search rules
-
-credentials-fit-requires : tie.Need-credentials-fit-requires
-credentials-fit-requires c κs = search rules
-
-returns-5 : tie.Need-returns-5
-returns-5 c = search rules
-
-all-stand-requires : tie.Need-all-stand-requires
-all-stand-requires c κs = search rules
-
-returns-6 : tie.Need-returns-6
-returns-6 c = search rules
-
-returns-7 : tie.Need-returns-7
-returns-7 c = search rules
 
 sub-all-apart : tie.Need-sub-all-apart
 sub-all-apart c = search rules
@@ -53,28 +29,20 @@ part-all-apart-end c = search rules
 all-apart-requires : tie.Need-all-apart-requires
 all-apart-requires c κs = search rules
 
-returns-8 : tie.Need-returns-8
-returns-8 c = search rules
+returns-3 : tie.Need-returns-3
+returns-3 c = search rules
 
 pub holds-spec : {M : Type 1} → statement M
 holds-spec =
     tie.close
     (tie.spec
+    all-fit-requires
     returns
     shared-slice-read-wide
     wide-requires
     returns-2
-    are-free-requires
-    returns-3
-    sessions-fit-requires
-    returns-4
-    credentials-fit-requires
-    returns-5
-    all-stand-requires
-    returns-6
-    returns-7
     sub-all-apart
     part-all-apart-start
     part-all-apart-end
     all-apart-requires
-    returns-8)
+    returns-3)

@@ -1,6 +1,6 @@
-use Rattle.state_test.proofs.Rules.{rules}
-use Rattle.state_test.proofs.is_owned.Statement.{statement}
-use Rattle.state_test.proofs.is_owned.Tie as tie
+use Rattle.state_fields.proofs.Rules.{rules}
+use Rattle.state_fields.proofs.is_owned.Statement.{statement}
+use Rattle.state_fields.proofs.is_owned.Tie as tie
 
 shared-slice-read-wide : tie.Need-shared-slice-read-wide
 shared-slice-read-wide c = search rules

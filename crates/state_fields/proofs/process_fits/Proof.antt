@@ -1,6 +1,6 @@
-use Rattle.state_test.proofs.Rules.{rules}
-use Rattle.state_test.proofs.process_fits.Statement.{statement}
-use Rattle.state_test.proofs.process_fits.Tie as tie
+use Rattle.state_fields.proofs.Rules.{rules}
+use Rattle.state_fields.proofs.process_fits.Statement.{statement}
+use Rattle.state_fields.proofs.process_fits.Tie as tie
 
 shared-slice-read-kind : tie.Need-shared-slice-read-kind
 shared-slice-read-kind c = search rules

@@ -1,6 +1,6 @@
-use Rattle.state_test.proofs.Rules.{rules}
-use Rattle.state_test.proofs.stands.Statement.{statement}
-use Rattle.state_test.proofs.stands.Tie as tie
+use Rattle.state_fields.proofs.Rules.{rules}
+use Rattle.state_fields.proofs.stands.Statement.{statement}
+use Rattle.state_fields.proofs.stands.Tie as tie
 
 process-fits-requires : tie.Need-process-fits-requires
 process-fits-requires c κs = search rules

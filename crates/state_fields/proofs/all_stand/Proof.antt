@@ -1,9 +1,9 @@
 use Prim.Native.Nat.{_-_}
 use Rattle.rows.proofs.Loops.{RowsTo}
-use Rattle.state_test.specs.Stands.{stands}
-use Rattle.state_test.proofs.Rules.{rules}
-use Rattle.state_test.proofs.all_stand.Statement.{statement}
-use Rattle.state_test.proofs.all_stand.Tie as tie
+use Rattle.state_fields.specs.Stands.{stands}
+use Rattle.state_fields.proofs.Rules.{rules}
+use Rattle.state_fields.proofs.all_stand.Statement.{statement}
+use Rattle.state_fields.proofs.all_stand.Tie as tie
 use Rattle.layout.specs.Layout.{placeSize, placesAt}
 
 abbrev Inv-loop : tie.InvT-loop
