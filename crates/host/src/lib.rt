@@ -49,7 +49,7 @@ pub extern "C" fn slavotuk_open(state: &mut [u8], session: u32) -> u32
     let st = state_read::read(state);
     stored(
         state,
-        outcomes::open_session(st, arguments::session_of(session)),
+        outcomes_free::open_session(st, arguments::session_of(session)),
     )
 }
 
@@ -63,7 +63,7 @@ pub extern "C" fn slavotuk_close(state: &mut [u8], session: u32) -> u32
     let st = state_read::read(state);
     stored(
         state,
-        outcomes::close_session(st, arguments::session_of(session)),
+        outcomes_free::close_session(st, arguments::session_of(session)),
     )
 }
 
@@ -77,7 +77,7 @@ pub extern "C" fn slavotuk_select(state: &mut [u8], session: u32, version: u32) 
     let st = state_read::read(state);
     stored(
         state,
-        outcomes::select_version(
+        outcomes_free::select_version(
             st,
             arguments::session_of(session),
             rows::byte_of(version as usize),
@@ -101,7 +101,7 @@ pub extern "C" fn slavotuk_start(
     let st = state_read::read(state);
     stored(
         state,
-        outcomes::start(
+        outcomes_free::start(
             st,
             arguments::session_of(session),
             arguments::credential_of(credential),
@@ -126,7 +126,7 @@ pub extern "C" fn slavotuk_continue(
     let st = state_read::read(state);
     stored(
         state,
-        outcomes::continue_saved(
+        outcomes_free::continue_saved(
             st,
             arguments::session_of(session),
             arguments::credential_of(credential),
@@ -155,7 +155,7 @@ pub extern "C" fn slavotuk_elevate(
     let st = state_read::read(state);
     stored(
         state,
-        outcomes::elevate(
+        outcomes_free::elevate(
             st,
             arguments::session_of(session),
             arguments::credential_of(credential),
@@ -175,7 +175,7 @@ pub extern "C" fn slavotuk_drop(state: &mut [u8], session: u32) -> u32
     let st = state_read::read(state);
     stored(
         state,
-        outcomes::drop_elevation(st, arguments::session_of(session)),
+        outcomes_free::drop_elevation(st, arguments::session_of(session)),
     )
 }
 
@@ -196,7 +196,7 @@ pub extern "C" fn slavotuk_end(
     let st = state_read::read(state);
     stored(
         state,
-        outcomes::end(
+        outcomes_protected::end(
             st,
             arguments::session_of(session),
             arguments::user_claim_of(credential, number, verdict),
@@ -250,7 +250,7 @@ pub extern "C" fn slavotuk_kill(
     let st = state_read::read(state);
     stored(
         state,
-        outcomes::kill(
+        outcomes_protected::kill(
             st,
             arguments::session_of(session),
             arguments::claim_of(kind, credential, number, verdict),
@@ -278,7 +278,7 @@ pub extern "C" fn slavotuk_set_word(
     let st = state_read::read(state);
     stored(
         state,
-        outcomes::set_word(
+        outcomes_protected::set_word(
             st,
             arguments::session_of(session),
             arguments::claim_of(kind, credential, number, verdict),
@@ -411,7 +411,7 @@ pub extern "C" fn slavotuk_fresh(state: &mut [u8], provisioned: &[u8], words: &[
     if !arguments::are_pairs(provisioned, words) {
         return ARGUMENT as u32;
     }
-    let next = outcomes::fresh(pairs_of(provisioned, words));
+    let next = effects::fresh(pairs_of(provisioned, words));
     state_write::write(state, next);
     DONE as u32
 }

@@ -70,15 +70,15 @@ fn wide(n: u8) -> u64 {
 }
 
 fn record(st: State, c: u16, number: u16, class: u8) -> State {
-    told(outcomes::record(st, Session(0), Claim::ByUser(by(c, number)), Class(class)))
+    told(outcomes_protected::record(st, Session(0), Claim::ByUser(by(c, number)), Class(class)))
 }
 
 fn start(st: State, s: u8, c: u16, n: Name) -> State {
-    told(outcomes::start(st, Session(s), Credential(c), n))
+    told(outcomes_free::start(st, Session(s), Credential(c), n))
 }
 
 fn kill(st: State, s: u8, c: u16, number: u16, n: Name) -> State {
-    told(outcomes::kill(st, Session(s), Claim::ByUser(by(c, number)), n))
+    told(outcomes_protected::kill(st, Session(s), Claim::ByUser(by(c, number)), n))
 }
 
 // "Credentials 0 (word 15) and 1 (word 16) are provisioned."
@@ -95,14 +95,14 @@ fn fresh() -> State {
         provisioned: true,
         word: 16,
     };
-    outcomes::fresh(pairs)
+    effects::fresh(pairs)
 }
 
 fn step1(st: State) -> State {
     begin(1);
-    let a = told(outcomes::open_session(st, Session(4)));
-    let b = told(outcomes::open_session(a, Session(0)));
-    let c = told(outcomes::open_session(b, Session(0)));
+    let a = told(outcomes_free::open_session(st, Session(4)));
+    let b = told(outcomes_free::open_session(a, Session(0)));
+    let c = told(outcomes_free::open_session(b, Session(0)));
     end_line();
     c
 }
@@ -110,9 +110,9 @@ fn step1(st: State) -> State {
 fn step2(st: State) -> State {
     begin(2);
     let a = start(st, 0, 0, p());
-    let b = told(outcomes::select_version(a, Session(0), 0x20));
-    let c = told(outcomes::select_version(b, Session(0), 0x10));
-    let d = told(outcomes::select_version(c, Session(0), 0x10));
+    let b = told(outcomes_free::select_version(a, Session(0), 0x20));
+    let c = told(outcomes_free::select_version(b, Session(0), 0x10));
+    let d = told(outcomes_free::select_version(c, Session(0), 0x10));
     end_line();
     d
 }
@@ -149,7 +149,7 @@ fn step6(st: State) -> State {
         number: 1,
         verdict: false,
     };
-    let a = told(outcomes::record(st, Session(0), Claim::ByUser(unsigned), Class(4)));
+    let a = told(outcomes_protected::record(st, Session(0), Claim::ByUser(unsigned), Class(4)));
     let b = record(a, 1, 1, 5);
     let c = record(b, 1, 1, 4);
     end_line();
@@ -182,7 +182,13 @@ fn step9(st: State) -> State {
 
 // The number of each listing, and the length of its message.
 fn list(st: State, room: usize) -> State {
-    let listed = outcomes::list(st, Session(0), Claim::ByUser(by(0, 1)), Wanted::Every, room);
+    let listed = outcomes_protected::list(
+        st,
+        Session(0),
+        Claim::ByUser(by(0, 1)),
+        Wanted::Every,
+        room,
+    );
     let length = listed.length;
     let outcome = listed.outcome;
     let next = told(outcome);
@@ -201,11 +207,11 @@ fn step10(st: State) -> State {
 // The numbers, and the next number of the one process.
 fn step11(st: State) -> State {
     begin(11);
-    let a = told(outcomes::end(st, Session(0), by(0, 2), true));
-    let b = told(outcomes::open_session(a, Session(1)));
-    let c = told(outcomes::select_version(b, Session(1), 0x10));
-    let d = told(outcomes::continue_saved(c, Session(1), Credential(0), q()));
-    let e = told(outcomes::continue_saved(d, Session(1), Credential(0), p()));
+    let a = told(outcomes_protected::end(st, Session(0), by(0, 2), true));
+    let b = told(outcomes_free::open_session(a, Session(1)));
+    let c = told(outcomes_free::select_version(b, Session(1), 0x10));
+    let d = told(outcomes_free::continue_saved(c, Session(1), Credential(0), q()));
+    let e = told(outcomes_free::continue_saved(d, Session(1), Credential(0), p()));
     let t = e.table;
     let one = table::process_at(t, 0);
     say(one.next as u64);
@@ -218,9 +224,9 @@ fn fill(st: State) -> State {
     let mut next = st;
     let mut i: u8 = 0;
     while i < 11 {
-        let started = outcomes::start(next, Session(0), Credential(0), name(0x33, i));
+        let started = outcomes_free::start(next, Session(0), Credential(0), name(0x33, i));
         let one = started.state;
-        let ended = outcomes::end(one, Session(0), by(0, 0), true);
+        let ended = outcomes_protected::end(one, Session(0), by(0, 0), true);
         next = ended.state;
         i += 1;
     }
@@ -245,7 +251,12 @@ fn spend(st: State) -> State {
     let mut done: u64 = 0;
     let mut i: u16 = 0;
     while i < 65535 {
-        let outcome = outcomes::record(next, Session(0), Claim::ByUser(by(1, i)), Class(4));
+        let outcome = outcomes_protected::record(
+            next,
+            Session(0),
+            Claim::ByUser(by(1, i)),
+            Class(4),
+        );
         let answer = outcome.answer;
         next = outcome.state;
         if calls::answer_number(answer) == claims::DONE {
@@ -262,7 +273,7 @@ fn spent(st: State) {
     let mut refused: u64 = 0;
     let mut i: u16 = 0;
     loop {
-        let outcome = outcomes::record(st, Session(0), Claim::ByUser(by(1, i)), Class(4));
+        let outcome = outcomes_protected::record(st, Session(0), Claim::ByUser(by(1, i)), Class(4));
         let answer = outcome.answer;
         if calls::answer_number(answer) == claims::SPENT {
             refused += 1;

@@ -1,0 +1,29 @@
+-- No second answer meets the contract of any public function of this crate.
+-- Assumes nothing.
+use mathlib.Core.Path.{sym, _∙_}
+use Rattle.lists.proofs.Once.{OneAnswer}
+use Rattle.outcomes_protected.proofs.end.Kinds as end-kinds
+use Rattle.outcomes_protected.proofs.end.Reads as end
+use Rattle.outcomes_protected.proofs.record.Kinds as record-kinds
+use Rattle.outcomes_protected.proofs.record.Reads as record-reads
+use Rattle.outcomes_protected.proofs.list.Kinds as list-kinds
+use Rattle.outcomes_protected.proofs.list.Reads as list
+use Rattle.outcomes_protected.proofs.kill.Kinds as kill-kinds
+use Rattle.outcomes_protected.proofs.kill.Reads as kill
+use Rattle.outcomes_protected.proofs.set_word.Kinds as set-word-kinds
+use Rattle.outcomes_protected.proofs.set_word.Reads as set-word
+
+pub end-once : OneAnswer 0 end-kinds.ps end-kinds.r end.Post
+end-once κs a x y s t p q = p ∙ sym q
+
+pub record-once : OneAnswer 0 record-kinds.ps record-kinds.r record-reads.Post
+record-once κs a x y s t p q = p ∙ sym q
+
+pub list-once : OneAnswer 0 list-kinds.ps list-kinds.r list.Post
+list-once κs a x y s t p q = p ∙ sym q
+
+pub kill-once : OneAnswer 0 kill-kinds.ps kill-kinds.r kill.Post
+kill-once κs a x y s t p q = p ∙ sym q
+
+pub set-word-once : OneAnswer 0 set-word-kinds.ps set-word-kinds.r set-word.Post
+set-word-once κs a x y s t p q = p ∙ sym q

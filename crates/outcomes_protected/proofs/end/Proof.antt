@@ -1,0 +1,42 @@
+use Rattle.calls.specs.Calls.{refusal}
+use Rattle.calls.proofs.Rules.{rules}
+use Rattle.outcomes_protected.proofs.end.Statement.{statement}
+use Rattle.outcomes_protected.proofs.end.Tie as tie
+
+admit-requires : tie.Need-admit-requires
+admit-requires c κs = search rules
+
+end-number-requires : tie.Need-end-number-requires
+end-number-requires c κs = search rules
+
+refused-claim-requires : tie.Need-refused-claim-requires
+refused-claim-requires c κs = search rules
+
+returns : tie.Need-returns
+unfolding refusal
+returns c = search rules
+
+counted-user-requires : tie.Need-counted-user-requires
+counted-user-requires c κs = search rules
+
+ended-requires : tie.Need-ended-requires
+ended-requires c κs = search rules
+
+accepted-requires : tie.Need-accepted-requires
+accepted-requires c κs = search rules
+
+returns-2 : tie.Need-returns-2
+returns-2 c = search rules
+
+pub end-spec : {M : Type 1} → statement M
+end-spec =
+    tie.close
+    (tie.spec
+    admit-requires
+    end-number-requires
+    refused-claim-requires
+    returns
+    counted-user-requires
+    ended-requires
+    accepted-requires
+    returns-2)

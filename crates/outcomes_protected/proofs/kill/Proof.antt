@@ -1,0 +1,54 @@
+use Rattle.calls.specs.Calls.{refusal}
+use Rattle.calls.proofs.Rules.{rules}
+use Rattle.outcomes_protected.proofs.kill.Statement.{statement}
+use Rattle.outcomes_protected.proofs.kill.Tie as tie
+
+admit-requires : tie.Need-admit-requires
+admit-requires c κs = search rules
+
+kill-number-requires : tie.Need-kill-number-requires
+kill-number-requires c κs = search rules
+
+refused-claim-requires : tie.Need-refused-claim-requires
+refused-claim-requires c κs = search rules
+
+returns : tie.Need-returns
+unfolding refusal
+returns c = search rules
+
+reach-requires : tie.Need-reach-requires
+reach-requires c κs = search rules
+
+named-place-requires : tie.Need-named-place-requires
+named-place-requires c κs = search rules
+
+counted-requires : tie.Need-counted-requires
+counted-requires c κs = search rules
+
+removed-requires : tie.Need-removed-requires
+removed-requires c κs = search rules
+
+with-table-requires : tie.Need-with-table-requires
+with-table-requires c κs = search rules
+
+accepted-requires : tie.Need-accepted-requires
+accepted-requires c κs = search rules
+
+returns-2 : tie.Need-returns-2
+returns-2 c = search rules
+
+pub kill-spec : {M : Type 1} → statement M
+kill-spec =
+    tie.close
+    (tie.spec
+    admit-requires
+    kill-number-requires
+    refused-claim-requires
+    returns
+    reach-requires
+    named-place-requires
+    counted-requires
+    removed-requires
+    with-table-requires
+    accepted-requires
+    returns-2)

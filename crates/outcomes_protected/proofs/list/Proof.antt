@@ -1,0 +1,40 @@
+use Rattle.calls.proofs.Rules.{rules}
+use Rattle.outcomes_protected.proofs.list.Statement.{statement}
+use Rattle.outcomes_protected.proofs.list.Tie as tie
+
+admit-requires : tie.Need-admit-requires
+admit-requires c κs = search rules
+
+list-number-requires : tie.Need-list-number-requires
+list-number-requires c κs = search rules
+
+refused-claim-requires : tie.Need-refused-claim-requires
+refused-claim-requires c κs = search rules
+
+returns : tie.Need-returns
+returns c = search rules
+
+counted-requires : tie.Need-counted-requires
+counted-requires c κs = search rules
+
+accepted-requires : tie.Need-accepted-requires
+accepted-requires c κs = search rules
+
+message-length-requires : tie.Need-message-length-requires
+message-length-requires c κs = search rules
+
+returns-2 : tie.Need-returns-2
+returns-2 c = search rules
+
+pub list-spec : {M : Type 1} → statement M
+list-spec =
+    tie.close
+    (tie.spec
+    admit-requires
+    list-number-requires
+    refused-claim-requires
+    returns
+    counted-requires
+    accepted-requires
+    message-length-requires
+    returns-2)

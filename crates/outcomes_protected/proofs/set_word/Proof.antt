@@ -1,0 +1,42 @@
+use Rattle.calls.specs.Calls.{refusal}
+use Rattle.calls.proofs.Rules.{rules}
+use Rattle.outcomes_protected.proofs.set_word.Statement.{statement}
+use Rattle.outcomes_protected.proofs.set_word.Tie as tie
+
+admit-requires : tie.Need-admit-requires
+admit-requires c κs = search rules
+
+set-word-number-requires : tie.Need-set-word-number-requires
+set-word-number-requires c κs = search rules
+
+refused-claim-requires : tie.Need-refused-claim-requires
+refused-claim-requires c κs = search rules
+
+returns : tie.Need-returns
+unfolding refusal
+returns c = search rules
+
+counted-requires : tie.Need-counted-requires
+counted-requires c κs = search rules
+
+with-word-requires : tie.Need-with-word-requires
+with-word-requires c κs = search rules
+
+accepted-requires : tie.Need-accepted-requires
+accepted-requires c κs = search rules
+
+returns-2 : tie.Need-returns-2
+returns-2 c = search rules
+
+pub set-word-spec : {M : Type 1} → statement M
+set-word-spec =
+    tie.close
+    (tie.spec
+    admit-requires
+    set-word-number-requires
+    refused-claim-requires
+    returns
+    counted-requires
+    with-word-requires
+    accepted-requires
+    returns-2)
