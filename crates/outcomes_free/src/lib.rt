@@ -16,7 +16,7 @@ use table::Among;
 pub fn open_session(st: State, s: Session) -> Outcome
     ensures { λ r. ⌜ r ≡ outcome st (Open s) ⌝ }
 {
-    let n = calls::open_number(st, s);
+    let n = calls_free::open_number(st, s);
     if n != DONE {
         return effects::refused(st, n);
     }
@@ -26,7 +26,7 @@ pub fn open_session(st: State, s: Session) -> Outcome
 pub fn close_session(st: State, s: Session) -> Outcome
     ensures { λ r. ⌜ r ≡ outcome st (Close s) ⌝ }
 {
-    let n = calls::close_number(st, s);
+    let n = calls_free::close_number(st, s);
     if n != DONE {
         return effects::refused(st, n);
     }
@@ -39,7 +39,7 @@ pub fn close_session(st: State, s: Session) -> Outcome
 pub fn select_version(st: State, s: Session, byte: u8) -> Outcome
     ensures { λ r. ⌜ r ≡ outcome st (Select s byte) ⌝ }
 {
-    let n = calls::select_number(st, s, byte);
+    let n = calls_free::select_number(st, s, byte);
     if n != DONE {
         return effects::refused(st, n);
     }
@@ -51,7 +51,7 @@ pub fn select_version(st: State, s: Session, byte: u8) -> Outcome
 pub fn start(st: State, s: Session, c: Credential, name: Name) -> Outcome
     ensures { λ r. ⌜ r ≡ outcome st (Start s c name) ⌝ }
 {
-    let n = calls::start_number(st, s, c, name);
+    let n = calls_free::start_number(st, s, c, name);
     if n != DONE {
         return effects::refused(st, n);
     }
@@ -65,12 +65,12 @@ pub fn start(st: State, s: Session, c: Credential, name: Name) -> Outcome
 pub fn continue_saved(st: State, s: Session, c: Credential, name: Name) -> Outcome
     ensures { λ r. ⌜ r ≡ outcome st (Continue s c name) ⌝ }
 {
-    let n = calls::continue_number(st, s, c, name);
+    let n = calls_free::continue_number(st, s, c, name);
     if n != DONE {
         return effects::refused(st, n);
     }
     let t = st.table;
-    let at = calls::named_place(st, name, Among::SavedOf(c));
+    let at = calls_free::named_place(st, name, Among::SavedOf(c));
     let p = table::process_at(t, at);
     effects::accepted(effects::with_table(
         st,
@@ -81,7 +81,7 @@ pub fn continue_saved(st: State, s: Session, c: Credential, name: Name) -> Outco
 pub fn elevate(st: State, s: Session, c: Credential, name: Name, verdict: bool) -> Outcome
     ensures { λ r. ⌜ r ≡ outcome st (Elevate s c name verdict) ⌝ }
 {
-    let n = calls::elevate_number(st, s, c, name, verdict);
+    let n = calls_free::elevate_number(st, s, c, name, verdict);
     if n != DONE {
         return effects::refused(st, n);
     }
@@ -95,11 +95,11 @@ pub fn elevate(st: State, s: Session, c: Credential, name: Name, verdict: bool) 
 pub fn drop_elevation(st: State, s: Session) -> Outcome
     ensures { λ r. ⌜ r ≡ outcome st (Drop s) ⌝ }
 {
-    let n = calls::drop_number(st, s);
+    let n = calls_free::drop_number(st, s);
     if n != DONE {
         return effects::refused(st, n);
     }
     let t = st.table;
-    let at = calls::active_place(st, Active::ElevationIn(s));
+    let at = calls_free::active_place(st, Active::ElevationIn(s));
     effects::accepted(effects::with_table(st, table_removal::removed(t, at)))
 }

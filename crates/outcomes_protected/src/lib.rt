@@ -45,7 +45,7 @@ pub fn end(st: State, s: Session, u: UserClaim, keep: bool) -> Outcome
     ensures { λ r. ⌜ r ≡ outcome st (End s u keep) ⌝ }
 {
     let by = claims::admit(st, s, Claim::ByUser(u));
-    let n = calls::end_number(by, keep);
+    let n = calls_protected::end_number(by, keep);
     if n != DONE {
         return effects::refused_claim(st, n, Claim::ByUser(u));
     }
@@ -59,7 +59,7 @@ pub fn record(st: State, s: Session, claim: Claim, class: Class) -> Outcome
     ensures { λ r. ⌜ r ≡ outcome st (Record s claim class) ⌝ }
 {
     let by = claims::admit(st, s, claim);
-    let n = calls::record_number(by, class);
+    let n = calls_protected::record_number(by, class);
     if n != DONE {
         return effects::refused_claim(st, n, claim);
     }
@@ -73,7 +73,7 @@ pub fn list(st: State, s: Session, claim: Claim, wanted: Wanted, room: usize) ->
     ensures { λ r. ⌜ r ≡ listed st s claim wanted room ⌝ }
 {
     let by = claims::admit(st, s, claim);
-    let n = calls::list_number(st, by, wanted, room);
+    let n = calls_protected::list_number(st, by, wanted, room);
     if n != DONE {
         return Listed {
             outcome: effects::refused_claim(st, n, claim),
@@ -82,7 +82,7 @@ pub fn list(st: State, s: Session, claim: Claim, wanted: Wanted, room: usize) ->
     }
     Listed {
         outcome: effects::accepted(counted(st, s, claim, by)),
-        length: calls::message_length(st, wanted),
+        length: calls_protected::message_length(st, wanted),
     }
 }
 
@@ -92,11 +92,11 @@ pub fn kill(st: State, s: Session, claim: Claim, name: Name) -> Outcome
     ensures { λ r. ⌜ r ≡ outcome st (Kill s claim name) ⌝ }
 {
     let by = claims::admit(st, s, claim);
-    let n = calls::kill_number(st, by, name);
+    let n = calls_protected::kill_number(st, by, name);
     if n != DONE {
         return effects::refused_claim(st, n, claim);
     }
-    let at = calls::named_place(st, name, calls::reach(by));
+    let at = calls_free::named_place(st, name, calls_protected::reach(by));
     let next = counted(st, s, claim, by);
     let t = next.table;
     effects::accepted(effects::with_table(next, table_removal::removed(t, at)))
@@ -108,7 +108,7 @@ pub fn set_word(st: State, s: Session, claim: Claim, target: Credential, word: u
     ensures { λ r. ⌜ r ≡ outcome st (SetWord s claim target word) ⌝ }
 {
     let by = claims::admit(st, s, claim);
-    let n = calls::set_word_number(st, by, target);
+    let n = calls_protected::set_word_number(st, by, target);
     if n != DONE {
         return effects::refused_claim(st, n, claim);
     }

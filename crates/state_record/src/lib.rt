@@ -54,7 +54,7 @@ pub fn record(state: &mut [u8], s: Session, claim: Claim, class: Class) -> u8
         return ARGUMENT;
     }
     let by = admit(state, s, claim);
-    let answer = calls::record_number(by, class);
+    let answer = calls_protected::record_number(by, class);
     if answer != DONE {
         return answer;
     }

@@ -187,7 +187,7 @@ pub fn read_row_at(message: &[u8], at: usize) -> RowAnswer
 fn is_wanted(p: Process, wanted: Wanted) -> bool
     ensures { λ r. ⌜ r ≡ isAmong (amongOf wanted) p ⌝ }
 {
-    let among = calls::among_of(wanted);
+    let among = calls_protected::among_of(wanted);
     table::is_among(p, among)
 }
 
@@ -208,7 +208,7 @@ fn row_of(p: Process) -> Row
 fn row_count(t: Table, wanted: Wanted) -> usize
     ensures { λ r. ⌜ r ≡ length (rowsAmong wanted (standing t)) ⌝ }
 {
-    let rows = calls::among_of(wanted);
+    let rows = calls_protected::among_of(wanted);
     table_search::count_among(t, rows)
 }
 

@@ -1,0 +1,206 @@
+// What each call without a claim asks: its tests in their order, and the number that it answers.
+ghost use mathlib.Core.Path.{_≡_};
+ghost use Rattle.claims.specs.Numbers.{_when_, _unless_, _▸_};
+ghost use Rattle.claims.specs.Numbers as No;
+ghost use Rattle.claims.specs.Module.{isCredential, provisioned, hasActive, activePlace};
+ghost use Rattle.claims.specs.Claim.{entered};
+ghost use Rattle.table.specs.declared.Among.the-variants.{All};
+ghost use Rattle.calls.specs.Calls.{Open, Close, Select, Start, Continue, Elevate, Drop, isVersion, isFull, hasNamed, namedPlace, number};
+use claims::ALREADY_ACTIVE;
+use claims::ARGUMENT;
+use claims::CREDENTIAL;
+use claims::DONE;
+use claims::FULL;
+use claims::NAME_TAKEN;
+use claims::NO_PROCESS;
+use claims::SESSION;
+use claims::State;
+use claims::VERDICT;
+use claims::VERSION;
+use names::Credential;
+use names::Name;
+use names::Session;
+use table::Active;
+use table::Among;
+use table::Found;
+use table::PLACES;
+
+// ---- what the tests ask of the table
+
+pub fn active_place(st: State, which: Active) -> usize
+    ensures { λ r. ⌜ r ≡ activePlace st which ⌝ }
+{
+    let t = st.table;
+    table::found_place(table_search::find_active(t, which), table::size(t))
+}
+
+fn has_active(st: State, which: Active) -> bool
+    ensures { λ r. ⌜ r ≡ hasActive st which ⌝ }
+{
+    let t = st.table;
+    match table_search::find_active(t, which) {
+        Found::At(_) => true,
+        Found::Nothing => false,
+    }
+}
+
+pub fn named_place(st: State, name: Name, among: Among) -> usize
+    ensures { λ r. ⌜ r ≡ namedPlace st name among ⌝ }
+{
+    let t = st.table;
+    table::found_place(table_search::find_named(t, name, among), table::size(t))
+}
+
+pub fn has_named(st: State, name: Name, among: Among) -> bool
+    ensures { λ r. ⌜ r ≡ hasNamed st name among ⌝ }
+{
+    let t = st.table;
+    match table_search::find_named(t, name, among) {
+        Found::At(_) => true,
+        Found::Nothing => false,
+    }
+}
+
+fn is_full(st: State) -> bool
+    ensures { λ r. ⌜ r ≡ isFull st ⌝ }
+{
+    let t = st.table;
+    PLACES <= table::size(t)
+}
+
+// ---- open, close, select
+
+pub fn open_number(st: State, s: Session) -> u8
+    ensures { λ r. ⌜ r ≡ number st (Open s) ⌝ }
+{
+    if !claims::is_handle(s) {
+        return ARGUMENT;
+    }
+    if !claims::is_closed(st, s) {
+        return SESSION;
+    }
+    DONE
+}
+
+pub fn close_number(st: State, s: Session) -> u8
+    ensures { λ r. ⌜ r ≡ number st (Close s) ⌝ }
+{
+    if !claims::is_handle(s) {
+        return ARGUMENT;
+    }
+    if claims::is_closed(st, s) {
+        return SESSION;
+    }
+    DONE
+}
+
+fn is_version(byte: u8) -> bool
+    ensures { λ r. ⌜ r ≡ isVersion byte ⌝ }
+{
+    byte == 0x10
+}
+
+pub fn select_number(st: State, s: Session, byte: u8) -> u8
+    ensures { λ r. ⌜ r ≡ number st (Select s byte) ⌝ }
+{
+    if !claims::is_handle(s) {
+        return ARGUMENT;
+    }
+    if claims::is_closed(st, s) {
+        return SESSION;
+    }
+    if !is_version(byte) {
+        return VERSION;
+    }
+    DONE
+}
+
+// ---- start, continue, elevate, drop
+
+// The tests that start, continue and elevate begin with.
+fn known_number(st: State, s: Session, c: Credential) -> u8
+    ensures { λ r. ⌜ r ≡ No.argument unless isCredential c ▸ entered st s ▸ No.credential unless provisioned st c ⌝ }
+{
+    if !claims::is_credential(c) {
+        return ARGUMENT;
+    }
+    let entry = claims::entered(st, s);
+    if entry != DONE {
+        return entry;
+    }
+    if !claims::provisioned(st, c) {
+        return CREDENTIAL;
+    }
+    DONE
+}
+
+// The tests that start and elevate end with.
+fn new_number(st: State, name: Name) -> u8
+    ensures { λ r. ⌜ r ≡ No.nameTaken when hasNamed st name All ▸ No.full when isFull st ⌝ }
+{
+    if has_named(st, name, Among::All) {
+        return NAME_TAKEN;
+    }
+    if is_full(st) {
+        return FULL;
+    }
+    DONE
+}
+
+pub fn start_number(st: State, s: Session, c: Credential, name: Name) -> u8
+    ensures { λ r. ⌜ r ≡ number st (Start s c name) ⌝ }
+{
+    let known = known_number(st, s, c);
+    if known != DONE {
+        return known;
+    }
+    if has_active(st, Active::UserOf(s, c)) {
+        return ALREADY_ACTIVE;
+    }
+    new_number(st, name)
+}
+
+pub fn continue_number(st: State, s: Session, c: Credential, name: Name) -> u8
+    ensures { λ r. ⌜ r ≡ number st (Continue s c name) ⌝ }
+{
+    let known = known_number(st, s, c);
+    if known != DONE {
+        return known;
+    }
+    if !has_named(st, name, Among::SavedOf(c)) {
+        return NO_PROCESS;
+    }
+    if has_active(st, Active::UserOf(s, c)) {
+        return ALREADY_ACTIVE;
+    }
+    DONE
+}
+
+pub fn elevate_number(st: State, s: Session, c: Credential, name: Name, verdict: bool) -> u8
+    ensures { λ r. ⌜ r ≡ number st (Elevate s c name verdict) ⌝ }
+{
+    let known = known_number(st, s, c);
+    if known != DONE {
+        return known;
+    }
+    if !verdict {
+        return VERDICT;
+    }
+    if has_active(st, Active::ElevationIn(s)) {
+        return ALREADY_ACTIVE;
+    }
+    new_number(st, name)
+}
+
+pub fn drop_number(st: State, s: Session) -> u8
+    ensures { λ r. ⌜ r ≡ number st (Drop s) ⌝ }
+{
+    let entry = claims::entered(st, s);
+    if entry != DONE {
+        return entry;
+    }
+    if !has_active(st, Active::ElevationIn(s)) {
+        return NO_PROCESS;
+    }
+    DONE
+}
