@@ -94,6 +94,12 @@ impl Reader {
         });
         if let Some(from) = text.strip_prefix("use ") {
             self.content.uses.extend(used(from));
+        } else if let Some((fixity, name)) =
+            text.rsplit_once(' ').filter(|_| text.starts_with("infix"))
+        {
+            self.content
+                .fixities
+                .push((name.to_string(), fixity.to_string()));
         } else if let Some(mut declaration) = begun(text, number) {
             declaration.comment = comment;
             declaration.section = self.section;
@@ -260,6 +266,10 @@ mod tests {
         assert_eq!(names(&content), ["_when_"]);
         assert_eq!(content.declarations[0].body, ["n when b = cond b n done"]);
         assert_eq!(content.declarations[0].comment, ["a number"]);
+        assert_eq!(
+            content.fixities,
+            [("_when_".to_string(), "infix 25".to_string())]
+        );
     }
 
     #[test]

@@ -2,10 +2,15 @@
 #![forbid(unsafe_code)]
 
 pub mod antt;
+pub mod believed;
 pub mod check;
 pub mod edit;
+pub mod graph;
 pub mod map;
+pub mod page;
+mod pictures;
 pub mod rattle;
+pub mod run;
 pub mod scope;
 pub mod source;
 pub mod tree;

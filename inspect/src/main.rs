@@ -2,11 +2,14 @@
 #![forbid(unsafe_code)]
 
 use slavotuk_inspect::check;
-use slavotuk_inspect::map::Map;
+use slavotuk_inspect::map::{self, Map};
+use slavotuk_inspect::page::{self, Book, Origin};
+use slavotuk_inspect::run::Run;
 use slavotuk_inspect::tree::Tree;
+use std::fs;
 use std::io;
 use std::path::Path;
-use std::process::ExitCode;
+use std::process::{Command, ExitCode};
 
 const HELP: &str = "\
 usage: slavotuk-inspect check
@@ -21,6 +24,7 @@ fn main() -> ExitCode {
     let words: Vec<&str> = words.iter().map(String::as_str).collect();
     let done = match words.as_slice() {
         ["check"] => checked(),
+        ["page", file] => written(Path::new(file)),
         _ => {
             eprint!("{HELP}");
             return ExitCode::from(2);
@@ -40,4 +44,31 @@ fn checked() -> io::Result<bool> {
     let root = Path::new(".");
     let verdicts = check::check(root, &Tree::read(root)?, &Map::read(root)?);
     Ok(check::report(&verdicts))
+}
+
+fn written(file: &Path) -> io::Result<bool> {
+    let root = Path::new(".");
+    let (tree, map) = (Tree::read(root)?, Map::read(root)?);
+    let origin = Origin {
+        commit: said("git", &["describe", "--always", "--dirty", "--abbrev=12"]),
+        date: said("date", &["-u", "+%Y-%m-%d %H:%M UTC"]),
+        readme: map::document(&root.join("README.md"))?,
+    };
+    let book = Book::new(&tree, &map, Run::read(root), origin);
+    if let Some(folder) = file.parent() {
+        fs::create_dir_all(folder)?;
+    }
+    fs::write(file, page::write(&book))?;
+    println!("{}", file.display());
+    Ok(true)
+}
+
+/// What a command says in a line; nothing where it cannot be asked.
+fn said(command: &str, words: &[&str]) -> String {
+    let output = Command::new(command)
+        .args(words)
+        .output()
+        .map(|output| output.stdout)
+        .unwrap_or_default();
+    String::from_utf8_lossy(&output).trim().to_string()
 }

@@ -89,29 +89,7 @@ pub enum Target {
 
 impl Map {
     pub fn read(root: &Path) -> io::Result<Map> {
-        let output = Command::new("cmark-gfm")
-            .args(["--sourcepos", "-e", "table", "-t", "xml"])
-            .arg(root.join(PATH))
-            .output();
-        let output = output.map_err(|e| {
-            io::Error::new(
-                e.kind(),
-                format!("cmark-gfm, of Debian's package of that name: {e}"),
-            )
-        })?;
-        if !output.status.success() {
-            return Err(io::Error::new(
-                io::ErrorKind::Other,
-                String::from_utf8_lossy(&output.stderr).to_string(),
-            ));
-        }
-        let document = xml::read(&String::from_utf8_lossy(&output.stdout));
-        document.map(Map::of).ok_or_else(|| {
-            io::Error::new(
-                io::ErrorKind::InvalidData,
-                "what cmark-gfm printed is no document",
-            )
-        })
+        document(&root.join(PATH)).map(Map::of)
     }
 
     pub fn of(document: Node) -> Map {
@@ -202,6 +180,29 @@ impl Map {
         }
         words
     }
+}
+
+/// A file of Markdown, as cmark-gfm reads it.
+pub fn document(path: &Path) -> io::Result<Node> {
+    let output = Command::new("cmark-gfm")
+        .args(["--sourcepos", "-e", "table", "-t", "xml"])
+        .arg(path)
+        .output();
+    let output = output.map_err(|e| {
+        io::Error::new(
+            e.kind(),
+            format!("cmark-gfm, of Debian's package of that name: {e}"),
+        )
+    })?;
+    let document = Some(output.stdout)
+        .filter(|_| output.status.success())
+        .and_then(|text| xml::read(&String::from_utf8_lossy(&text)));
+    document.ok_or_else(|| {
+        io::Error::new(
+            io::ErrorKind::InvalidData,
+            format!("cmark-gfm cannot read {}", path.display()),
+        )
+    })
 }
 
 fn gather_words(node: &Node, words: &mut Vec<String>) {

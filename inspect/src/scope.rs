@@ -1,6 +1,6 @@
 //! What a word of a file means: a declaration of the tree, or a name of the logic's own library.
 
-use crate::source::{Declaration, Kind, Use};
+use crate::source::{indent, Declaration, Kind, Use};
 use crate::tree::{Folder, Id, Tree};
 use crate::words::{self, Piece};
 use std::collections::{BTreeSet, HashMap, HashSet};
@@ -24,7 +24,6 @@ enum Module {
 
 pub struct Scope<'a> {
     tree: &'a Tree,
-    crate_name: &'a str,
     names: HashMap<String, Meaning>,
     aliases: HashMap<String, Module>,
 }
@@ -33,7 +32,6 @@ impl<'a> Scope<'a> {
     pub fn of(tree: &'a Tree, file: usize) -> Scope<'a> {
         let mut scope = Scope {
             tree,
-            crate_name: &tree.files[file].crate_name,
             names: HashMap::new(),
             aliases: HashMap::new(),
         };
@@ -134,10 +132,6 @@ impl<'a> Scope<'a> {
     fn is_code(&self, meaning: &Meaning) -> bool {
         matches!(meaning, Meaning::Ours(id) if self.tree.file(*id).folder == Folder::Src)
     }
-
-    pub fn crate_name(&self) -> &str {
-        self.crate_name
-    }
 }
 
 /// The names by which a declaration can be cited with no dot: its own, and the constructors of data.
@@ -181,16 +175,11 @@ fn module(tree: &Tree, path: &str) -> Module {
     found.unwrap_or_else(outside)
 }
 
-/// A line that continues an item, or begins a clause of it.
-fn is_clause_start(line: &str, margin: usize) -> bool {
-    crate::source::indent(line) == margin
-}
-
 /// The words of the logic's lines that are bound there, clause by clause: for each line, those that it must not be linked by.
 pub fn bound(scope: &Scope, lines: &[String]) -> Vec<HashSet<String>> {
-    let margin = lines.first().map_or(0, |line| crate::source::indent(line));
+    let margin = lines.first().map_or(0, |line| indent(line));
     let starts: Vec<usize> = (0..lines.len())
-        .filter(|at| *at == 0 || is_clause_start(&lines[*at], margin))
+        .filter(|at| *at == 0 || indent(&lines[*at]) == margin)
         .collect();
     let mut bounds = Vec::new();
     for (n, start) in starts.iter().enumerate() {
@@ -204,33 +193,37 @@ pub fn bound(scope: &Scope, lines: &[String]) -> Vec<HashSet<String>> {
 /// Binders `(x y : T)`, `λ x.`, `let x :`, and the variables of the patterns on a clause's left side.
 fn bound_in(scope: &Scope, text: &str) -> HashSet<String> {
     let pieces = words::of_logic(text);
-    let mut names = HashSet::new();
-    let mut run: Vec<&str> = Vec::new();
-    let is_clause = pieces.iter().find_map(|piece| match piece {
-        Piece::Word(":") => Some(false),
-        Piece::Word("=") => Some(true),
-        _ => None,
-    });
-    let mut left = is_clause == Some(true);
-    let mut first = true;
+    let mut names = variables(scope, &pieces);
+    // the words since the last bracket, λ or let
+    let mut run: Option<Vec<&str>> = None;
     for piece in pieces {
         match piece {
-            Piece::Word("=") => left = false,
-            Piece::Word(":") => names.extend(run.drain(..).map(str::to_string)),
-            Piece::Word("λ" | "let") => run.clear(),
-            Piece::Word(word) => {
-                if left && !first && !is_constructor(scope, word) {
-                    names.insert(word.to_string());
-                }
-                first = false;
-                run.push(word);
+            Piece::Word("λ" | "let") => run = Some(Vec::new()),
+            Piece::Word(":") | Piece::Other(".") => {
+                names.extend(run.take().into_iter().flatten().map(str::to_string))
             }
-            Piece::Other(".") => names.extend(run.drain(..).map(str::to_string)),
-            Piece::Other(text) if text.contains(['(', '{', ')', '}']) => run.clear(),
+            Piece::Word(word) => run.iter_mut().for_each(|run| run.push(word)),
+            Piece::Other(text) if text.contains(['(', '{']) => run = Some(Vec::new()),
+            Piece::Other(text) if text.contains([')', '}']) => run = None,
             _ => {}
         }
     }
     names
+}
+
+/// The variables on a clause's left side: its words after the first but for the constructors; none where a colon comes before `=`.
+fn variables(scope: &Scope, pieces: &[Piece]) -> HashSet<String> {
+    let words = pieces.iter().filter_map(|piece| match piece {
+        Piece::Word(word) => Some(*word),
+        _ => None,
+    });
+    let left: Vec<&str> = words.take_while(|word| *word != "=").collect();
+    let is_clause = pieces.contains(&Piece::Word("=")) && !left.contains(&":");
+    let left = left
+        .into_iter()
+        .skip(1)
+        .filter(|word| is_clause && !is_constructor(scope, word));
+    left.map(str::to_string).collect()
 }
 
 fn is_constructor(scope: &Scope, word: &str) -> bool {
@@ -277,16 +270,55 @@ pub fn cited_by_contract(scope: &Scope, function: &Declaration) -> BTreeSet<Id> 
 }
 
 /// What lines of code cite.
-pub fn cited_by_code(scope: &Scope, lines: &[String]) -> BTreeSet<Id> {
+fn cited_by_code(scope: &Scope, lines: &[String]) -> BTreeSet<Id> {
     let pieces = lines.iter().flat_map(|line| words::of_code(line));
-    let found = pieces.filter_map(|piece| match piece {
+    let meanings = pieces.filter_map(|piece| match piece {
         Piece::Word(word) => scope.of_code(word),
         _ => None,
     });
+    let ours = meanings.filter_map(|meaning| match meaning {
+        Meaning::Ours(id) => Some(id),
+        Meaning::Outside(_) => None,
+    });
+    ours.collect()
+}
+
+/// What the statement of a declaration cites, with the modules around it: of a function its signature and its contract.
+pub fn cited_by_statement(scope: &Scope, id: Id) -> BTreeSet<Id> {
+    let file = scope.tree.file(id);
+    let declaration = scope.tree.declaration(id);
+    let mut found = match file.folder {
+        Folder::Src => {
+            let signature: Vec<String> = declaration
+                .statement
+                .iter()
+                .take_while(|line| !begins_contract(line))
+                .cloned()
+                .collect();
+            let mut found = cited_by_contract(scope, declaration);
+            found.extend(cited_by_code(scope, &signature));
+            found
+        }
+        Folder::Specs | Folder::Proofs => cited_by_logic(scope, &declaration.statement),
+    };
+    for module in &declaration.within {
+        found.extend(cited_by_logic(
+            scope,
+            &file.content.declarations[*module].statement,
+        ));
+    }
+    found.remove(&id);
     found
-        .filter_map(|meaning| match meaning {
-            Meaning::Ours(id) => Some(id),
-            Meaning::Outside(_) => None,
-        })
-        .collect()
+}
+
+/// What the body of a declaration cites; a proof is not looked into.
+pub fn cited_by_body(scope: &Scope, id: Id) -> BTreeSet<Id> {
+    let declaration = scope.tree.declaration(id);
+    let mut found = match (scope.tree.file(id).folder, declaration.kind) {
+        (Folder::Src, _) => cited_by_code(scope, &declaration.body),
+        (Folder::Proofs, Kind::Theorem) => BTreeSet::new(),
+        _ => cited_by_logic(scope, &declaration.body),
+    };
+    found.remove(&id);
+    found
 }

@@ -86,6 +86,8 @@ pub struct Use {
 pub struct Content {
     pub uses: Vec<Use>,
     pub declarations: Vec<Declaration>,
+    /// of each operator how it binds: `infixr 20`
+    pub fixities: Vec<(String, String)>,
 }
 
 /// Lines that wait for what comes next: blank ones and comments. They belong to the declaration before them where that goes on, and
@@ -123,4 +125,10 @@ fn uncommented(line: &str, mark: &str) -> String {
 
 pub fn indent(line: &str) -> usize {
     line.len() - line.trim_start_matches(' ').len()
+}
+
+/// Whether a line says something: no blank one, and no comment.
+pub fn counts(line: &str) -> bool {
+    let text = line.trim();
+    !(text.is_empty() || text.starts_with("--") || text.starts_with("//"))
 }

@@ -1,7 +1,7 @@
 //! The sources: every crate of crates.txt with what its files declare and its wrong builds.
 
 use crate::edit::{self, Edit};
-use crate::source::{Content, Declaration, Kind};
+use crate::source::{counts, Content, Declaration, Kind};
 use crate::{antt, rattle};
 use std::fs;
 use std::io;
@@ -56,7 +56,7 @@ pub struct Crate {
     pub comment: String,
     /// the crates of this repository that it may cite
     pub relies_on: Vec<String>,
-    /// how many lines of proof below proofs/ belong to one function each
+    /// lines of the proofs that belong to one function each, which are not read further
     pub own_proof_lines: usize,
 }
 
@@ -152,6 +152,22 @@ impl Tree {
             .iter()
             .position(|d| d.kind != Kind::Module && d.has_line(line))?;
         Some(Id { file, at })
+    }
+
+    /// The lines of a crate's files of one kind, without blank ones and comments.
+    pub fn lines(&self, name: &str, folder: Folder) -> usize {
+        let files = self
+            .files
+            .iter()
+            .filter(|file| file.crate_name == name && file.folder == folder);
+        let own = self
+            .crates
+            .iter()
+            .find(|c| c.name == name && folder == Folder::Proofs)
+            .map_or(0, |c| c.own_proof_lines);
+        own + files
+            .map(|file| file.text.lines().filter(|line| counts(line)).count())
+            .sum::<usize>()
     }
 
     pub fn file_of_path(&self, path: &str) -> Option<usize> {
@@ -260,7 +276,10 @@ fn proof_lines(folder: &Path) -> io::Result<usize> {
     if folder.is_dir() {
         for entry in fs::read_dir(folder)? {
             for path in listed(&entry?.path(), "antt")? {
-                lines += fs::read_to_string(path)?.lines().count();
+                lines += fs::read_to_string(path)?
+                    .lines()
+                    .filter(|line| counts(line))
+                    .count();
             }
         }
     }

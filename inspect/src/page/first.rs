@@ -1,0 +1,148 @@
+//! The first page: what is proved, what is assumed, how much has to be believed, and what the last gate run proved.
+
+use crate::page::html::{escaped, number, several};
+use crate::page::{library, prose, Book};
+use crate::run::Run;
+use crate::tree::Folder;
+
+pub fn page(book: &Book) -> String {
+    format!(
+        "<h1 id=\"top\">Slavotuk: the inspector's page</h1>\n<p class=\"origin\">Made from the sources of {}, {}. Every text of a definition, a contract, a \
+         statement or a wrong build on this page is taken from the sources by its name.</p>\n{}{}{}",
+        escaped(&book.origin.commit),
+        escaped(&book.origin.date),
+        proved(book),
+        believed(book),
+        run(book)
+    )
+}
+
+/// README's first section.
+fn proved(book: &Book) -> String {
+    let after_title = book.origin.readme.children.iter().skip(1);
+    let section = after_title.take_while(|node| node.name != "heading");
+    let text: String = section.map(prose::block).collect();
+    let assumed = book
+        .map
+        .sections
+        .iter()
+        .position(|section| section.title == "What is assumed");
+    let assumed = assumed.map_or(String::new(), |at| {
+        format!(
+            "<p>What is assumed stands <a href=\"#section-{at}\">in a table of its own</a>.</p>\n"
+        )
+    });
+    format!(
+        "<h2 id=\"proved\">What is proved, and what is assumed</h2>\n{text}{assumed}{}",
+        counts(book)
+    )
+}
+
+fn counts(book: &Book) -> String {
+    let tree = book.tree;
+    let definitions = tree
+        .declarations()
+        .filter(|id| tree.file(*id).folder == Folder::Specs)
+        .count();
+    format!(
+        "<p>This page has {} with {}, {} whose contracts cite them, and {}.</p>\n",
+        several(book.map.rows().count(), "sentence", "sentences"),
+        several(definitions, "definition", "definitions"),
+        several(
+            tree.public_functions().count(),
+            "public function",
+            "public functions"
+        ),
+        several(tree.edits.len(), "wrong build", "wrong builds")
+    )
+}
+
+fn believed(book: &Book) -> String {
+    let lines: usize = book
+        .tree
+        .crates
+        .iter()
+        .map(|c| {
+            book.believed
+                .lines(book.tree, &c.name)
+                .iter()
+                .sum::<usize>()
+        })
+        .sum();
+    format!(
+        "<h2 id=\"believed\">What a reader has to believe</h2>\n<p><strong>{} lines</strong>: those that have a bar at their left in <a \
+         href=\"#library\">the listing below</a>, counted without comments and imports. Proofs are checked, and need not be read.</p>\n<details><summary>Crate by \
+         crate</summary>{}</details>\n",
+        number(lines),
+        library::believed(book)
+    )
+}
+
+fn run(book: &Book) -> String {
+    let text = match &book.run {
+        None => "<p class=\"absent\">No gate run is at hand: <code>make test</code> makes one, and then this page tells what it proved.</p>\n".to_string(),
+        Some(run) => told(book, run),
+    };
+    format!("<h2 id=\"run\">What the last gate run proved</h2>\n{text}")
+}
+
+fn told(book: &Book, run: &Run) -> String {
+    let functions: usize = run.crates.iter().map(|c| c.functions).sum();
+    let other = match run.commit == book.origin.commit {
+        true => String::new(),
+        false => format!(
+            " <strong>This page is made from {}.</strong>",
+            escaped(&book.origin.commit)
+        ),
+    };
+    let places: String = run
+        .crates
+        .iter()
+        .map(|c| run_row(run, &c.crate_name, c.functions, c.axioms))
+        .collect();
+    format!(
+        "<p>{}, commit {}, kit {}.{other} It proved {} with {}, and refused {}. It ended: {}.</p>\n\
+         <details><summary>Crate by crate</summary><div class=\"wide\"><table class=\"numbers\"><tr><th>crate</th><th>functions proved</th><th>axioms</th><th>wrong \
+         builds refused</th></tr>\n{places}</table></div></details>\n<p>{} Where each wrong build was refused stands with it.</p>\n",
+        escaped(&run.date),
+        escaped(&run.commit),
+        escaped(&run.kit),
+        several(run.crates.len(), "crate", "crates"),
+        several(functions, "function", "functions"),
+        several(run.refusals.len(), "wrong build", "wrong builds"),
+        escaped(&run.end),
+        axioms(book, run)
+    )
+}
+
+fn run_row(run: &Run, name: &str, functions: usize, axioms: usize) -> String {
+    let refused = run
+        .refusals
+        .keys()
+        .filter(|(crate_name, _)| crate_name == name)
+        .count();
+    format!("<tr><td>{name}</td><td>{functions}</td><td>{axioms}</td><td>{refused}</td></tr>\n")
+}
+
+/// A library proves what it says and assumes nothing; a program rests on the C library that it writes with.
+fn axioms(book: &Book, run: &Run) -> String {
+    let is_program = |name: &str| {
+        book.tree
+            .files
+            .iter()
+            .any(|file| file.crate_name == name && file.is_program())
+    };
+    let with: Vec<&str> = run
+        .crates
+        .iter()
+        .filter(|c| c.axioms > 0 && !is_program(&c.crate_name))
+        .map(|c| c.crate_name.as_str())
+        .collect();
+    match with.as_slice() {
+        [] => "No library reports an axiom.".to_string(),
+        names => format!(
+            "<strong>These libraries report an axiom: {}.</strong>",
+            names.join(", ")
+        ),
+    }
+}

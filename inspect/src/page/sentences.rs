@@ -1,0 +1,346 @@
+//! The sentences, each with its definitions, promises, theorems and wrong builds beside it.
+
+use crate::map::{self, Block, Citation, Column, Row, Section, Target};
+use crate::page::code::{self, Lines};
+use crate::page::html::{anchor, escaped, line_anchor, row_anchor};
+use crate::page::{edits, prose, Book};
+use crate::source::{indent, Declaration, Kind};
+use crate::tree::{Folder, Id};
+use std::collections::{BTreeSet, HashSet};
+
+/// A definition longer than this stands folded beside a sentence, where no part of it is the sentence's own.
+const LONG: usize = 14;
+
+pub fn titles(book: &Book) -> Vec<(String, String)> {
+    let sections = book.map.sections.iter().enumerate().skip(1);
+    sections
+        .filter(|(_, section)| section.level == 2)
+        .map(|(at, section)| (section_anchor(at), section.title.clone()))
+        .collect()
+}
+
+fn section_anchor(at: usize) -> String {
+    format!("section-{at}")
+}
+
+pub fn sections(book: &Book) -> String {
+    let mut html = "<h2 id=\"sentences\">Sentences</h2>\n".to_string();
+    let mut number = 0;
+    for (at, section) in book.map.sections.iter().enumerate() {
+        html.push_str(&one_section(book, at, section, &mut number));
+    }
+    html
+}
+
+fn one_section(book: &Book, at: usize, section: &Section, number: &mut usize) -> String {
+    let tag = if section.level <= 2 { "h3" } else { "h4" };
+    let mut html = match at {
+        0 => String::new(),
+        _ => format!(
+            "<{tag} id=\"{}\">{}</{tag}>\n",
+            section_anchor(at),
+            escaped(&section.title)
+        ),
+    };
+    for block in &section.blocks {
+        match block {
+            Block::Prose(node) => html.push_str(&prose::block(node)),
+            Block::Sentences(whose, rows) => {
+                html.push_str(&format!("<p class=\"whose\">{}</p>\n", escaped(whose)));
+                for row in rows {
+                    html.push_str(&one_row(book, row, *number));
+                    *number += 1;
+                }
+            }
+        }
+    }
+    html
+}
+
+fn one_row(book: &Book, row: &Row, number: usize) -> String {
+    let anchor = row_anchor(number);
+    let columns: String = Column::ALL
+        .into_iter()
+        .map(|column| one_column(book, row, column))
+        .collect();
+    format!(
+        "<article class=\"row\" id=\"{anchor}\">\n<div class=\"sentence\"><a class=\"self\" href=\"#{anchor}\">{}</a> {}</div>\n{columns}</article>\n",
+        number + 1,
+        prose::inline(&row.sentence)
+    )
+}
+
+fn one_column(book: &Book, row: &Row, column: Column) -> String {
+    let groups = row.groups(column);
+    if groups.is_empty() {
+        return String::new();
+    }
+    let mut inside = String::new();
+    for group in groups.iter().filter(|group| group.names.is_empty()) {
+        inside.push_str(&format!(
+            "<p class=\"remark\">{}</p>\n",
+            escaped(&group.place)
+        ));
+    }
+    let mut done: BTreeSet<(Id, Vec<usize>)> = BTreeSet::new();
+    for citation in row.citations().filter(|citation| citation.column == column) {
+        for target in map::targets(book.tree, &citation) {
+            match target {
+                Target::Edit(at) => inside.push_str(&figure(
+                    &edits::caption(book, at),
+                    &edits::content(book, at),
+                )),
+                Target::Declaration(id) => {
+                    let parts = parts(book, &citation, id);
+                    if done.insert((id, parts.iter().map(|(first, _)| *first).collect())) {
+                        inside.push_str(&declaration(book, &citation, id, parts));
+                    }
+                }
+            }
+        }
+    }
+    let class = column
+        .title()
+        .split(' ')
+        .next()
+        .unwrap_or_default()
+        .to_lowercase();
+    format!(
+        "<div class=\"{class}\"><h5>{}</h5>\n{inside}</div>\n",
+        column.title()
+    )
+}
+
+fn figure(caption: &str, content: &str) -> String {
+    format!("<figure><figcaption>{caption}</figcaption>{content}</figure>\n")
+}
+
+/// Lines of a declaration that belong together, from a line of the file on.
+type Part<'a> = (usize, &'a [String]);
+
+fn declaration(book: &Book, citation: &Citation, id: Id, parts: Vec<Part>) -> String {
+    let declaration = book.tree.declaration(id);
+    let name = if declaration.has_member(citation.name) {
+        format!("{} of {}", citation.name, declaration.name)
+    } else {
+        declaration.name.clone()
+    };
+    let mut caption = format!(
+        "<a class=\"name\" href=\"#{}\">{}</a> <span class=\"place\">{}</span>",
+        anchor(book.tree, id),
+        escaped(&name),
+        escaped(citation.place)
+    );
+    if declaration.kind == Kind::Function {
+        caption.push_str(&code_link(book, id));
+    }
+    let shown: usize = parts.iter().map(|(_, lines)| lines.len()).sum();
+    let whole = declaration.statement.len()
+        + if code::has_body(book, id) {
+            declaration.body.len()
+        } else {
+            0
+        };
+    let text = format!(
+        "<pre class=\"code\">{}{}</pre>",
+        code::context(book, id),
+        joined(book, id, &parts)
+    );
+    if shown > LONG && declaration.kind != Kind::Function {
+        let first = escaped(declaration.statement[0].trim());
+        return figure(
+            &caption,
+            &format!(
+                "<details><summary>{shown} lines: <code>{first}</code></summary>{text}</details>"
+            ),
+        );
+    }
+    let more = match whole > shown && declaration.kind != Kind::Function && parts.len() > 1 {
+        true => format!(
+            "<p class=\"more\"><a href=\"#{}\">the whole of {}</a></p>",
+            anchor(book.tree, id),
+            escaped(&declaration.name)
+        ),
+        false => String::new(),
+    };
+    figure(
+        &caption,
+        &format!(
+            "{}{text}{more}",
+            code::comment(&own_comment(declaration, parts.len()))
+        ),
+    )
+}
+
+/// The comment of a declaration that is shown whole; that of a part stands in the part.
+fn own_comment(declaration: &Declaration, parts: usize) -> Vec<String> {
+    match parts {
+        1 => declaration.comment.clone(),
+        _ => Vec::new(),
+    }
+}
+
+/// To the code of a function, line by line.
+fn code_link(book: &Book, id: Id) -> String {
+    let declaration = book.tree.declaration(id);
+    let (first, last) = (
+        declaration.body_line(),
+        declaration.body_line() + declaration.body.len().saturating_sub(1),
+    );
+    format!(
+        " <a class=\"to-code\" href=\"#{}\">code, lines {first} to {last}</a>",
+        line_anchor(book.tree, id.file, first)
+    )
+}
+
+fn joined(book: &Book, id: Id, parts: &[Part]) -> String {
+    let show = |(first, text): &Part| {
+        code::lines(
+            book,
+            &Lines {
+                id,
+                first: *first,
+                text,
+                numbered: false,
+                believed: false,
+                marked: HashSet::new(),
+            },
+        )
+    };
+    let texts: Vec<String> = parts.iter().map(show).collect();
+    let mut html = String::new();
+    for (n, text) in texts.iter().enumerate() {
+        // what lies between two parts is left out
+        if n > 0 && parts[n - 1].0 + parts[n - 1].1.len() < parts[n].0 {
+            html.push_str("<span class=\"l gap\">⋮\n</span>");
+        }
+        html.push_str(text);
+    }
+    html
+}
+
+/// What a row shows of a declaration: the field or constructor that it cites, the clause that is the sentence's own, or all.
+fn parts<'a>(book: &Book<'a>, citation: &Citation, id: Id) -> Vec<Part<'a>> {
+    let declaration = book.tree.declaration(id);
+    let statement = (declaration.line, declaration.statement.as_slice());
+    if declaration.name != citation.name
+        && declaration.has_member(citation.name)
+        && book.tree.file(id).folder != Folder::Src
+    {
+        return member(declaration, citation.name);
+    }
+    if declaration.kind == Kind::Function || !code::has_body(book, id) {
+        return vec![statement];
+    }
+    let clauses = clauses(declaration);
+    let spoken = spoken(&citation.row.sentence.plain());
+    let own: Vec<Part> = clauses
+        .iter()
+        .copied()
+        .filter(|(_, lines)| is_spoken_of(lines, &spoken))
+        .collect();
+    let parts = if own.is_empty() || clauses.len() == 1 {
+        vec![(declaration.body_line(), declaration.body.as_slice())]
+    } else {
+        own
+    };
+    [vec![statement], parts].concat()
+}
+
+/// The first line of a record, and the field with the comment above it.
+fn member<'a>(declaration: &'a Declaration, name: &str) -> Vec<Part<'a>> {
+    let lines = &declaration.statement;
+    let at = declaration
+        .members
+        .iter()
+        .find(|member| member.name == name)
+        .map_or(0, |member| member.line - declaration.line);
+    let margin = indent(&lines[at]);
+    let is_comment = |line: &String| line.trim_start().starts_with("--");
+    let start = at
+        - lines[..at]
+            .iter()
+            .rev()
+            .take_while(|line| is_comment(line))
+            .count();
+    let deeper = lines[at + 1..]
+        .iter()
+        .take_while(|line| !line.trim().is_empty() && indent(line) > margin)
+        .count();
+    vec![
+        (declaration.line, &lines[..1]),
+        (declaration.line + start, &lines[start..at + 1 + deeper]),
+    ]
+}
+
+/// The clauses of a definition, each with the lines that stand deeper below it.
+fn clauses(declaration: &Declaration) -> Vec<Part<'_>> {
+    let body = &declaration.body;
+    let margin = body.first().map_or(0, |line| indent(line));
+    let starts: Vec<usize> = (0..body.len())
+        .filter(|at| indent(&body[*at]) == margin && !body[*at].trim().is_empty())
+        .collect();
+    let ends = starts.iter().skip(1).copied().chain([body.len()]);
+    starts
+        .iter()
+        .zip(ends)
+        .map(|(start, end)| (declaration.body_line() + start, &body[*start..end]))
+        .collect()
+}
+
+/// What a sentence begins with up to its colon, in letters alone: "Set word: claim; .." speaks of setword.
+fn spoken(sentence: &str) -> String {
+    sentence
+        .split_once(':')
+        .map_or(String::new(), |(first, _)| letters(first))
+}
+
+fn letters(text: &str) -> String {
+    text.chars()
+        .filter(char::is_ascii_alphabetic)
+        .collect::<String>()
+        .to_lowercase()
+}
+
+/// Whether a clause is of the constructor that a sentence speaks of.
+fn is_spoken_of(clause: &[String], spoken: &str) -> bool {
+    let left = clause[0].split(" = ").next().unwrap_or_default();
+    let words = left
+        .split([' ', '(', ')'])
+        .filter(|word| word.starts_with(char::is_uppercase));
+    !spoken.is_empty() && words.into_iter().any(|word| letters(word) == *spoken)
+}
+
+#[cfg(test)]
+mod tests {
+    use super::*;
+    use crate::antt;
+
+    const NUMBER: &str = "unfoldable pub number : State → Call → ℕ\nnumber st (Open s) =\n    No.argument unless isHandle s\n    ▸ x\n\
+        number st (SetWord s claim c word) = 1\n";
+
+    #[test]
+    fn a_sentence_has_its_own_clause() {
+        let content = antt::read(NUMBER);
+        let clauses = clauses(&content.declarations[0]);
+        assert_eq!(clauses.len(), 2);
+        assert_eq!((clauses[0].0, clauses[0].1.len()), (2, 3));
+        assert!(is_spoken_of(
+            clauses[1].1,
+            &spoken("Set word: claim; 10 by class 3; 5")
+        ));
+        assert!(!is_spoken_of(
+            clauses[0].1,
+            &spoken("Set word: claim; 10 by class 3; 5")
+        ));
+        assert!(!is_spoken_of(clauses[0].1, &spoken("no colon")));
+    }
+
+    #[test]
+    fn a_field_has_its_comment_and_the_records_first_line() {
+        let content = antt::read("pub record Rules (st : State) : Type 0 where\n  pub few : ℕ\n  -- \"each\"\n  pub each :\n    st\n  pub last : ℕ\n");
+        let parts = member(&content.declarations[0], "each");
+        assert_eq!((parts[0].0, parts[0].1.len()), (1, 1));
+        assert_eq!((parts[1].0, parts[1].1.len()), (3, 3));
+    }
+}

@@ -1,0 +1,193 @@
+//! The bytes that definitions spell out, one after another: `code ∷ 0 ∷ bytesOf 2 n`.
+
+use crate::page::html::{anchor, link};
+use crate::page::Book;
+use crate::pictures::expression::{clause, meant, value, Expression};
+use crate::pictures::layout::widths;
+use crate::pictures::svg;
+use crate::tree::{Folder, Id};
+use Expression::{Applied, Operator, Word};
+
+/// Some bytes, how many where that is fixed, or what is repeated.
+#[derive(Clone, Debug)]
+struct Span {
+    name: String,
+    long: Option<usize>,
+    repeats: Option<Id>,
+}
+
+/// A picture of fewer spans than this would show nothing.
+const FEWEST: usize = 3;
+const WIDE: f64 = 860.0;
+const HIGH: f64 = 44.0;
+
+pub fn section(book: &Book) -> String {
+    let definitions = book
+        .tree
+        .declarations()
+        .filter(|id| book.tree.file(*id).folder == Folder::Specs);
+    let spelled = definitions.filter_map(|id| Some((id, spans(book, id)?)));
+    let drawn: String = spelled
+        .filter(|(_, spans)| spans.len() >= FEWEST)
+        .map(|(id, spans)| draw(book, id, &spans))
+        .collect();
+    match drawn.as_str() {
+        "" => "<p class=\"absent\">No definition spells bytes out.</p>\n".to_string(),
+        _ => drawn,
+    }
+}
+
+/// The bytes of a definition that ends in a list of numbers and is one clause.
+fn spans(book: &Book, id: Id) -> Option<Vec<Span>> {
+    let declaration = book.tree.declaration(id);
+    let is_bytes =
+        declaration.statement.len() == 1 && declaration.statement[0].ends_with("→ List ℕ");
+    let (_, is) = clause(declaration).filter(|_| is_bytes)?;
+    spelled(book, id.file, &is)
+}
+
+fn spelled(book: &Book, file: usize, is: &Expression) -> Option<Vec<Span>> {
+    match is {
+        Operator(byte, sign, rest) if sign == "∷" => {
+            Some([vec![single(book, file, byte)], spelled(book, file, rest)?].concat())
+        }
+        Operator(first, sign, rest) if sign == "++" => {
+            Some([spelled(book, file, first)?, spelled(book, file, rest)?].concat())
+        }
+        Applied(parts) => applied(book, file, parts),
+        Word(word) if word == "[]" => Some(Vec::new()),
+        _ => None,
+    }
+}
+
+fn single(book: &Book, file: usize, byte: &Expression) -> Span {
+    let name = match value(book, file, byte) {
+        Some(n) if !matches!(byte, Word(word) if word.starts_with(|c: char| c.is_ascii_digit())) => {
+            format!("{} = {n:#04x}", byte.text())
+        }
+        _ => label(byte),
+    };
+    Span {
+        name,
+        long: Some(1),
+        repeats: None,
+    }
+}
+
+fn applied(book: &Book, file: usize, parts: &[Expression]) -> Option<Vec<Span>> {
+    match parts {
+        [Word(f), width, number] if f == "bytesOf" => Some(vec![Span {
+            name: label(number),
+            long: value(book, file, width),
+            repeats: None,
+        }]),
+        [Word(f), Applied(inner)] if f == "join" => match inner.as_slice() {
+            [Word(map), Word(each), list] if map == "map" => Some(vec![Span {
+                name: label(list),
+                long: None,
+                repeats: meant(book, file, each),
+            }]),
+            _ => None,
+        },
+        [.., Word(last)] if last.starts_with('.') => Some(vec![Span {
+            name: label(&Applied(parts.to_vec())),
+            long: array(book, last),
+            repeats: None,
+        }]),
+        [Word(f), given @ ..] => {
+            let id = meant(book, file, f)?;
+            let (parameters, is) = clause(book.tree.declaration(id))
+                .filter(|(parameters, _)| parameters.len() == given.len())?;
+            let given: Vec<(String, Expression)> =
+                parameters.into_iter().zip(given.iter().cloned()).collect();
+            spelled(book, id.file, &is.with(&given))
+        }
+        _ => None,
+    }
+}
+
+/// What an expression is called: its last field that has a name, or its own text.
+fn label(is: &Expression) -> String {
+    let text = is.text();
+    let words: Vec<&str> = text
+        .split([' ', '(', ')'])
+        .filter(|word| !word.is_empty())
+        .collect();
+    let is_named = |word: &&&str| {
+        word.starts_with('.') && !word[1..].starts_with(|c: char| c.is_ascii_digit())
+    };
+    let mut named = words
+        .iter()
+        .rev()
+        .filter(is_named)
+        .map(|word| word.trim_start_matches('.'));
+    match (named.next(), named.next()) {
+        // the bytes of something are called by what they are of
+        (Some("bytes"), Some(owner)) => owner.to_string(),
+        (Some(field), _) => field.to_string(),
+        _ => text,
+    }
+}
+
+/// How long the array is that a type of the code has as this field: `[u8; NAME_LENGTH]`.
+fn array(book: &Book, field: &str) -> Option<usize> {
+    let [only] = book.fields.get(field.trim_start_matches('.'))?.as_slice() else {
+        return None;
+    };
+    let declaration = book.tree.declaration(*only);
+    let member = declaration
+        .members
+        .iter()
+        .find(|member| field.ends_with(&member.name))?;
+    let line = &declaration.statement[member.line - declaration.line];
+    let long = line.split_once("[u8; ")?.1.split(']').next()?;
+    let constant = || {
+        let id = book.tree.coded(&book.tree.file(*only).crate_name, long)?;
+        let text = book.tree.declaration(id).statement.join(" ");
+        text.rsplit_once("= ")?.1.trim_end_matches(';').parse().ok()
+    };
+    long.parse().ok().or_else(constant)
+}
+
+fn draw(book: &Book, id: Id, spans: &[Span]) -> String {
+    let wide = widths(
+        &spans
+            .iter()
+            .map(|span| span.long.unwrap_or(60))
+            .collect::<Vec<_>>(),
+    );
+    let mut inside = String::new();
+    let mut x = 1.0;
+    let mut at = Some(0);
+    for (span, width) in spans.iter().zip(wide) {
+        let bytes = match (span.long, span.repeats) {
+            (Some(1), _) => "1 byte".to_string(),
+            (Some(n), _) => format!("{n} bytes"),
+            (None, Some(each)) => format!("each {}", book.tree.declaration(each).name),
+            (None, None) => String::new(),
+        };
+        let middle = x + width / 2.0;
+        let drawn = svg::rect(x, 16.0, width, HIGH, "box")
+            + &svg::text(middle, 35.0, "name", &span.name)
+            + &svg::text(middle, 51.0, "small", &bytes);
+        inside.push_str(&match span.repeats {
+            Some(each) => svg::link(&anchor(book.tree, each), &drawn),
+            None => drawn,
+        });
+        if let Some(at) = at {
+            inside.push_str(&svg::text(x + 2.0, 11.0, "small start", &at.to_string()));
+        }
+        at = at.and_then(|at| Some(at + span.long?));
+        x += width;
+    }
+    if let Some(at) = at {
+        inside.push_str(&svg::text(x, 11.0, "small end", &at.to_string()));
+    }
+    let name = &book.tree.declaration(id).name;
+    let picture = svg::picture(WIDE, HIGH + 20.0, &format!("The bytes of {name}"), &inside);
+    format!(
+        "<p>{} <span class=\"place\">{}</span></p>\n{picture}",
+        link(&anchor(book.tree, id), name),
+        book.tree.file(id).place()
+    )
+}
