@@ -17,6 +17,7 @@ use Rattle.table.specs.declared.Found.{Found}
 use Rattle.table.specs.declared.Found.the-variants.{At, Nothing}
 use Rattle.table.specs.declared.Process.{Process}
 use Rattle.table.proofs.Searched.{FoundAt, found-at, found-none}
+use Rattle.claims.specs.declared.Admission.{Admission}
 use Rattle.claims.specs.declared.Claim.{Claim}
 use Rattle.claims.specs.declared.Claim.the-variants.{Elevated, ByUser}
 use Rattle.claims.specs.declared.ClaimView.{ClaimView}
@@ -135,6 +136,11 @@ view-of st s claim {a} {f} {owner} {c} {next} ea ef eo en ec h eb ew =
     let cc : c ≡ claimant st s claim = ec ∙ ap (speaksFor claim) (eo ∙ ap (λ (q : Process). q .credential) p) ∙ speaks-claimant st s claim in
     let nn : next ≡ activeProcess st (claimed s claim) .next = en ∙ ap (λ (q : Process). q .next) p in
     rw (h, eb, ew, nn, ff, cc)
+
+-- and what its check answers
+pub admission-is : (st : State) (s : Session) (claim : Claim) {view : ClaimView} {by : Admission} → view ≡ claimView st s claim → by ≡ checkedClaim s claim view → by ≡ admission st s claim
+unfolding admission
+admission-is st s claim e q = q ∙ rw e
 
 viewed-number : (st : State) (s : Session) (claim : Claim) → viewedNumber claim (claimView st s claim) ≡ claimNumber st s claim
 unfolding claimView viewedNumber claimNumber elevatedNumber userNumber claimed claimant

@@ -9,32 +9,20 @@ use lib.ListN.{length, getD, List·getD-eq-default}
 use borrow.Author.Needs.{needs}
 use borrow.Author.Tests.{not-true, not-false, le-leb, lt-leb}
 use Rattle.lists.proofs.Lists.{length-mapped}
-use Rattle.claims.specs.declared.Admission.{Admission}
 use Rattle.claims.specs.declared.Class.{Class}
-use Rattle.claims.specs.declared.ClaimView.{ClaimView}
 use Rattle.claims.specs.declared.Grants.{Grants}
 use Rattle.claims.specs.declared.SessionState.{SessionState}
 use Rattle.claims.specs.declared.State.{State}
-use Rattle.claims.specs.declared.Claim.{Claim}
-use Rattle.claims.specs.declared.Claim.the-variants.{Elevated, ByUser}
-use Rattle.claims.specs.declared.UserClaim.{UserClaim}
 use Rattle.claims.specs.declared.Phase.{Phase}
 use Rattle.claims.specs.declared.Phase.the-variants.{Closed, Opened, Chosen}
 use Rattle.names.specs.declared.Credential.{Credential}
 use Rattle.names.specs.declared.Session.{Session}
-use Rattle.table.specs.Table.{standing, size, freePlace, processAt, isActive, foundPlace, firstPlace}
-use Rattle.table.specs.declared.Active.{Active}
-use Rattle.table.specs.declared.Active.the-variants.{UserOf, ElevationIn}
-use Rattle.table.specs.declared.Found.{Found}
-use Rattle.table.specs.declared.Found.the-variants.{At, Nothing}
-use Rattle.table.specs.declared.Process.{Process}
-use Rattle.table.specs.declared.Table.{Table}
 use Rattle.claims.specs.Numbers.{_when_, _unless_, _▸_}
-use Rattle.claims.specs.Module.{isHandle, closedSession, phaseOf, isClosed, isChosen, isCredential, unprovisioned, provisioned, wordOf, wordGrants, activeProcess}
-use Rattle.claims.specs.Claim.{phaseNumber, entered, isClaim, isSpent, claimant, claimed, speaksFor, processFound, claimView, isFound, viewedNumber, checkedNumber, checkedClaim, admission}
-use Rattle.claims.proofs.Laws.{stop, pass, when-true, when-false, unless-true, unless-false, view-of}
+use Rattle.claims.specs.Module.{isHandle, closedSession, phaseOf, isClosed, isChosen, isCredential, unprovisioned, provisioned, wordOf, wordGrants}
+use Rattle.claims.specs.Claim.{phaseNumber, entered}
+use Rattle.claims.proofs.Laws.{stop, pass, when-true, when-false, unless-true, unless-false}
 
-nonzero : {n : ℕ} → T (ltb 0 n) → n ≡ 0 → ⊥
+pub nonzero : {n : ℕ} → T (ltb 0 n) → n ≡ 0 → ⊥
 nonzero {n} some e = omega (arith, ltb→lt 0 n some)
 
 -- ---- a row of tests, as code goes through it: a test leaves with its number, or the next is asked
@@ -157,80 +145,4 @@ pub entered-is : (st : State) (s : Session) {phase : Phase} {n : ℕ} → phase 
 unfolding entered
 entered-is st s e q = q ∙ rw e
 
--- ---- the claim, by its case
-pub spent-is : (next : ℕ) → eqb next 65535 ≡ isSpent next
-unfolding isSpent
-spent-is next = refl
-
-pub elevated-fine : {claim : Claim} → claim ≡ Elevated → true ≡ isClaim claim
-unfolding isClaim
-elevated-fine e = rw e
-
-pub user-fine : {claim : Claim} {u : UserClaim} {b : Bool} → claim ≡ ByUser u → b ≡ isCredential (u .credential) → b ≡ isClaim claim
-unfolding isClaim
-user-fine e q = q ∙ rw e
-
--- ---- the process of a claim
-module _ (s : Session) {claim : Claim} where
-  pub claimed-elevation : claim ≡ Elevated → ElevationIn s ≡ claimed s claim
-  unfolding claimed
-  claimed-elevation e = rw e
-
-  pub claimed-user : {u : UserClaim} → claim ≡ ByUser u → UserOf s (u .credential) ≡ claimed s claim
-  unfolding claimed
-  claimed-user e = rw e
-
-module _ (owner : Credential) {claim : Claim} where
-  pub speaks-owner : claim ≡ Elevated → owner ≡ speaksFor claim owner
-  speaks-owner e = rw e
-
-  pub speaks-itself : {u : UserClaim} → claim ≡ ByUser u → u .credential ≡ speaksFor claim owner
-  speaks-itself e = rw e
-
-module _ (t : Table) {f : Found} {p : Process} where
-  pub process-found-at : {k : ℕ} → f ≡ At k → p ≡ processAt t k → p ≡ processFound t f
-  unfolding processFound
-  process-found-at e q = q ∙ rw e
-
-  pub process-found-none : {n : ℕ} → f ≡ Nothing → n ≡ size t → p ≡ processAt t n → p ≡ processFound t f
-  unfolding processFound processAt size
-  process-found-none {n} e k q = q ∙ rw e (List·getD-eq-default (standing t) freePlace (omega (arith, k)))
-
-pub view-is : (st : State) (s : Session) (claim : Claim) {a : Active} {f : Found} {p : Process} {c : Credential} {phase : Phase} {b : Bool} {w : ℕ}
-    → a ≡ claimed s claim → f ≡ firstPlace (isActive a) (standing (st .table)) → p ≡ processFound (st .table) f → c ≡ speaksFor claim (p .credential)
-    → phase ≡ phaseOf st s → b ≡ provisioned st c → w ≡ wordOf st c
-    → _≡_ {A = ClaimView} (record { phase = phase; provisioned = b; found = f; next = p .next; credential = c; word = w }) (claimView st s claim)
-view-is st s claim ea ef ep ec h eb ew =
-    view-of st s claim ea ef (ap (λ (q : Process). q .credential) ep) (ap (λ (q : Process). q .next) ep) ec h eb ew
-
--- ---- its check
-module _ (view : ClaimView) {f : Found} (e : f ≡ view .found) where
-  pub missing-stop : (n m : ℕ) → T (ltb 0 n) → f ≡ Nothing → n ≡ n unless isFound (view .found) ▸ m
-  missing-stop n m some q = rw (← e, q) (sym (stop m (λ z. nonzero some (sym (unless-false n {b = false} refl) ∙ z)) ∙ unless-false n {b = false} refl))
-
-  pub found-pass : (n m : ℕ) {r k : ℕ} → f ≡ At k → r ≡ m → r ≡ n unless isFound (view .found) ▸ m
-  found-pass n m q a = a ∙ rw (← e, q) (sym (pass m (unless-true n {b = true} refl)))
-
-  pub missing-last : (n : ℕ) → f ≡ Nothing → n ≡ n unless isFound (view .found)
-  missing-last n q = rw (← e, q) (sym (unless-false n {b = false} refl))
-
-  pub found-last : (n : ℕ) {k : ℕ} → f ≡ At k → 0 ≡ n unless isFound (view .found)
-  found-last n q = rw (← e, q) (sym (unless-true n {b = true} refl))
-
-module _ (view : ClaimView) {claim : Claim} {n : ℕ} where
-  pub viewed-elevated : claim ≡ Elevated → n ≡ viewedNumber Elevated view → n ≡ viewedNumber claim view
-  viewed-elevated e q = q ∙ rw e
-
-  pub viewed-user : {u : UserClaim} → claim ≡ ByUser u → n ≡ viewedNumber (ByUser u) view → n ≡ viewedNumber claim view
-  viewed-user e q = q ∙ rw e
-
-pub checked-is : (s : Session) (claim : Claim) (view : ClaimView) {n at : ℕ} {f : Found} → n ≡ checkedNumber s claim view → f ≡ view .found → at ≡ foundPlace 0 f
-    → _≡_ {A = Admission} (record { number = n; place = at; next = view .next; credential = view .credential; word = view .word }) (checkedClaim s claim view)
-unfolding checkedClaim
-checked-is s claim view a b c = rw (a, c, b)
-
-pub admission-is : (st : State) (s : Session) (claim : Claim) {view : ClaimView} {by : Admission} → view ≡ claimView st s claim → by ≡ checkedClaim s claim view → by ≡ admission st s claim
-unfolding admission
-admission-is st s claim e q = q ∙ rw e
-
-pub ruleset rules = (needs, length-mapped, when-hit, when-miss, unless-hit, unless-miss, when-stop, when-pass, unless-stop, unless-pass, part-stop, part-pass, handle-is, credential-is, phase-in, phase-out, closed-closed, closed-opened, closed-chosen, phase-argument, phase-closed, phase-opened, phase-chosen, entered-is, spent-is, elevated-fine, user-fine, provisioned-in, word-in, provisioned-out, word-out, claimed-elevation, claimed-user, speaks-owner, speaks-itself, process-found-at, process-found-none, view-is, missing-stop, found-pass, missing-last, found-last, viewed-elevated, viewed-user, checked-is, admission-is, grants-not, grants-is)
+pub ruleset rules = (needs, length-mapped, when-hit, when-miss, unless-hit, unless-miss, when-stop, when-pass, unless-stop, unless-pass, part-stop, part-pass, handle-is, credential-is, phase-in, phase-out, closed-closed, closed-opened, closed-chosen, phase-argument, phase-closed, phase-opened, phase-chosen, entered-is, provisioned-in, word-in, provisioned-out, word-out, grants-not, grants-is)

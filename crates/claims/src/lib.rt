@@ -1,12 +1,10 @@
-// What the module holds, whom it grants what, and the check of a claim.
+// What the module holds, and whom it grants what; the types of a claim and of its check.
 ghost use mathlib.Core.Path.{_≡_};
-ghost use Rattle.claims.specs.Module.{isHandle, isCredential, phaseOf, isClosed, isChosen, provisioned, wordOf, wordGrants};
-ghost use Rattle.claims.specs.Claim.{phaseNumber, entered, isClaim, isSpent, turnNumber, claimed, speaksFor, processFound, claimView, viewedNumber, checkedNumber, checkedClaim, admission};
+ghost use Rattle.claims.specs.Module.{isHandle, isCredential, phaseOf, isClosed, provisioned, wordOf, wordGrants};
+ghost use Rattle.claims.specs.Claim.{phaseNumber, entered};
 use names::Credential;
 use names::Session;
-use table::Active;
 use table::Found;
-use table::Process;
 use table::Table;
 
 // The numbers that a call can answer.
@@ -163,7 +161,7 @@ pub fn provisioned(st: State, c: Credential) -> bool
     }
 }
 
-fn word_of(st: State, c: Credential) -> u32
+pub fn word_of(st: State, c: Credential) -> u32
     ensures { λ r. ⌜ r ≡ wordOf st c ⌝ }
 {
     let at = c.0 as usize;
@@ -188,7 +186,7 @@ pub fn word_grants(word: u32, class: Class) -> bool
 }
 
 // The tests that all calls but open, close and select begin with, of a session in a phase.
-fn phase_number(s: Session, phase: Phase) -> u8
+pub fn phase_number(s: Session, phase: Phase) -> u8
     ensures { λ r. ⌜ r ≡ phaseNumber s phase ⌝ }
 {
     if !is_handle(s) {
@@ -205,159 +203,4 @@ pub fn entered(st: State, s: Session) -> u8
     ensures { λ r. ⌜ r ≡ entered st s ⌝ }
 {
     phase_number(s, phase_of(st, s))
-}
-
-// Whether a claim's credential, where it has one, is in its range.
-fn is_claim(claim: Claim) -> bool
-    ensures { λ r. ⌜ r ≡ isClaim claim ⌝ }
-{
-    match claim {
-        Claim::Elevated => true,
-        Claim::ByUser(u) => is_credential(u.credential),
-    }
-}
-
-fn is_spent(next: u16) -> bool
-    ensures { λ r. ⌜ r ≡ isSpent next ⌝ }
-{
-    next == 65535
-}
-
-// The tests that ask for the turn, of a process with that next number.
-fn turn_number(next: u16, u: UserClaim) -> u8
-    ensures { λ r. ⌜ r ≡ turnNumber next u ⌝ }
-{
-    if is_spent(next) {
-        return SPENT;
-    }
-    let in_turn = u.number == next;
-    if !in_turn {
-        return OUT_OF_TURN;
-    }
-    if !u.verdict {
-        return VERDICT;
-    }
-    DONE
-}
-
-// The active process under which a claim is made.
-pub fn claimed(s: Session, claim: Claim) -> Active
-    ensures { λ r. ⌜ r ≡ claimed s claim ⌝ }
-{
-    match claim {
-        Claim::Elevated => Active::ElevationIn(s),
-        Claim::ByUser(u) => {
-            let c = u.credential;
-            Active::UserOf(s, c)
-        }
-    }
-}
-
-// Whom a claim speaks for, by the owner of the process under which it is made.
-pub fn speaks_for(claim: Claim, owner: Credential) -> Credential
-    ensures { λ r. ⌜ r ≡ speaksFor claim owner ⌝ }
-{
-    match claim {
-        Claim::Elevated => owner,
-        Claim::ByUser(u) => u.credential,
-    }
-}
-
-// The process that a search found; a free place where it found none.
-fn process_found(t: Table, found: Found) -> Process
-    ensures { λ r. ⌜ r ≡ processFound t found ⌝ }
-{
-    match found {
-        Found::At(at) => table::process_at(t, at),
-        Found::Nothing => table::process_at(t, table::size(t)),
-    }
-}
-
-pub fn claim_view(st: State, s: Session, claim: Claim) -> ClaimView
-    ensures { λ r. ⌜ r ≡ claimView st s claim ⌝ }
-{
-    let t = st.table;
-    let found = table_search::find_active(t, claimed(s, claim));
-    let p = process_found(t, found);
-    let owner = p.credential;
-    let c = speaks_for(claim, owner);
-    ClaimView {
-        phase: phase_of(st, s),
-        provisioned: provisioned(st, c),
-        found: found,
-        next: p.next,
-        credential: c,
-        word: word_of(st, c),
-    }
-}
-
-// ---- the check of a claim
-
-fn elevated_number(view: ClaimView) -> u8
-    ensures { λ r. ⌜ r ≡ viewedNumber Claim.Elevated view ⌝ }
-{
-    let found = view.found;
-    let Found::At(_) = found else {
-        return NO_PROCESS;
-    };
-    DONE
-}
-
-fn user_number(u: UserClaim, view: ClaimView) -> u8
-    ensures { λ r. ⌜ r ≡ viewedNumber (Claim.ByUser u) view ⌝ }
-{
-    if !view.provisioned {
-        return CREDENTIAL;
-    }
-    let found = view.found;
-    let Found::At(_) = found else {
-        return NO_PROCESS;
-    };
-    turn_number(view.next, u)
-}
-
-fn viewed_number(claim: Claim, view: ClaimView) -> u8
-    ensures { λ r. ⌜ r ≡ viewedNumber claim view ⌝ }
-{
-    match claim {
-        Claim::Elevated => elevated_number(view),
-        Claim::ByUser(u) => user_number(u, view),
-    }
-}
-
-fn checked_number(s: Session, claim: Claim, view: ClaimView) -> u8
-    ensures { λ r. ⌜ r ≡ checkedNumber s claim view ⌝ }
-{
-    if !is_claim(claim) {
-        return ARGUMENT;
-    }
-    let phase = view.phase;
-    let entry = phase_number(s, phase);
-    if entry != DONE {
-        return entry;
-    }
-    viewed_number(claim, view)
-}
-
-// The tests that all protected calls begin with, the claim's check the last of them, wherever the state lies that the view is of.
-pub fn check_claim(s: Session, claim: Claim, view: ClaimView) -> Admission
-    ensures { λ r. ⌜ r ≡ checkedClaim s claim view ⌝ }
-{
-    let number = checked_number(s, claim, view);
-    let found = view.found;
-    let place = table::found_place(found, 0);
-    let c = view.credential;
-    Admission {
-        number: number,
-        place: place,
-        next: view.next,
-        credential: c,
-        word: view.word,
-    }
-}
-
-pub fn admit(st: State, s: Session, claim: Claim) -> Admission
-    ensures { λ r. ⌜ r ≡ admission st s claim ⌝ }
-{
-    check_claim(s, claim, claim_view(st, s, claim))
 }

@@ -44,7 +44,7 @@ fn counted(st: State, s: Session, claim: Claim, by: Admission) -> State
 pub fn end(st: State, s: Session, u: UserClaim, keep: bool) -> Outcome
     ensures { λ r. ⌜ r ≡ outcome st (End s u keep) ⌝ }
 {
-    let by = claims::admit(st, s, Claim::ByUser(u));
+    let by = claim_admission::admit(st, s, Claim::ByUser(u));
     let n = calls_protected::end_number(by, keep);
     if n != DONE {
         return effects::refused_claim(st, n, Claim::ByUser(u));
@@ -58,7 +58,7 @@ pub fn end(st: State, s: Session, u: UserClaim, keep: bool) -> Outcome
 pub fn record(st: State, s: Session, claim: Claim, class: Class) -> Outcome
     ensures { λ r. ⌜ r ≡ outcome st (Record s claim class) ⌝ }
 {
-    let by = claims::admit(st, s, claim);
+    let by = claim_admission::admit(st, s, claim);
     let n = calls_protected::record_number(by, class);
     if n != DONE {
         return effects::refused_claim(st, n, claim);
@@ -72,7 +72,7 @@ pub fn record(st: State, s: Session, claim: Claim, class: Class) -> Outcome
 pub fn list(st: State, s: Session, claim: Claim, wanted: Wanted, room: usize) -> Listed
     ensures { λ r. ⌜ r ≡ listed st s claim wanted room ⌝ }
 {
-    let by = claims::admit(st, s, claim);
+    let by = claim_admission::admit(st, s, claim);
     let n = calls_protected::list_number(st, by, wanted, room);
     if n != DONE {
         return Listed {
@@ -91,7 +91,7 @@ pub fn list(st: State, s: Session, claim: Claim, wanted: Wanted, room: usize) ->
 pub fn kill(st: State, s: Session, claim: Claim, name: Name) -> Outcome
     ensures { λ r. ⌜ r ≡ outcome st (Kill s claim name) ⌝ }
 {
-    let by = claims::admit(st, s, claim);
+    let by = claim_admission::admit(st, s, claim);
     let n = calls_protected::kill_number(st, by, name);
     if n != DONE {
         return effects::refused_claim(st, n, claim);
@@ -107,7 +107,7 @@ pub fn kill(st: State, s: Session, claim: Claim, name: Name) -> Outcome
 pub fn set_word(st: State, s: Session, claim: Claim, target: Credential, word: u32) -> Outcome
     ensures { λ r. ⌜ r ≡ outcome st (SetWord s claim target word) ⌝ }
 {
-    let by = claims::admit(st, s, claim);
+    let by = claim_admission::admit(st, s, claim);
     let n = calls_protected::set_word_number(st, by, target);
     if n != DONE {
         return effects::refused_claim(st, n, claim);

@@ -191,9 +191,9 @@ fn next_found(s: &[u8], found: Found) -> u16
 pub fn claim_view(s: &[u8], session: Session, claim: Claim) -> ClaimView
     ensures { λ r. ⌜ r ≡ claimView (stateOf (now (s .entry))) session claim ⌝ }
 {
-    let found = find_active(s, claims::claimed(session, claim));
+    let found = find_active(s, claim_check::claimed(session, claim));
     let next = next_found(s, found);
-    let c = claims::speaks_for(claim, owner_found(s, found));
+    let c = claim_check::speaks_for(claim, owner_found(s, found));
     ClaimView {
         phase: phase_of(s, session),
         provisioned: provisioned(s, c),

@@ -20,7 +20,7 @@ use Rattle.claims.specs.declared.Claim.{Claim}
 use Rattle.claims.specs.declared.Claim.the-variants.{Elevated, ByUser}
 use Rattle.claims.specs.declared.Class.{Class}
 use Rattle.claims.specs.declared.UserClaim.{UserClaim}
-use Rattle.claims.proofs.Laws.{admission-next}
+use Rattle.claims.proofs.Laws.{admission-next, admission-is}
 use Rattle.calls.specs.Calls.{Call, number, Record, isDevice, effect}
 use Rattle.calls.specs.declared.Outcome.{Outcome}
 use Rattle.calls.proofs.Laws.{outcome-done, checked-number, record-number}
@@ -89,4 +89,4 @@ module _ {fine : Bool} (b : List ℕ) (g : Bytes b) where
   unfolding isMade
   ready-not f = record { is = rw f; bytes = g }
 
-pub ruleset rules = (call-rules, one-more-fits, count-written, count-elevated, count-by-user, record-none, record-refused, record-done)
+pub ruleset rules = (call-rules, one-more-fits, count-written, count-elevated, count-by-user, record-none, record-refused, record-done, admission-is)

@@ -43,7 +43,7 @@ fn count(state: &mut [u8], s: Session, claim: Claim, by: Admission)
 fn admit(state: &[u8], s: Session, claim: Claim) -> Admission
     ensures { λ r. ⌜ r ≡ admission (stateOf (now (state .entry))) s claim ⌝ }
 {
-    claims::check_claim(s, claim, state_find::claim_view(state, s, claim))
+    claim_check::check_claim(s, claim, state_find::claim_view(state, s, claim))
 }
 
 // The number of a record; where that is 0 and the claim is a user's, its process's next number is one more. A slice that holds no state is refused.

@@ -1,0 +1,40 @@
+use Rattle.claim_admission.proofs.Rules.{rules}
+use Rattle.claim_admission.proofs.claim_view.Statement.{statement}
+use Rattle.claim_admission.proofs.claim_view.Tie as tie
+
+claimed-requires : tie.Need-claimed-requires
+claimed-requires c κs = search rules
+
+find-active-requires : tie.Need-find-active-requires
+find-active-requires c κs = search rules
+
+process-found-requires : tie.Need-process-found-requires
+process-found-requires c κs = search rules
+
+speaks-for-requires : tie.Need-speaks-for-requires
+speaks-for-requires c κs = search rules
+
+phase-of-requires : tie.Need-phase-of-requires
+phase-of-requires c κs = search rules
+
+provisioned-requires : tie.Need-provisioned-requires
+provisioned-requires c κs = search rules
+
+word-of-requires : tie.Need-word-of-requires
+word-of-requires c κs = search rules
+
+returns : tie.Need-returns
+returns c = search rules
+
+pub claim-view-spec : {M : Type 1} → statement M
+claim-view-spec =
+    tie.close
+    (tie.spec
+    claimed-requires
+    find-active-requires
+    process-found-requires
+    speaks-for-requires
+    phase-of-requires
+    provisioned-requires
+    word-of-requires
+    returns)

@@ -1,0 +1,36 @@
+use Rattle.claim_admission.proofs.Rules.{rules}
+use Rattle.claim_admission.proofs.process_found.Statement.{statement}
+use Rattle.claim_admission.proofs.process_found.Tie as tie
+
+enum-known-found : tie.Need-enum-known-found
+enum-known-found c = search rules
+
+process-at-requires : tie.Need-process-at-requires
+process-at-requires c κs = search rules
+
+enum-told : tie.Need-enum-told
+enum-told c = search rules
+
+size-requires : tie.Need-size-requires
+size-requires c κs = search rules
+
+process-at-requires-2 : tie.Need-process-at-requires-2
+process-at-requires-2 c κs = search rules
+
+returns : tie.Need-returns
+returns c = search rules
+
+returns-2 : tie.Need-returns-2
+returns-2 c = search rules
+
+pub process-found-spec : {M : Type 1} → statement M
+process-found-spec =
+    tie.close
+    (tie.spec
+    enum-known-found
+    process-at-requires
+    enum-told
+    size-requires
+    process-at-requires-2
+    returns
+    returns-2)

@@ -1,0 +1,19 @@
+-- No second answer meets the contract of any public function of this crate.
+-- Assumes nothing.
+use mathlib.Core.Path.{sym, _∙_}
+use Rattle.lists.proofs.Once.{OneAnswer}
+use Rattle.claim_check.proofs.claimed.Kinds as claimed-kinds
+use Rattle.claim_check.proofs.claimed.Reads as claimed
+use Rattle.claim_check.proofs.speaks_for.Kinds as speaks-for-kinds
+use Rattle.claim_check.proofs.speaks_for.Reads as speaks-for
+use Rattle.claim_check.proofs.check_claim.Kinds as check-claim-kinds
+use Rattle.claim_check.proofs.check_claim.Reads as check-claim
+
+pub claimed-once : OneAnswer 0 claimed-kinds.ps claimed-kinds.r claimed.Post
+claimed-once κs a x y s t p q = p ∙ sym q
+
+pub speaks-for-once : OneAnswer 0 speaks-for-kinds.ps speaks-for-kinds.r speaks-for.Post
+speaks-for-once κs a x y s t p q = p ∙ sym q
+
+pub check-claim-once : OneAnswer 0 check-claim-kinds.ps check-claim-kinds.r check-claim.Post
+check-claim-once κs a x y s t p q = p ∙ sym q

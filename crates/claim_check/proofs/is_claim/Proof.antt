@@ -1,0 +1,22 @@
+use Rattle.claim_check.proofs.Rules.{rules}
+use Rattle.claim_check.proofs.is_claim.Statement.{statement}
+use Rattle.claim_check.proofs.is_claim.Tie as tie
+
+enum-told : tie.Need-enum-told
+enum-told c = search rules
+
+enum-known-claim : tie.Need-enum-known-claim
+enum-known-claim c = search rules
+
+is-credential-requires : tie.Need-is-credential-requires
+is-credential-requires c κs = search rules
+
+returns : tie.Need-returns
+returns c = search rules
+
+returns-2 : tie.Need-returns-2
+returns-2 c = search rules
+
+pub is-claim-spec : {M : Type 1} → statement M
+is-claim-spec =
+    tie.close (tie.spec enum-told enum-known-claim is-credential-requires returns returns-2)

@@ -1,9 +1,0 @@
-use Rattle.claims.proofs.Rules.{rules}
-use Rattle.claims.proofs.is_spent.Statement.{statement}
-use Rattle.claims.proofs.is_spent.Tie as tie
-
-returns : tie.Need-returns
-returns c = search rules
-
-pub is-spent-spec : {M : Type 1} → statement M
-is-spent-spec = tie.close (tie.spec returns)
