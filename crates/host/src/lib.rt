@@ -374,7 +374,7 @@ pub extern "C" fn slavotuk_read_row(
     let k = row.kind;
     let t = row.name;
     *credential = c.0;
-    *kind = names::type_number(k);
+    *kind = listing_row::type_number(k);
     names::put_name(name, t);
     DONE as u32
 }

@@ -9,18 +9,6 @@ use Rattle.names.proofs.read_name.Kinds as read-name-kinds
 use Rattle.names.proofs.read_name.Reads as read-name
 use Rattle.names.proofs.put_name.Kinds as put-name-kinds
 use Rattle.names.proofs.put_name.Reads as put-name
-use Rattle.names.proofs.put_row.Kinds as put-row-kinds
-use Rattle.names.proofs.put_row.Reads as put-row
-use Rattle.names.proofs.is_row.Kinds as is-row-kinds
-use Rattle.names.proofs.is_row.Reads as is-row
-use Rattle.names.proofs.read_row.Kinds as read-row-kinds
-use Rattle.names.proofs.read_row.Reads as read-row
-use Rattle.names.proofs.type_number.Kinds as type-number-kinds
-use Rattle.names.proofs.type_number.Reads as type-number
-use Rattle.names.proofs.type_numbered.Kinds as type-numbered-kinds
-use Rattle.names.proofs.type_numbered.Reads as type-numbered
-use Rattle.names.proofs.type_of.Kinds as type-of-kinds
-use Rattle.names.proofs.type_of.Reads as type-of
 
 pub same-once : OneAnswer 0 same-kinds.ps same-kinds.r same.Post
 same-once κs a x y s t p q = p ∙ sym q
@@ -30,21 +18,3 @@ read-name-once κs a x y s t p q = p ∙ sym q
 
 pub put-name-once : OneContent 1 put-name-kinds.ps put-name-kinds.r put-name.Post (λ κs s. now (s .0))
 put-name-once κs a x y s t p q = p ∙ sym q
-
-pub put-row-once : OneContent 1 put-row-kinds.ps put-row-kinds.r put-row.Post (λ κs s. now (s .0))
-put-row-once κs a x y s t p q = p ∙ sym q
-
-pub is-row-once : OneAnswer 1 is-row-kinds.ps is-row-kinds.r is-row.Post
-is-row-once κs a x y s t p q = p ∙ sym q
-
-pub read-row-once : OneAnswer 1 read-row-kinds.ps read-row-kinds.r read-row.Post
-read-row-once κs a x y s t p q = p ∙ sym q
-
-pub type-number-once : OneAnswer 0 type-number-kinds.ps type-number-kinds.r type-number.Post
-type-number-once κs a x y s t p q = p ∙ sym q
-
-pub type-numbered-once : OneAnswer 0 type-numbered-kinds.ps type-numbered-kinds.r type-numbered.Post
-type-numbered-once κs a x y s t p q = p ∙ sym q
-
-pub type-of-once : OneAnswer 0 type-of-kinds.ps type-of-kinds.r type-of.Post
-type-of-once κs a x y s t p q = p ∙ sym q

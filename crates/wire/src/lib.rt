@@ -115,7 +115,7 @@ fn are_rows(message: &[u8], count: u16) -> bool
     while at < n {
         let start = 4 + at * 51;
         let end = start + 51;
-        if !names::is_row(&message[start..end]) {
+        if !listing_row::is_row(&message[start..end]) {
             return false;
         }
         at += 1;
@@ -175,7 +175,7 @@ pub fn read_row_at(message: &[u8], at: usize) -> RowAnswer
     }
     let start = 4 + at * 51;
     let end = start + 51;
-    let found = names::read_row(&message[start..end]);
+    let found = listing_row::read_row(&message[start..end]);
     let row = found.row;
     RowAnswer {
         number: DONE,
@@ -199,7 +199,7 @@ fn row_of(p: Process) -> Row
     let name = p.name;
     Row {
         credential: credential,
-        kind: names::type_of(kind),
+        kind: listing_row::type_of(kind),
         name: name,
     }
 }
@@ -226,7 +226,7 @@ fn put_rows(buffer: &mut [u8], t: Table, wanted: Wanted)
         if is_wanted(p, wanted) {
             let start = 4 + k * 51;
             let end = start + 51;
-            names::put_row(&mut buffer[start..end], row_of(p));
+            listing_row::put_row(&mut buffer[start..end], row_of(p));
             k += 1;
         }
         i += 1;

@@ -1,6 +1,6 @@
-use Rattle.names.proofs.Rules.{rules}
-use Rattle.names.proofs.type_of.Statement.{statement}
-use Rattle.names.proofs.type_of.Tie as tie
+use Rattle.listing_row.proofs.Rules.{rules}
+use Rattle.listing_row.proofs.type_of.Statement.{statement}
+use Rattle.listing_row.proofs.type_of.Tie as tie
 
 enum-told : tie.Need-enum-told
 enum-told c = search rules

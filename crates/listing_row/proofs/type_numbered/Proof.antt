@@ -1,6 +1,6 @@
-use Rattle.names.proofs.Rules.{rules}
-use Rattle.names.proofs.type_numbered.Statement.{statement}
-use Rattle.names.proofs.type_numbered.Tie as tie
+use Rattle.listing_row.proofs.Rules.{rules}
+use Rattle.listing_row.proofs.type_numbered.Statement.{statement}
+use Rattle.listing_row.proofs.type_numbered.Tie as tie
 
 returns : tie.Need-returns
 returns c = search rules

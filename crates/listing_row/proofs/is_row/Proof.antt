@@ -1,6 +1,6 @@
-use Rattle.names.proofs.Rules.{rules}
-use Rattle.names.proofs.is_row.Statement.{statement}
-use Rattle.names.proofs.is_row.Tie as tie
+use Rattle.listing_row.proofs.Rules.{rules}
+use Rattle.listing_row.proofs.is_row.Statement.{statement}
+use Rattle.listing_row.proofs.is_row.Tie as tie
 
 shared-slice-read-result : tie.Need-shared-slice-read-result
 shared-slice-read-result c = search rules
