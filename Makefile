@@ -1,4 +1,4 @@
-.PHONY: help run lib own install test edits soak faults bench tools clean
+.PHONY: help inspect inspect-test run lib own install test edits soak faults bench tools clean
 
 SHELL := bash
 .SHELLFLAGS := -o pipefail -c
@@ -32,6 +32,8 @@ WITH_SHARED := $(or $(filter $(MACHINE),$(ARCH)),$(filter $(ARCH)-%,$(shell $(CC
 lib-files = $(1)/libslavotuk.a $(1)/slavotuk.h $(if $(2),$(1)/$(SHARED))
 
 help:
+	@echo "make inspect  writes build/inspect/index.html: every sentence of document 01 with its definition, contract and wrong builds"
+	@echo "make inspect-test  tries that page in a browser (Chromium)"
 	@echo "make run      proves and builds what the console needs, and starts it"
 	@echo "make lib      proves the module, and puts the archive, the shared object and slavotuk.h into $(LIB)"
 	@echo "              ARCH=x86_64 or ARCH=aarch64: the archive for that machine; with CC a compiler for it, the shared object too"
@@ -42,6 +44,12 @@ help:
 	@echo "make faults   breaks the model in some fifty ways and asks that the comparison tells"
 	@echo "make bench    the record entry against ordinary Rust, and what the other entries cost"
 	@echo "make clean    removes what these have built"
+
+inspect: tools
+	@$(CARGO) slavotuk-inspect -- page build/inspect/index.html
+
+inspect-test: inspect
+	@tests/inspect
 
 # with line editing where rlwrap is there and somebody types, at a terminal that has a width
 run: own

@@ -53,6 +53,7 @@ fn written(file: &Path) -> io::Result<bool> {
         commit: said("git", &["describe", "--always", "--dirty", "--abbrev=12"]),
         date: said("date", &["-u", "+%Y-%m-%d %H:%M UTC"]),
         readme: map::document(&root.join("README.md"))?,
+        verdicts: check::check(root, &tree, &map),
     };
     let book = Book::new(&tree, &map, Run::read(root), origin);
     if let Some(folder) = file.parent() {

@@ -28,7 +28,7 @@ pub struct Run {
     pub kit: String,
     pub crates: Vec<Proved>,
     pub refusals: HashMap<(String, String), Refusal>,
-    /// the last line of the proofs
+    /// the last line, which says how it ended
     pub end: String,
 }
 
@@ -95,9 +95,8 @@ impl Run {
                 crate_name: name.to_string(),
                 ..std::mem::take(logic)
             });
-        } else if words.contains(" crates proved") {
-            self.end = words.to_string();
         }
+        self.end = words.to_string();
     }
 }
 

@@ -33,8 +33,9 @@ fn proved(book: &Book) -> String {
         )
     });
     format!(
-        "<h2 id=\"proved\">What is proved, and what is assumed</h2>\n{text}{assumed}{}",
-        counts(book)
+        "<h2 id=\"proved\">What is proved, and what is assumed</h2>\n{text}{assumed}{}{}",
+        counts(book),
+        map(book)
     )
 }
 
@@ -55,6 +56,30 @@ fn counts(book: &Book) -> String {
         ),
         several(tree.edits.len(), "wrong build", "wrong builds")
     )
+}
+
+/// What the check of the map found.
+fn map(book: &Book) -> String {
+    let looked_at: usize = book
+        .origin
+        .verdicts
+        .iter()
+        .map(|verdict| verdict.looked_at)
+        .sum();
+    let wrong: Vec<&String> = book
+        .origin
+        .verdicts
+        .iter()
+        .flat_map(|verdict| &verdict.wrong)
+        .collect();
+    let found: String = wrong
+        .iter()
+        .map(|line| format!("<li>{}</li>", escaped(line)))
+        .collect();
+    match wrong.len() {
+        0 => format!("<p>{} names and rules of the map were looked up in the sources: all are as it says.</p>\n", number(looked_at)),
+        n => format!("<p class=\"absent\"><strong>The map is wrong in {}:</strong></p>\n<ul>{found}</ul>\n", several(n, "place", "places")),
+    }
 }
 
 fn believed(book: &Book) -> String {
@@ -101,7 +126,7 @@ fn told(book: &Book, run: &Run) -> String {
         .map(|c| run_row(run, &c.crate_name, c.functions, c.axioms))
         .collect();
     format!(
-        "<p>{}, commit {}, kit {}.{other} It proved {} with {}, and refused {}. It ended: {}.</p>\n\
+        "<p>{}, commit {}, kit {}.{other} It proved {} with {}, and refused {}. {}</p>\n\
          <details><summary>Crate by crate</summary><div class=\"wide\"><table class=\"numbers\"><tr><th>crate</th><th>functions proved</th><th>axioms</th><th>wrong \
          builds refused</th></tr>\n{places}</table></div></details>\n<p>{} Where each wrong build was refused stands with it.</p>\n",
         escaped(&run.date),
@@ -110,9 +135,16 @@ fn told(book: &Book, run: &Run) -> String {
         several(run.crates.len(), "crate", "crates"),
         several(functions, "function", "functions"),
         several(run.refusals.len(), "wrong build", "wrong builds"),
-        escaped(&run.end),
+        ended(run),
         axioms(book, run)
     )
+}
+
+fn ended(run: &Run) -> String {
+    match run.end.starts_with("ok") {
+        true => format!("It ended: {}.", escaped(&run.end)),
+        false => format!("<strong>It failed: {}.</strong>", escaped(&run.end)),
+    }
 }
 
 fn run_row(run: &Run, name: &str, functions: usize, axioms: usize) -> String {

@@ -282,7 +282,7 @@ fn wrong_builds(book: &Book, crate_name: &str) -> String {
     }
     match html.as_str() {
         "" => html,
-        articles => format!("<h4>crates/{crate_name}/must-fail: wrong builds</h4>\n{articles}"),
+        articles => format!("<div class=\"builds\"><h4>crates/{crate_name}/must-fail: wrong builds</h4>\n{articles}</div>\n"),
     }
 }
 

@@ -10,6 +10,7 @@ mod prose;
 mod sentences;
 
 use crate::believed::Believed;
+use crate::check::Verdict;
 use crate::edit::Change;
 use crate::graph::Graph;
 use crate::map::Map;
@@ -30,6 +31,8 @@ pub struct Origin {
     pub date: String,
     /// README.md, whose first section says what is proved
     pub readme: Node,
+    /// what the check of the map found
+    pub verdicts: Vec<Verdict>,
 }
 
 /// All that the page is made of.

@@ -8,12 +8,35 @@ use crate::pictures::svg;
 use crate::tree::{Folder, Id};
 use Expression::{Applied, Operator, Word};
 
-/// Some bytes, how many where that is fixed, or what is repeated.
+/// Some bytes: how many where that is fixed, their value where they are one, or what is repeated.
 #[derive(Clone, Debug)]
 struct Span {
     name: String,
     long: Option<usize>,
+    value: Option<usize>,
     repeats: Option<Id>,
+}
+
+impl Span {
+    fn new(name: String, long: Option<usize>) -> Span {
+        Span {
+            name,
+            long,
+            value: None,
+            repeats: None,
+        }
+    }
+
+    /// What stands below its name.
+    fn remark(&self, book: &Book) -> String {
+        match (self.long, self.value, self.repeats) {
+            (Some(1), Some(value), _) => format!("1 byte, {value:#04x}"),
+            (Some(1), None, _) => "1 byte".to_string(),
+            (Some(n), _, _) => format!("{n} bytes"),
+            (None, _, Some(each)) => format!("each {}", book.tree.declaration(each).name),
+            (None, _, None) => String::new(),
+        }
+    }
 }
 
 /// A picture of fewer spans than this would show nothing.
@@ -61,39 +84,28 @@ fn spelled(book: &Book, file: usize, is: &Expression) -> Option<Vec<Span>> {
 }
 
 fn single(book: &Book, file: usize, byte: &Expression) -> Span {
-    let name = match value(book, file, byte) {
-        Some(n) if !matches!(byte, Word(word) if word.starts_with(|c: char| c.is_ascii_digit())) => {
-            format!("{} = {n:#04x}", byte.text())
-        }
-        _ => label(byte),
-    };
     Span {
-        name,
-        long: Some(1),
-        repeats: None,
+        value: value(book, file, byte),
+        ..Span::new(label(byte), Some(1))
     }
 }
 
 fn applied(book: &Book, file: usize, parts: &[Expression]) -> Option<Vec<Span>> {
     match parts {
-        [Word(f), width, number] if f == "bytesOf" => Some(vec![Span {
-            name: label(number),
-            long: value(book, file, width),
-            repeats: None,
-        }]),
+        [Word(f), width, number] if f == "bytesOf" => {
+            Some(vec![Span::new(label(number), value(book, file, width))])
+        }
         [Word(f), Applied(inner)] if f == "join" => match inner.as_slice() {
             [Word(map), Word(each), list] if map == "map" => Some(vec![Span {
-                name: label(list),
-                long: None,
                 repeats: meant(book, file, each),
+                ..Span::new(label(list), None)
             }]),
             _ => None,
         },
-        [.., Word(last)] if last.starts_with('.') => Some(vec![Span {
-            name: label(&Applied(parts.to_vec())),
-            long: array(book, last),
-            repeats: None,
-        }]),
+        [.., Word(last)] if last.starts_with('.') => Some(vec![Span::new(
+            label(&Applied(parts.to_vec())),
+            array(book, last),
+        )]),
         [Word(f), given @ ..] => {
             let id = meant(book, file, f)?;
             let (parameters, is) = clause(book.tree.declaration(id))
@@ -131,19 +143,30 @@ fn label(is: &Expression) -> String {
 
 /// How long the array is that a type of the code has as this field: `[u8; NAME_LENGTH]`.
 fn array(book: &Book, field: &str) -> Option<usize> {
-    let [only] = book.fields.get(field.trim_start_matches('.'))?.as_slice() else {
-        return None;
-    };
-    let declaration = book.tree.declaration(*only);
+    let name = field.trim_start_matches('.');
+    let types = book
+        .fields
+        .get(name)?
+        .iter()
+        .filter(|id| book.tree.file(**id).folder == Folder::Src);
+    let longs: Vec<Option<usize>> = types.map(|id| array_in(book, *id, name)).collect();
+    match longs.as_slice() {
+        [only] => *only,
+        _ => None,
+    }
+}
+
+fn array_in(book: &Book, id: Id, field: &str) -> Option<usize> {
+    let declaration = book.tree.declaration(id);
     let member = declaration
         .members
         .iter()
-        .find(|member| field.ends_with(&member.name))?;
+        .find(|member| member.name == field)?;
     let line = &declaration.statement[member.line - declaration.line];
     let long = line.split_once("[u8; ")?.1.split(']').next()?;
     let constant = || {
-        let id = book.tree.coded(&book.tree.file(*only).crate_name, long)?;
-        let text = book.tree.declaration(id).statement.join(" ");
+        let named = book.tree.coded(&book.tree.file(id).crate_name, long)?;
+        let text = book.tree.declaration(named).statement.join(" ");
         text.rsplit_once("= ")?.1.trim_end_matches(';').parse().ok()
     };
     long.parse().ok().or_else(constant)
@@ -160,12 +183,7 @@ fn draw(book: &Book, id: Id, spans: &[Span]) -> String {
     let mut x = 1.0;
     let mut at = Some(0);
     for (span, width) in spans.iter().zip(wide) {
-        let bytes = match (span.long, span.repeats) {
-            (Some(1), _) => "1 byte".to_string(),
-            (Some(n), _) => format!("{n} bytes"),
-            (None, Some(each)) => format!("each {}", book.tree.declaration(each).name),
-            (None, None) => String::new(),
-        };
+        let bytes = span.remark(book);
         let middle = x + width / 2.0;
         let drawn = svg::rect(x, 16.0, width, HIGH, "box")
             + &svg::text(middle, 35.0, "name", &span.name)
