@@ -192,7 +192,7 @@ pub fn bound(scope: &Scope, lines: &[String]) -> Vec<HashSet<String>> {
 
 /// Binders `(x y : T)`, `λ x.`, `let x :`, and the variables of the patterns on a clause's left side.
 fn bound_in(scope: &Scope, text: &str) -> HashSet<String> {
-    let pieces = words::of_logic(text);
+    let pieces = words::of_logic(text, indent(text));
     let mut names = variables(scope, &pieces);
     // the words since the last bracket, λ or let
     let mut run: Option<Vec<&str>> = None;
@@ -246,9 +246,10 @@ pub fn begins_contract(line: &str) -> bool {
 /// What lines of the logic cite, in their order, without what they bind.
 pub fn cited_by_logic(scope: &Scope, lines: &[String]) -> BTreeSet<Id> {
     let bounds = bound(scope, lines);
+    let margin = lines.first().map_or(0, |line| indent(line));
     let mut cited = BTreeSet::new();
     for (line, bound) in lines.iter().zip(&bounds) {
-        for piece in words::of_logic(line) {
+        for piece in words::of_logic(line, margin) {
             let Piece::Word(word) = piece else { continue };
             if let Some(Meaning::Ours(id)) = scope.of_logic(word).filter(|_| !bound.contains(word))
             {

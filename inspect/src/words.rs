@@ -6,6 +6,8 @@ pub enum Piece<'a> {
     Word(&'a str),
     /// a field that is taken of what stands before it: ` .name`, with its dot
     Field(&'a str),
+    /// a field that a record is given: `name = ..` between braces
+    Label(&'a str),
     Comment(&'a str),
     /// spaces, brackets, commas
     Other(&'a str),
@@ -14,15 +16,18 @@ pub enum Piece<'a> {
 impl<'a> Piece<'a> {
     pub fn text(self) -> &'a str {
         match self {
-            Piece::Word(text) | Piece::Field(text) | Piece::Comment(text) | Piece::Other(text) => {
-                text
-            }
+            Piece::Word(text)
+            | Piece::Field(text)
+            | Piece::Label(text)
+            | Piece::Comment(text)
+            | Piece::Other(text) => text,
         }
     }
 }
 
-/// The pieces of a line of the logic. A word goes up to a space or a bracket; a dot at its end is that of a λ.
-pub fn of_logic(line: &str) -> Vec<Piece<'_>> {
+/// The pieces of a line of the logic, in a declaration whose margin this is. A word goes up to a space or a bracket; a dot at its end is
+/// that of a λ.
+pub fn of_logic(line: &str, margin: usize) -> Vec<Piece<'_>> {
     let mut pieces = Vec::new();
     let mut rest = line;
     if rest.trim_start().starts_with("--") {
@@ -44,7 +49,24 @@ pub fn of_logic(line: &str) -> Vec<Piece<'_>> {
         }
         rest = after;
     }
+    for at in 0..pieces.len() {
+        if let (Piece::Word(word), true) = (pieces[at], is_label(&pieces, at, margin)) {
+            pieces[at] = Piece::Label(word);
+        }
+    }
     pieces
+}
+
+/// Whether a word is given a value inside of a record: after a brace or a semicolon, or first on a line that goes on.
+fn is_label(pieces: &[Piece], at: usize, margin: usize) -> bool {
+    let is_given = pieces.get(at + 1) == Some(&Piece::Other(" "))
+        && pieces.get(at + 2) == Some(&Piece::Word("="));
+    let begins = match at.checked_sub(1).map(|before| pieces[before]) {
+        Some(Piece::Other(text)) if at == 1 && text.trim().is_empty() => text.len() > margin,
+        Some(Piece::Other(text)) => text.contains(['{', ';']),
+        _ => false,
+    };
+    is_given && begins
 }
 
 fn word_of_logic<'a>(text: &'a str, pieces: &mut Vec<Piece<'a>>) {
@@ -90,7 +112,7 @@ pub fn of_code(line: &str) -> Vec<Piece<'_>> {
 #[cfg(test)]
 mod tests {
     use super::*;
-    use Piece::{Comment, Field, Other, Word};
+    use Piece::{Comment, Field, Label, Other, Word};
 
     fn words(pieces: Vec<Piece<'_>>) -> Vec<Piece<'_>> {
         pieces
@@ -102,7 +124,10 @@ mod tests {
     #[test]
     fn the_logics_words_fields_and_signs() {
         assert_eq!(
-            words(of_logic("same a b = λ x. No.done ▸ (f {st} [] .bytes .0)")),
+            words(of_logic(
+                "same a b = λ x. No.done ▸ (f {st} [] .bytes .0)",
+                0
+            )),
             [
                 Word("same"),
                 Word("a"),
@@ -119,7 +144,30 @@ mod tests {
                 Field(".0")
             ]
         );
-        assert_eq!(of_logic("  -- \"all\""), [Comment("  -- \"all\"")]);
+        assert_eq!(of_logic("  -- \"all\"", 0), [Comment("  -- \"all\"")]);
+    }
+
+    #[test]
+    fn a_field_that_is_given_is_no_name() {
+        assert_eq!(
+            words(of_logic("x = record { number = n; word = let r = y }", 0)),
+            [
+                Word("x"),
+                Word("="),
+                Word("record"),
+                Label("number"),
+                Word("="),
+                Word("n"),
+                Label("word"),
+                Word("="),
+                Word("let"),
+                Word("r"),
+                Word("="),
+                Word("y")
+            ]
+        );
+        assert_eq!(words(of_logic("      number = n;", 0))[0], Label("number"));
+        assert_eq!(words(of_logic("  last = n", 2))[0], Word("last"));
     }
 
     #[test]
@@ -149,7 +197,7 @@ mod tests {
             "a ≢ b′ .",
             "",
         ] {
-            let joined: String = of_logic(line).into_iter().map(Piece::text).collect();
+            let joined: String = of_logic(line, 0).into_iter().map(Piece::text).collect();
             assert_eq!(joined, line);
             let joined: String = of_code(line).into_iter().map(Piece::text).collect();
             assert_eq!(joined, line);

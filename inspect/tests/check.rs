@@ -1,78 +1,21 @@
 //! The map's check on a small tree: it passes as it is, and each fault is told by name.
 
+mod common;
+
+use common::Fixture;
 use slavotuk_inspect::check;
-use slavotuk_inspect::map::Map;
-use slavotuk_inspect::tree::Tree;
-use std::fs;
-use std::path::{Path, PathBuf};
 
-const FILES: [(&str, &str); 6] = [
-    ("crates.txt", "# names\nnames:\n"),
-    (
-        "crates/names/specs/Names.antt",
-        "use lib.Dec.{eqb}\n\n-- all bytes\nunfoldable pub sameName : Name → Name → Bool\nsameName a b = eqb a b\n",
-    ),
-    (
-        "crates/names/src/lib.rt",
-        "ghost use Rattle.names.specs.Names.{sameName};\n\npub struct Name(pub u8);\n\n// Whether two names are one.\n\
-         pub fn same(a: Name, b: Name) -> bool\n    ensures { λ r. ⌜ r ≡ sameName a b ⌝ }\n{\n    a.0 == b.0\n}\n",
-    ),
-    (
-        "crates/names/proofs/Unique.antt",
-        "use Rattle.names.proofs.same.Kinds as same-kinds\nuse Rattle.names.proofs.same.Reads as same\n\n\
-         pub same-once : OneAnswer 0 same-kinds.ps same-kinds.r same.Post\nsame-once κs a x y s t p q = p ∙ sym q\n",
-    ),
-    ("crates/names/must-fail/one_byte.edit", "# one byte\nfile: src/lib.rt\nold: a.0 == b.0\nnew: true\n"),
-    (
-        "docs/STATEMENTS.md",
-        "# Statements\n\n| File | What it says |\n|---|---|\n| names/Names | equal names |\n\n## Names\n\n\
-         | Document 01 | Definition | Promise | Proved | Wrong builds |\n|---|---|---|---|---|\n\
-         | Two names are equal | names/Names: `sameName`; names: `Name` | names: `same` | names/Unique: `same-once` | names: `one_byte` |\n\
-         | The hash unit's duty | assumed, above | | | |\n",
-    ),
-];
-
-/// The small tree, in a folder of its own, with one text replaced.
-struct Fixture(PathBuf);
-
-impl Fixture {
-    fn new(name: &str, file: &str, old: &str, new: &str) -> Fixture {
-        let root =
-            std::env::temp_dir().join(format!("slavotuk-inspect-{}-{name}", std::process::id()));
-        for (path, text) in FILES {
-            let path_there = root.join(path);
-            fs::create_dir_all(path_there.parent().expect("a folder")).expect("made");
-            assert!(path != file || text.contains(old), "{old} is in {file}");
-            let text = if path == file {
-                text.replacen(old, new, 1)
-            } else {
-                text.to_string()
-            };
-            fs::write(path_there, text).expect("written");
-        }
-        Fixture(root)
-    }
-
-    fn wrong(&self) -> Vec<String> {
-        let root: &Path = &self.0;
-        let tree = Tree::read(root).expect("a tree");
-        let map = Map::read(root).expect("a map");
-        check::check(root, &tree, &map)
-            .into_iter()
-            .flat_map(|verdict| verdict.wrong)
-            .collect()
-    }
-}
-
-impl Drop for Fixture {
-    fn drop(&mut self) {
-        let _left = fs::remove_dir_all(&self.0);
-    }
+fn wrong(fixture: &Fixture) -> Vec<String> {
+    let (tree, map) = fixture.read();
+    check::check(&fixture.0, &tree, &map)
+        .into_iter()
+        .flat_map(|verdict| verdict.wrong)
+        .collect()
 }
 
 /// Asks that a text replaced makes exactly these failures.
 fn fails(name: &str, file: &str, old: &str, new: &str, told: &[&str]) {
-    assert_eq!(Fixture::new(name, file, old, new).wrong(), told);
+    assert_eq!(wrong(&Fixture::new(name, file, old, new)), told);
 }
 
 const MAP: &str = "docs/STATEMENTS.md";
@@ -182,7 +125,7 @@ fn a_public_function_with_no_theorem_of_one_answer() {
 
 #[test]
 fn a_table_with_a_column_misspelt() {
-    let wrong = Fixture::new("columns", MAP, "Promise", "Promises").wrong();
+    let wrong = wrong(&Fixture::new("columns", MAP, "Promise", "Promises"));
     assert!(
         wrong.contains(
             &"docs/STATEMENTS.md:9: a table that has some of a sentence's columns and not all"

@@ -70,10 +70,11 @@ pub fn lines(book: &Book, shown: &Lines) -> String {
             .unwrap_or(shown.text.len() - contract);
     let scope = &book.scopes[shown.id.file];
     let bounds = bound(scope, &shown.text[contract..body]);
+    let margin = shown.text.first().map_or(0, |line| indent(line));
     let mut html = String::new();
     for (at, line) in shown.text.iter().enumerate() {
         let inside = if (contract..body).contains(&at) {
-            logic(book, scope, &bounds[at - contract], line)
+            logic(book, scope, &bounds[at - contract], line, margin)
         } else {
             code(book, scope, line)
         };
@@ -109,15 +110,18 @@ fn one(book: &Book, shown: &Lines, number: usize, line: &str, inside: &str) -> S
     )
 }
 
-fn logic(book: &Book, scope: &Scope, bound: &HashSet<String>, line: &str) -> String {
+fn logic(book: &Book, scope: &Scope, bound: &HashSet<String>, line: &str, margin: usize) -> String {
     let piece = |piece: Piece| match piece {
         Piece::Comment(text) => format!("<i class=\"c\">{}</i>", escaped(text)),
         Piece::Other(text) => escaped(text),
-        Piece::Field(text) => field(book, text, text.trim_start_matches('.')),
+        Piece::Field(text) | Piece::Label(text) => field(book, text, text.trim_start_matches('.')),
         Piece::Word(word) if bound.contains(word) => escaped(word),
         Piece::Word(word) => logic_word(book, scope, word),
     };
-    words::of_logic(line).into_iter().map(piece).collect()
+    words::of_logic(line, margin)
+        .into_iter()
+        .map(piece)
+        .collect()
 }
 
 fn logic_word(book: &Book, scope: &Scope, word: &str) -> String {
@@ -183,7 +187,7 @@ fn field(book: &Book, text: &str, name: &str) -> String {
 fn code(book: &Book, scope: &Scope, line: &str) -> String {
     let piece = |piece: Piece| match piece {
         Piece::Comment(text) => format!("<i class=\"c\">{}</i>", escaped(text)),
-        Piece::Other(text) | Piece::Field(text) => escaped(text),
+        Piece::Other(text) | Piece::Field(text) | Piece::Label(text) => escaped(text),
         Piece::Word(word) if KEYWORDS.contains(&word) => format!("<i class=\"k\">{word}</i>"),
         Piece::Word(word) => match scope.of_code(word) {
             Some(Meaning::Ours(id)) if book.graph.shown.contains(&id) => {

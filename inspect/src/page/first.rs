@@ -21,7 +21,9 @@ pub fn page(book: &Book) -> String {
 fn proved(book: &Book) -> String {
     let after_title = book.origin.readme.children.iter().skip(1);
     let section = after_title.take_while(|node| node.name != "heading");
-    let text: String = section.map(prose::block).collect();
+    let text: String = section
+        .map(|node| prose::block(&book.names, node))
+        .collect();
     let assumed = book
         .map
         .sections

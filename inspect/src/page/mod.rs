@@ -48,6 +48,8 @@ pub struct Book<'a> {
     pub glossary: HashMap<String, String>,
     /// the types and records that have a field of a name
     pub fields: BTreeMap<String, Vec<Id>>,
+    /// where a name leads that only one thing has
+    pub names: prose::Names,
     /// of each wrong build its hunks where they lie
     pub changes: Vec<Vec<Option<Change>>>,
 }
@@ -60,6 +62,7 @@ impl<'a> Book<'a> {
         let believed = Believed::of(tree, map, &scopes);
         let graph = Graph::of(tree, map, &believed, &scopes);
         let fields = fields(tree, &graph);
+        let names = names(tree, &graph);
         Book {
             tree,
             map,
@@ -70,6 +73,7 @@ impl<'a> Book<'a> {
             graph,
             glossary: glossary(map),
             fields,
+            names,
             changes: changes(tree),
         }
     }
@@ -178,6 +182,19 @@ fn fields(tree: &Tree, graph: &Graph) -> BTreeMap<String, Vec<Id>> {
         }
     }
     fields
+}
+
+fn names(tree: &Tree, graph: &Graph) -> prose::Names {
+    let mut places: HashMap<&str, Vec<Id>> = HashMap::new();
+    for id in &graph.shown {
+        places
+            .entry(&tree.declaration(*id).name)
+            .or_default()
+            .push(*id);
+    }
+    let only = places.into_iter().filter(|(_, ids)| ids.len() == 1);
+    only.map(|(name, ids)| (name.to_string(), html::anchor(tree, ids[0])))
+        .collect()
 }
 
 fn changes(tree: &Tree) -> Vec<Vec<Option<Change>>> {

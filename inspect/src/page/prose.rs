@@ -1,32 +1,41 @@
-//! The map's own prose, as the page has it.
+//! The map's own prose, as the page has it. A name in it leads to what it names, where that is one thing.
 
 use crate::page::html::escaped;
 use crate::xml::Node;
+use std::collections::HashMap;
 
-pub fn block(node: &Node) -> String {
-    let inside = || node.children.iter().map(block).collect::<String>();
+/// The anchors of names that only one thing has.
+pub type Names = HashMap<String, String>;
+
+pub fn block(names: &Names, node: &Node) -> String {
+    let inside = || {
+        node.children
+            .iter()
+            .map(|child| block(names, child))
+            .collect::<String>()
+    };
     match node.name.as_str() {
-        "paragraph" => format!("<p>{}</p>\n", inline(node)),
-        "heading" => format!("<h4>{}</h4>\n", inline(node)),
+        "paragraph" => format!("<p>{}</p>\n", inline(names, node)),
+        "heading" => format!("<h4>{}</h4>\n", inline(names, node)),
         "list" if node.attribute("type") == Some("ordered") => format!("<ol>{}</ol>\n", inside()),
         "list" => format!("<ul>{}</ul>\n", inside()),
-        "item" => format!("<li>{}</li>\n", tight(&node.children)),
+        "item" => format!("<li>{}</li>\n", tight(names, &node.children)),
         "code_block" => format!("<pre class=\"code\">{}</pre>\n", escaped(&node.text)),
         "block_quote" => format!("<blockquote>{}</blockquote>\n", inside()),
-        "table" => table(node),
-        _ => inline(node),
+        "table" => table(names, node),
+        _ => inline(names, node),
     }
 }
 
 /// An item of one paragraph has no paragraph's space around it.
-fn tight(children: &[Node]) -> String {
+fn tight(names: &Names, children: &[Node]) -> String {
     match children {
-        [only] if only.name == "paragraph" => inline(only),
-        _ => children.iter().map(block).collect(),
+        [only] if only.name == "paragraph" => inline(names, only),
+        _ => children.iter().map(|child| block(names, child)).collect(),
     }
 }
 
-fn table(node: &Node) -> String {
+fn table(names: &Names, node: &Node) -> String {
     let mut rows = String::new();
     for row in &node.children {
         let tag = if row.name == "table_header" {
@@ -37,25 +46,34 @@ fn table(node: &Node) -> String {
         let cells: String = row
             .children
             .iter()
-            .map(|cell| format!("<{tag}>{}</{tag}>", inline(cell)))
+            .map(|cell| format!("<{tag}>{}</{tag}>", inline(names, cell)))
             .collect();
         rows.push_str(&format!("<tr>{cells}</tr>\n"));
     }
     format!("<div class=\"wide\"><table>{rows}</table></div>\n")
 }
 
-pub fn inline(node: &Node) -> String {
-    node.children.iter().map(one).collect()
+pub fn inline(names: &Names, node: &Node) -> String {
+    node.children
+        .iter()
+        .map(|child| one(names, child))
+        .collect()
 }
 
-fn one(node: &Node) -> String {
+fn one(names: &Names, node: &Node) -> String {
     match node.name.as_str() {
         "text" => escaped(&node.text),
-        "code" => format!("<code>{}</code>", escaped(&node.text)),
-        "emph" => format!("<em>{}</em>", inline(node)),
-        "strong" => format!("<strong>{}</strong>", inline(node)),
+        "code" => match names.get(&node.text) {
+            Some(anchor) => format!(
+                "<code><a href=\"#{anchor}\">{}</a></code>",
+                escaped(&node.text)
+            ),
+            None => format!("<code>{}</code>", escaped(&node.text)),
+        },
+        "emph" => format!("<em>{}</em>", inline(names, node)),
+        "strong" => format!("<strong>{}</strong>", inline(names, node)),
         "softbreak" | "linebreak" => " ".to_string(),
         // a link of the repository leads nowhere from the page
-        _ => inline(node),
+        _ => inline(names, node),
     }
 }

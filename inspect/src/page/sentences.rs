@@ -44,7 +44,7 @@ fn one_section(book: &Book, at: usize, section: &Section, number: &mut usize) ->
     };
     for block in &section.blocks {
         match block {
-            Block::Prose(node) => html.push_str(&prose::block(node)),
+            Block::Prose(node) => html.push_str(&prose::block(&book.names, node)),
             Block::Sentences(whose, rows) => {
                 html.push_str(&format!("<p class=\"whose\">{}</p>\n", escaped(whose)));
                 for row in rows {
@@ -66,7 +66,7 @@ fn one_row(book: &Book, row: &Row, number: usize) -> String {
     format!(
         "<article class=\"row\" id=\"{anchor}\">\n<div class=\"sentence\"><a class=\"self\" href=\"#{anchor}\">{}</a> {}</div>\n{columns}</article>\n",
         number + 1,
-        prose::inline(&row.sentence)
+        prose::inline(&book.names, &row.sentence)
     )
 }
 
