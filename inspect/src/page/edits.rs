@@ -4,6 +4,9 @@ use crate::edit::Change;
 use crate::page::html::{anchor, edit_anchor, escaped, line_anchor};
 use crate::page::Book;
 
+/// How many letters of an error are shown.
+const MOST: usize = 600;
+
 pub fn caption(book: &Book, at: usize) -> String {
     let edit = &book.tree.edits[at];
     format!(
@@ -14,7 +17,8 @@ pub fn caption(book: &Book, at: usize) -> String {
     )
 }
 
-pub fn content(book: &Book, at: usize) -> String {
+/// With the checker's words in full, or the fact alone that was not shown.
+pub fn content(book: &Book, at: usize, full: bool) -> String {
     let edit = &book.tree.edits[at];
     let mut html = match edit.comment.as_str() {
         "" => String::new(),
@@ -28,7 +32,7 @@ pub fn content(book: &Book, at: usize) -> String {
             None => lines_of_difference(&hunk.old, &hunk.new),
         });
     }
-    html.push_str(&refusal(book, at));
+    html.push_str(&refusal(book, at, full));
     html
 }
 
@@ -105,7 +109,7 @@ fn common(before: &str, after: &str) -> (usize, usize) {
     )
 }
 
-fn refusal(book: &Book, at: usize) -> String {
+fn refusal(book: &Book, at: usize, full: bool) -> String {
     let edit = &book.tree.edits[at];
     let Some(run) = &book.run else {
         return String::new();
@@ -116,11 +120,22 @@ fn refusal(book: &Book, at: usize) -> String {
     else {
         return "<p class=\"refusal\">not in the last gate run</p>".to_string();
     };
-    let words = match refusal.words.as_str() {
+    // the first word of an error is the fact that is not shown
+    let words = refusal.words.as_str();
+    let words = if full {
+        words
+    } else {
+        words
+            .split(": ")
+            .next()
+            .unwrap_or_default()
+            .trim_matches('`')
+    };
+    let words = match words {
         "" => String::new(),
         words => format!(
             ": <code>{}</code>",
-            escaped(&words.chars().take(240).collect::<String>())
+            escaped(&words.chars().take(MOST).collect::<String>())
         ),
     };
     format!(

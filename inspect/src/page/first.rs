@@ -1,20 +1,27 @@
 //! The first page: what is proved, what is assumed, how much has to be believed, and what the last gate run proved.
 
 use crate::page::html::{escaped, number, several};
-use crate::page::{library, prose, Book};
+use crate::page::{library, prose, sentences, Book};
 use crate::run::Run;
 use crate::tree::Folder;
 
 pub fn page(book: &Book) -> String {
-    format!(
-        "<h1 id=\"top\">Slavotuk: the inspector's page</h1>\n<p class=\"origin\">Made from the sources of {}, {}. Every text of a definition, a contract, a \
-         statement or a wrong build on this page is taken from the sources by its name.</p>\n{}{}{}",
+    let origin = format!(
+        "<p class=\"origin\">Made from the sources of {}, {}. Every text of a definition, a contract, a statement or a wrong build on this page is taken \
+         from the sources by its name.</p>\n",
         escaped(&book.origin.commit),
-        escaped(&book.origin.date),
+        escaped(&book.origin.date)
+    );
+    let title = "<h1 id=\"top\">Slavotuk: the inspector's page</h1>\n".to_string();
+    [
+        title,
+        origin,
         proved(book),
+        run(book),
         believed(book),
-        run(book)
-    )
+        sentences::front(book),
+    ]
+    .concat()
 }
 
 /// README's first section.
@@ -24,18 +31,8 @@ fn proved(book: &Book) -> String {
     let text: String = section
         .map(|node| prose::block(&book.names, node))
         .collect();
-    let assumed = book
-        .map
-        .sections
-        .iter()
-        .position(|section| section.title == "What is assumed");
-    let assumed = assumed.map_or(String::new(), |at| {
-        format!(
-            "<p>What is assumed stands <a href=\"#section-{at}\">in a table of its own</a>.</p>\n"
-        )
-    });
     format!(
-        "<h2 id=\"proved\">What is proved, and what is assumed</h2>\n{text}{assumed}{}{}",
+        "<h2 id=\"proved\">What is proved</h2>\n{text}{}{}",
         counts(book),
         map(book)
     )
@@ -97,7 +94,7 @@ fn believed(book: &Book) -> String {
         })
         .sum();
     format!(
-        "<h2 id=\"believed\">What a reader has to believe</h2>\n<p><strong>{} lines</strong>: those that have a bar at their left in <a \
+        "<h2 id=\"believed\">How much has to be believed</h2>\n<p><strong>{} lines</strong>: those that have a bar at their left in <a \
          href=\"#library\">the listing below</a>, counted without comments and imports. Proofs are checked, and need not be read.</p>\n<details><summary>Crate by \
          crate</summary>{}</details>\n",
         number(lines),

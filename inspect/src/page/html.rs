@@ -31,14 +31,13 @@ pub fn anchor(tree: &Tree, id: Id) -> String {
     ))
 }
 
-pub fn line_anchor(tree: &Tree, file: usize, line: usize) -> String {
+pub fn file_anchor(tree: &Tree, file: usize) -> String {
     let file = &tree.files[file];
-    format!(
-        "{}.{}.{}:{line}",
-        file.crate_name,
-        file.folder.name(),
-        file.stem
-    )
+    format!("{}.{}.{}", file.crate_name, file.folder.name(), file.stem)
+}
+
+pub fn line_anchor(tree: &Tree, file: usize, line: usize) -> String {
+    format!("{}:{line}", file_anchor(tree, file))
 }
 
 pub fn crate_anchor(name: &str) -> String {

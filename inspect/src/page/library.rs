@@ -3,7 +3,7 @@
 use crate::believed::Part;
 use crate::page::code::{self, Lines};
 use crate::page::html::{
-    anchor, crate_anchor, edit_anchor, escaped, line_anchor, link, row_anchor,
+    anchor, crate_anchor, edit_anchor, escaped, file_anchor, line_anchor, link, row_anchor,
 };
 use crate::page::{edits, Book};
 use crate::source::Kind;
@@ -66,7 +66,12 @@ fn one_file(book: &Book, file: usize) -> String {
         .iter()
         .flat_map(|at| book.tree.declaration(Id { file, at: *at }).within.clone())
         .collect();
-    let mut html = format!("<h4>{}</h4>\n", escaped(&book.tree.files[file].path));
+    let mut html = format!(
+        "<h4 id=\"{}\">{}</h4>
+",
+        file_anchor(book.tree, file),
+        escaped(&book.tree.files[file].path)
+    );
     for id in ids {
         if shown.contains(&id.at) {
             html.push_str(&one_declaration(book, id));
@@ -276,7 +281,7 @@ fn wrong_builds(book: &Book, crate_name: &str) -> String {
             "<article class=\"d wrong\" id=\"{}\">\n<h5>{}</h5>{}{}</article>\n",
             edit_anchor(book.tree, at),
             book.tree.edits[at].name,
-            edits::content(book, at),
+            edits::content(book, at, true),
             labelled("Sentences", &rows)
         ));
     }

@@ -18,7 +18,7 @@ use crate::pictures;
 use crate::run::Run;
 use crate::scope::Scope;
 use crate::source::Kind;
-use crate::tree::{Folder, Id, Tree};
+use crate::tree::{File, Folder, Id, Tree};
 use crate::xml::Node;
 use std::collections::{BTreeMap, BTreeSet, HashMap};
 
@@ -184,6 +184,7 @@ fn fields(tree: &Tree, graph: &Graph) -> BTreeMap<String, Vec<Id>> {
     fields
 }
 
+/// Where prose may lead: names that only one thing has, but for plain words, which can mean something else; and the files.
 fn names(tree: &Tree, graph: &Graph) -> prose::Names {
     let mut places: HashMap<&str, Vec<Id>> = HashMap::new();
     for id in &graph.shown {
@@ -192,9 +193,28 @@ fn names(tree: &Tree, graph: &Graph) -> prose::Names {
             .or_default()
             .push(*id);
     }
-    let only = places.into_iter().filter(|(_, ids)| ids.len() == 1);
-    only.map(|(name, ids)| (name.to_string(), html::anchor(tree, ids[0])))
-        .collect()
+    let is_plain = |name: &str| name.chars().all(|c| c.is_ascii_lowercase());
+    let only = places
+        .into_iter()
+        .filter(|(name, ids)| ids.len() == 1 && !is_plain(name));
+    let mut names: prose::Names = only
+        .map(|(name, ids)| (name.to_string(), html::anchor(tree, ids[0])))
+        .collect();
+    let files: BTreeSet<usize> = graph.shown.iter().map(|id| id.file).collect();
+    for file in files {
+        let File {
+            crate_name,
+            stem,
+            folder,
+            ..
+        } = &tree.files[file];
+        let place = match folder {
+            Folder::Specs => format!("{crate_name}/{stem}"),
+            folder => format!("{crate_name}/{}/{stem}", folder.name()),
+        };
+        names.insert(place, html::file_anchor(tree, file));
+    }
+    names
 }
 
 fn changes(tree: &Tree) -> Vec<Vec<Option<Change>>> {
@@ -232,26 +252,28 @@ pub fn write(book: &Book) -> String {
 }
 
 fn navigation(book: &Book) -> String {
-    let sections: String = sentences::titles(book)
-        .iter()
-        .map(|(anchor, title)| format!("<li>{}</li>", html::link(anchor, title)))
-        .collect();
-    let crates: String = book
+    let items = |links: &[(String, String)]| {
+        links
+            .iter()
+            .map(|(anchor, title)| format!("<li>{}</li>", html::link(anchor, title)))
+            .collect::<String>()
+    };
+    let (front, sections) = sentences::titles(book);
+    let crates: Vec<(String, String)> = book
         .tree
         .crates
         .iter()
-        .map(|c| {
-            format!(
-                "<li>{}</li>",
-                html::link(&html::crate_anchor(&c.name), &c.name)
-            )
-        })
+        .map(|c| (html::crate_anchor(&c.name), c.name.clone()))
         .collect();
     format!(
         "<nav aria-label=\"Contents\">\n<p class=\"title\"><a href=\"#top\">Slavotuk</a></p>\n<div id=\"search\" role=\"search\"></div>\n\
-         <details open><summary>Contents</summary>\n<ul>\n<li><a href=\"#top\">What is proved</a></li><li><a href=\"#run\">The last gate run</a></li>\
-         <li><a href=\"#pictures\">Pictures</a></li>\n<li><a href=\"#sentences\">Sentences</a><ul>{sections}</ul></li>\n\
-         <li><a href=\"#library\">Definitions, code, wrong builds</a><ul class=\"crates\">{crates}</ul></li>\n<li><a href=\"#index\">Index of names</a></li>\n</ul></details>\n</nav>\n"
+         <details open><summary>Contents</summary>\n<ul>\n<li><a href=\"#proved\">What is proved</a></li><li><a href=\"#run\">The last gate run</a></li>\
+         <li><a href=\"#believed\">How much has to be believed</a></li>{}\n<li><a href=\"#pictures\">Pictures</a></li>\n\
+         <li><a href=\"#sentences\">Sentences</a><ul>{}</ul></li>\n<li><a href=\"#library\">Definitions, code, wrong builds</a>\
+         <ul class=\"crates\">{}</ul></li>\n<li><a href=\"#index\">Index of names</a></li>\n</ul></details>\n</nav>\n",
+        items(&front),
+        items(&sections),
+        items(&crates)
     )
 }
 

@@ -62,7 +62,7 @@ pub fn inline(names: &Names, node: &Node) -> String {
 
 fn one(names: &Names, node: &Node) -> String {
     match node.name.as_str() {
-        "text" => escaped(&node.text),
+        "text" => text(names, &node.text),
         "code" => match names.get(&node.text) {
             Some(anchor) => format!(
                 "<code><a href=\"#{anchor}\">{}</a></code>",
@@ -75,5 +75,49 @@ fn one(names: &Names, node: &Node) -> String {
         "softbreak" | "linebreak" => " ".to_string(),
         // a link of the repository leads nowhere from the page
         _ => inline(names, node),
+    }
+}
+
+/// A file that is named leads to what the page has of it.
+fn text(names: &Names, words: &str) -> String {
+    let word = |word: &str| {
+        let name = word.trim_end_matches([',', ';', ':', '.']);
+        match names.get(name).filter(|_| name.contains('/')) {
+            Some(anchor) => format!(
+                "<a href=\"#{anchor}\">{}</a>{}",
+                escaped(name),
+                &word[name.len()..]
+            ),
+            None => escaped(word),
+        }
+    };
+    words.split(' ').map(word).collect::<Vec<_>>().join(" ")
+}
+
+#[cfg(test)]
+mod tests {
+    use super::*;
+
+    #[test]
+    fn files_and_names_lead_to_what_they_name() {
+        let names: Names = [
+            ("calls/Run".to_string(), "a".to_string()),
+            ("holdsState".to_string(), "b".to_string()),
+        ]
+        .into();
+        assert_eq!(
+            text(&names, "in calls/Run, and"),
+            "in <a href=\"#a\">calls/Run</a>, and"
+        );
+        assert_eq!(text(&names, "holdsState < x"), "holdsState &lt; x");
+        let code = Node {
+            name: "code".to_string(),
+            text: "holdsState".to_string(),
+            ..Node::default()
+        };
+        assert_eq!(
+            one(&names, &code),
+            "<code><a href=\"#b\">holdsState</a></code>"
+        );
     }
 }

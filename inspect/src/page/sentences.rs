@@ -11,22 +11,73 @@ use std::collections::{BTreeSet, HashSet};
 /// A definition longer than this stands folded beside a sentence, where no part of it is the sentence's own.
 const LONG: usize = 14;
 
-pub fn titles(book: &Book) -> Vec<(String, String)> {
-    let sections = book.map.sections.iter().enumerate().skip(1);
-    sections
-        .filter(|(_, section)| section.level == 2)
-        .map(|(at, section)| (section_anchor(at), section.title.clone()))
-        .collect()
+/// How many of the map's sections stand before the first that has sentences: what has to be believed, the signs, what is assumed.
+fn front_matter(book: &Book) -> usize {
+    let has_sentences = |section: &Section| {
+        section
+            .blocks
+            .iter()
+            .any(|block| matches!(block, Block::Sentences(..)))
+    };
+    book.map
+        .sections
+        .iter()
+        .position(has_sentences)
+        .unwrap_or(0)
+}
+
+/// Anchors, each with a title.
+pub type Links = Vec<(String, String)>;
+
+/// The sections that have no sentences, and those that have.
+pub fn titles(book: &Book) -> (Links, Links) {
+    let front = front_matter(book);
+    let of_level = book
+        .map
+        .sections
+        .iter()
+        .enumerate()
+        .skip(1)
+        .filter(|(_, section)| section.level == 2);
+    let (first, rest): (Vec<_>, Vec<_>) = of_level.partition(|(at, _)| *at < front);
+    let titled = |sections: Vec<(usize, &Section)>| {
+        sections
+            .iter()
+            .map(|(at, section)| (section_anchor(*at), section.title.clone()))
+            .collect()
+    };
+    (titled(first), titled(rest))
 }
 
 fn section_anchor(at: usize) -> String {
     format!("section-{at}")
 }
 
+/// The map's sections before its sentences, but for its own title.
+pub fn front(book: &Book) -> String {
+    let sections = book
+        .map
+        .sections
+        .iter()
+        .enumerate()
+        .take(front_matter(book))
+        .skip(1);
+    sections
+        .map(|(at, section)| one_section(book, at, section, &mut 0))
+        .collect()
+}
+
 pub fn sections(book: &Book) -> String {
     let mut html = "<h2 id=\"sentences\">Sentences</h2>\n".to_string();
     let mut number = 0;
-    for (at, section) in book.map.sections.iter().enumerate() {
+    let rest = front_matter(book).max(1);
+    for (at, section) in book
+        .map
+        .sections
+        .iter()
+        .enumerate()
+        .filter(|(at, _)| *at == 0 || *at >= rest)
+    {
         html.push_str(&one_section(book, at, section, &mut number));
     }
     html
@@ -88,7 +139,7 @@ fn one_column(book: &Book, row: &Row, column: Column) -> String {
             match target {
                 Target::Edit(at) => inside.push_str(&figure(
                     &edits::caption(book, at),
-                    &edits::content(book, at),
+                    &edits::content(book, at, false),
                 )),
                 Target::Declaration(id) => {
                     let parts = parts(book, &citation, id);
