@@ -323,3 +323,85 @@ pub fn cited_by_body(scope: &Scope, id: Id) -> BTreeSet<Id> {
     found.remove(&id);
     found
 }
+
+#[cfg(test)]
+mod tests {
+    use super::*;
+    use crate::tree::tests::tree;
+
+    const NUMBERS: &str = "infix 25 _when_\nunfoldable pub _when_ : ℕ → Bool → ℕ\nn when b = cond b n done\n\nabbrev pub done : ℕ\ndone = 0\n";
+    const CALLS: &str = "use lib.Dec.{eqb}\nuse Rattle.claims.specs.Numbers as No\nuse Rattle.claims.specs.Numbers.{_when_}\n\
+        use Rattle.claims.specs.declared.Phase.{Phase}\nuse Rattle.claims.specs.declared.Phase.the-variants.{Closed}\n\n\
+        pub data Call : Type 0 where\n  Open : Phase → Call\n\nabbrev pub word : ℕ\nword = 1\n\n\
+        unfoldable pub number : Phase → Call → ℕ\nnumber word (Open s) = No.done when eqb word (λ s. word)\nnumber Closed call = word\n";
+    const CODE: &str = "ghost use Rattle.claims.specs.Numbers.{done};\n\npub enum Phase {\n    Closed,\n}\n\npub fn none() -> u8\n    \
+        ensures { λ r. ⌜ r ≡ done ⌝ }\n{\n    0\n}\n";
+
+    fn read() -> Tree {
+        tree(&[
+            ("claims", Folder::Specs, "Numbers", NUMBERS),
+            ("claims", Folder::Src, "lib", CODE),
+            ("calls", Folder::Specs, "Calls", CALLS),
+        ])
+    }
+
+    fn named(tree: &Tree, ids: BTreeSet<Id>) -> Vec<&str> {
+        ids.into_iter()
+            .map(|id| tree.declaration(id).name.as_str())
+            .collect()
+    }
+
+    #[test]
+    fn a_word_means_what_the_file_takes_or_declares() {
+        let tree = read();
+        let scope = Scope::of(&tree, 2);
+        let name = |word: &str| match scope.of_logic(word) {
+            Some(Meaning::Ours(id)) => tree.declaration(id).name.clone(),
+            Some(Meaning::Outside(module)) => module,
+            None => String::new(),
+        };
+        assert_eq!(name("when"), "_when_");
+        assert_eq!(name("No.done"), "done");
+        assert_eq!(name("Closed"), "Phase");
+        assert_eq!(name("Open"), "Call");
+        assert_eq!(name("eqb"), "lib.Dec");
+        assert_eq!(name("done"), "", "it is known here below its alias alone");
+    }
+
+    #[test]
+    fn what_a_clause_binds_is_not_cited_by_it_and_is_by_the_next() {
+        let tree = read();
+        let scope = Scope::of(&tree, 2);
+        let number = tree.coded("calls", "number");
+        assert_eq!(number, None, "it is no code");
+        let [id] = tree.named_in(2, "number")[..] else {
+            panic!("one")
+        };
+        let body = &tree.declaration(id).body;
+        assert_eq!(
+            named(&tree, cited_by_logic(&scope, &body[..1])),
+            ["_when_", "done", "Call", "number"]
+        );
+        assert_eq!(
+            named(&tree, cited_by_logic(&scope, &body[1..])),
+            ["Phase", "word", "number"]
+        );
+    }
+
+    #[test]
+    fn a_contract_cites_definitions_and_the_code_does_not() {
+        let tree = read();
+        let scope = Scope::of(&tree, 1);
+        let none = tree.coded("claims", "none").expect("it is there");
+        assert_eq!(
+            named(&tree, cited_by_contract(&scope, tree.declaration(none))),
+            ["done"]
+        );
+        assert!(cited_by_body(&scope, none).is_empty());
+        assert_eq!(
+            scope.of_code("Phase::Closed"),
+            tree.coded("claims", "Phase").map(Meaning::Ours)
+        );
+        assert_eq!(scope.of_code("done"), None);
+    }
+}

@@ -287,8 +287,37 @@ fn proof_lines(folder: &Path) -> io::Result<usize> {
 }
 
 #[cfg(test)]
-mod tests {
+pub mod tests {
     use super::*;
+
+    /// A tree of some files, each with its crate, its folder and its name.
+    pub fn tree(files: &[(&str, Folder, &str, &str)]) -> Tree {
+        let mut tree = Tree {
+            crates: Vec::new(),
+            files: Vec::new(),
+            edits: Vec::new(),
+        };
+        for (crate_name, folder, stem, text) in files {
+            if tree.crates.iter().all(|c| c.name != *crate_name) {
+                tree.crates.extend(crates(&format!("{crate_name}:\n")));
+            }
+            let content = if *folder == Folder::Src {
+                rattle::read(text)
+            } else {
+                antt::read(text)
+            };
+            let path = format!("crates/{crate_name}/{}/{stem}", folder.name());
+            tree.files.push(File {
+                crate_name: crate_name.to_string(),
+                folder: *folder,
+                stem: stem.to_string(),
+                path,
+                text: text.to_string(),
+                content,
+            });
+        }
+        tree
+    }
 
     #[test]
     fn crates_have_their_comment_and_what_they_rely_on() {

@@ -267,10 +267,10 @@ fn navigation(book: &Book) -> String {
         .collect();
     format!(
         "<nav aria-label=\"Contents\">\n<p class=\"title\"><a href=\"#top\">Slavotuk</a></p>\n<div id=\"search\" role=\"search\"></div>\n\
-         <details open><summary>Contents</summary>\n<ul>\n<li><a href=\"#proved\">What is proved</a></li><li><a href=\"#run\">The last gate run</a></li>\
+         <ul>\n<li><a href=\"#proved\">What is proved</a></li><li><a href=\"#run\">The last gate run</a></li>\
          <li><a href=\"#believed\">How much has to be believed</a></li>{}\n<li><a href=\"#pictures\">Pictures</a></li>\n\
          <li><a href=\"#sentences\">Sentences</a><ul>{}</ul></li>\n<li><a href=\"#library\">Definitions, code, wrong builds</a>\
-         <ul class=\"crates\">{}</ul></li>\n<li><a href=\"#index\">Index of names</a></li>\n</ul></details>\n</nav>\n",
+         <ul class=\"crates\">{}</ul></li>\n<li><a href=\"#index\">Index of names</a></li>\n</ul>\n</nav>\n",
         items(&front),
         items(&sections),
         items(&crates)
