@@ -2,12 +2,6 @@
 -- Assumes nothing.
 use mathlib.Core.Path.{sym, _∙_}
 use Rattle.lists.proofs.Once.{OneAnswer}
-use Rattle.calls_free.proofs.active_place.Kinds as active-place-kinds
-use Rattle.calls_free.proofs.active_place.Reads as active-place
-use Rattle.calls_free.proofs.named_place.Kinds as named-place-kinds
-use Rattle.calls_free.proofs.named_place.Reads as named-place
-use Rattle.calls_free.proofs.has_named.Kinds as has-named-kinds
-use Rattle.calls_free.proofs.has_named.Reads as has-named
 use Rattle.calls_free.proofs.open_number.Kinds as open-number-kinds
 use Rattle.calls_free.proofs.open_number.Reads as open-number
 use Rattle.calls_free.proofs.close_number.Kinds as close-number-kinds
@@ -22,15 +16,6 @@ use Rattle.calls_free.proofs.elevate_number.Kinds as elevate-number-kin
 use Rattle.calls_free.proofs.elevate_number.Reads as elevate-number
 use Rattle.calls_free.proofs.drop_number.Kinds as drop-number-kinds
 use Rattle.calls_free.proofs.drop_number.Reads as drop-number
-
-pub active-place-once : OneAnswer 0 active-place-kinds.ps active-place-kinds.r active-place.Post
-active-place-once κs a x y s t p q = p ∙ sym q
-
-pub named-place-once : OneAnswer 0 named-place-kinds.ps named-place-kinds.r named-place.Post
-named-place-once κs a x y s t p q = p ∙ sym q
-
-pub has-named-once : OneAnswer 0 has-named-kinds.ps has-named-kinds.r has-named.Post
-has-named-once κs a x y s t p q = p ∙ sym q
 
 pub open-number-once : OneAnswer 0 open-number-kinds.ps open-number-kinds.r open-number.Post
 open-number-once κs a x y s t p q = p ∙ sym q

@@ -2,10 +2,10 @@
 ghost use mathlib.Core.Path.{_≡_};
 ghost use Rattle.claims.specs.Numbers.{_when_, _unless_, _▸_};
 ghost use Rattle.claims.specs.Numbers as No;
-ghost use Rattle.claims.specs.Module.{isCredential, provisioned, hasActive, activePlace};
+ghost use Rattle.claims.specs.Module.{isCredential, provisioned};
 ghost use Rattle.claims.specs.Claim.{entered};
 ghost use Rattle.table.specs.declared.Among.the-variants.{All};
-ghost use Rattle.calls.specs.Calls.{Open, Close, Select, Start, Continue, Elevate, Drop, isVersion, isFull, hasNamed, namedPlace, number};
+ghost use Rattle.calls.specs.Calls.{Open, Close, Select, Start, Continue, Elevate, Drop, isVersion, isFull, hasNamed, number};
 use claims::ALREADY_ACTIVE;
 use claims::ARGUMENT;
 use claims::CREDENTIAL;
@@ -22,51 +22,6 @@ use names::Name;
 use names::Session;
 use table::Active;
 use table::Among;
-use table::Found;
-use table::PLACES;
-
-// ---- what the tests ask of the table
-
-pub fn active_place(st: State, which: Active) -> usize
-    ensures { λ r. ⌜ r ≡ activePlace st which ⌝ }
-{
-    let t = st.table;
-    table::found_place(table_search::find_active(t, which), table::size(t))
-}
-
-fn has_active(st: State, which: Active) -> bool
-    ensures { λ r. ⌜ r ≡ hasActive st which ⌝ }
-{
-    let t = st.table;
-    match table_search::find_active(t, which) {
-        Found::At(_) => true,
-        Found::Nothing => false,
-    }
-}
-
-pub fn named_place(st: State, name: Name, among: Among) -> usize
-    ensures { λ r. ⌜ r ≡ namedPlace st name among ⌝ }
-{
-    let t = st.table;
-    table::found_place(table_search::find_named(t, name, among), table::size(t))
-}
-
-pub fn has_named(st: State, name: Name, among: Among) -> bool
-    ensures { λ r. ⌜ r ≡ hasNamed st name among ⌝ }
-{
-    let t = st.table;
-    match table_search::find_named(t, name, among) {
-        Found::At(_) => true,
-        Found::Nothing => false,
-    }
-}
-
-fn is_full(st: State) -> bool
-    ensures { λ r. ⌜ r ≡ isFull st ⌝ }
-{
-    let t = st.table;
-    PLACES <= table::size(t)
-}
 
 // ---- open, close, select
 
@@ -138,10 +93,10 @@ fn known_number(st: State, s: Session, c: Credential) -> u8
 fn new_number(st: State, name: Name) -> u8
     ensures { λ r. ⌜ r ≡ No.nameTaken when hasNamed st name All ▸ No.full when isFull st ⌝ }
 {
-    if has_named(st, name, Among::All) {
+    if calls_table::has_named(st, name, Among::All) {
         return NAME_TAKEN;
     }
-    if is_full(st) {
+    if calls_table::is_full(st) {
         return FULL;
     }
     DONE
@@ -154,7 +109,7 @@ pub fn start_number(st: State, s: Session, c: Credential, name: Name) -> u8
     if known != DONE {
         return known;
     }
-    if has_active(st, Active::UserOf(s, c)) {
+    if calls_table::has_active(st, Active::UserOf(s, c)) {
         return ALREADY_ACTIVE;
     }
     new_number(st, name)
@@ -167,10 +122,10 @@ pub fn continue_number(st: State, s: Session, c: Credential, name: Name) -> u8
     if known != DONE {
         return known;
     }
-    if !has_named(st, name, Among::SavedOf(c)) {
+    if !calls_table::has_named(st, name, Among::SavedOf(c)) {
         return NO_PROCESS;
     }
-    if has_active(st, Active::UserOf(s, c)) {
+    if calls_table::has_active(st, Active::UserOf(s, c)) {
         return ALREADY_ACTIVE;
     }
     DONE
@@ -186,7 +141,7 @@ pub fn elevate_number(st: State, s: Session, c: Credential, name: Name, verdict:
     if !verdict {
         return VERDICT;
     }
-    if has_active(st, Active::ElevationIn(s)) {
+    if calls_table::has_active(st, Active::ElevationIn(s)) {
         return ALREADY_ACTIVE;
     }
     new_number(st, name)
@@ -199,7 +154,7 @@ pub fn drop_number(st: State, s: Session) -> u8
     if entry != DONE {
         return entry;
     }
-    if !has_active(st, Active::ElevationIn(s)) {
+    if !calls_table::has_active(st, Active::ElevationIn(s)) {
         return NO_PROCESS;
     }
     DONE

@@ -156,7 +156,7 @@ pub fn kill_number(st: State, by: Admission, name: Name) -> u8
         return by.number;
     }
     let among = reach(by);
-    if !calls_free::has_named(st, name, among) {
+    if !calls_table::has_named(st, name, among) {
         return NO_PROCESS; // to a stranger's name too, so that nobody learns that it exists
     }
     DONE

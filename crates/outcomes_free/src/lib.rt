@@ -70,7 +70,7 @@ pub fn continue_saved(st: State, s: Session, c: Credential, name: Name) -> Outco
         return effects::refused(st, n);
     }
     let t = st.table;
-    let at = calls_free::named_place(st, name, Among::SavedOf(c));
+    let at = calls_table::named_place(st, name, Among::SavedOf(c));
     let p = table::process_at(t, at);
     effects::accepted(effects::with_table(
         st,
@@ -100,6 +100,6 @@ pub fn drop_elevation(st: State, s: Session) -> Outcome
         return effects::refused(st, n);
     }
     let t = st.table;
-    let at = calls_free::active_place(st, Active::ElevationIn(s));
+    let at = calls_table::active_place(st, Active::ElevationIn(s));
     effects::accepted(effects::with_table(st, table_removal::removed(t, at)))
 }

@@ -96,7 +96,7 @@ pub fn kill(st: State, s: Session, claim: Claim, name: Name) -> Outcome
     if n != DONE {
         return effects::refused_claim(st, n, claim);
     }
-    let at = calls_free::named_place(st, name, calls_protected::reach(by));
+    let at = calls_table::named_place(st, name, calls_protected::reach(by));
     let next = counted(st, s, claim, by);
     let t = next.table;
     effects::accepted(effects::with_table(next, table_removal::removed(t, at)))

@@ -1,6 +1,6 @@
 use Rattle.calls.proofs.Rules.{rules}
-use Rattle.calls_free.proofs.has_named.Statement.{statement}
-use Rattle.calls_free.proofs.has_named.Tie as tie
+use Rattle.calls_table.proofs.has_named.Statement.{statement}
+use Rattle.calls_table.proofs.has_named.Tie as tie
 
 find-named-requires : tie.Need-find-named-requires
 find-named-requires c κs = search rules

@@ -1,6 +1,6 @@
 use Rattle.calls.proofs.Rules.{rules}
-use Rattle.calls_free.proofs.active_place.Statement.{statement}
-use Rattle.calls_free.proofs.active_place.Tie as tie
+use Rattle.calls_table.proofs.active_place.Statement.{statement}
+use Rattle.calls_table.proofs.active_place.Tie as tie
 
 find-active-requires : tie.Need-find-active-requires
 find-active-requires c κs = search rules

@@ -1,6 +1,6 @@
 use Rattle.calls.proofs.Rules.{rules}
-use Rattle.calls_free.proofs.is_full.Statement.{statement}
-use Rattle.calls_free.proofs.is_full.Tie as tie
+use Rattle.calls_table.proofs.is_full.Statement.{statement}
+use Rattle.calls_table.proofs.is_full.Tie as tie
 
 size-requires : tie.Need-size-requires
 size-requires c κs = search rules
