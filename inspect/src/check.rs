@@ -165,7 +165,7 @@ fn edits_fit(root: &Path, tree: &Tree) -> Verdict {
 }
 
 /// The definitions that the contracts of public functions cite.
-pub fn contract_definitions(tree: &Tree) -> BTreeMap<Id, BTreeSet<Id>> {
+fn contract_definitions(tree: &Tree) -> BTreeMap<Id, BTreeSet<Id>> {
     let mut cited: BTreeMap<Id, BTreeSet<Id>> = BTreeMap::new();
     let files: BTreeSet<usize> = tree.public_functions().map(|id| id.file).collect();
     for file in files {

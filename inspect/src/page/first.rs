@@ -1,7 +1,8 @@
 //! The first page: what is proved, what is assumed, how much has to be believed, and what the last gate run proved.
 
-use crate::page::html::{escaped, number, several};
-use crate::page::{library, prose, sentences, Book};
+use crate::believed::Part;
+use crate::page::html::{crate_anchor, escaped, link, number, several};
+use crate::page::{prose, sentences, Book};
 use crate::run::Run;
 use crate::tree::Folder;
 
@@ -98,8 +99,38 @@ fn believed(book: &Book) -> String {
          href=\"#library\">the listing below</a>, counted without comments and imports. Proofs are checked, and need not be read.</p>\n<details><summary>Crate by \
          crate</summary>{}</details>\n",
         number(lines),
-        library::believed(book)
+        believed_table(book)
     )
+}
+
+/// The lines to be believed, crate by crate.
+fn believed_table(book: &Book) -> String {
+    let mut rows = String::new();
+    let mut all = [0; 3];
+    for of in &book.tree.crates {
+        let lines = book.believed.lines(book.tree, &of.name);
+        if lines.iter().sum::<usize>() > 0 {
+            rows.push_str(&believed_row(
+                &link(&crate_anchor(&of.name), &of.name),
+                lines,
+            ));
+        }
+        (0..3).for_each(|part| all[part] += lines[part]);
+    }
+    let titles: String = Part::ALL
+        .iter()
+        .map(|part| format!("<th>{}</th>", part.title()))
+        .collect();
+    format!("<div class=\"wide\"><table class=\"numbers\"><tr><th>crate</th>{titles}<th>lines</th></tr>\n{rows}{}</table></div>\n", believed_row("all", all))
+}
+
+fn believed_row(name: &str, lines: [usize; 3]) -> String {
+    let cells: String = lines
+        .iter()
+        .chain([&lines.iter().sum()])
+        .map(|n| format!("<td>{}</td>", number(*n)))
+        .collect();
+    format!("<tr><td>{name}</td>{cells}</tr>\n")
 }
 
 fn run(book: &Book) -> String {

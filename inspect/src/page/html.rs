@@ -59,15 +59,6 @@ pub fn link(anchor: &str, text: &str) -> String {
     format!("<a href=\"#{anchor}\">{}</a>", escaped(text))
 }
 
-/// Of a crate, a list of items, the last two joined by "and".
-pub fn listed(items: &[String]) -> String {
-    match items {
-        [] => String::new(),
-        [one] => one.clone(),
-        [first @ .., last] => format!("{} and {last}", first.join(", ")),
-    }
-}
-
 /// A number with commas between thousands.
 pub fn number(n: usize) -> String {
     let digits = n.to_string();
@@ -91,14 +82,10 @@ mod tests {
     use super::*;
 
     #[test]
-    fn numbers_and_lists_read_well() {
+    fn numbers_read_well() {
         assert_eq!(number(1793), "1,793");
         assert_eq!(number(616), "616");
         assert_eq!(several(1, "crate", "crates"), "1 crate");
-        assert_eq!(
-            listed(&["a".to_string(), "b".to_string(), "c".to_string()]),
-            "a, b and c"
-        );
     }
 
     #[test]

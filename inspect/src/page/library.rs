@@ -1,6 +1,5 @@
 //! Every definition, every function with its code, the statements and the wrong builds, crate by crate; each says who cites it.
 
-use crate::believed::Part;
 use crate::page::code::{self, Lines};
 use crate::page::html::{
     anchor, crate_anchor, edit_anchor, escaped, file_anchor, line_anchor, link, row_anchor,
@@ -289,34 +288,4 @@ fn wrong_builds(book: &Book, crate_name: &str) -> String {
         "" => html,
         articles => format!("<div class=\"builds\"><h4>crates/{crate_name}/must-fail: wrong builds</h4>\n{articles}</div>\n"),
     }
-}
-
-/// The lines to be believed, crate by crate.
-pub fn believed(book: &Book) -> String {
-    let mut rows = String::new();
-    let mut all = [0; 3];
-    for of in &book.tree.crates {
-        let lines = book.believed.lines(book.tree, &of.name);
-        if lines.iter().sum::<usize>() > 0 {
-            rows.push_str(&believed_row(
-                &link(&crate_anchor(&of.name), &of.name),
-                lines,
-            ));
-        }
-        (0..3).for_each(|part| all[part] += lines[part]);
-    }
-    let titles: String = Part::ALL
-        .iter()
-        .map(|part| format!("<th>{}</th>", part.title()))
-        .collect();
-    format!("<div class=\"wide\"><table class=\"numbers\"><tr><th>crate</th>{titles}<th>lines</th></tr>\n{rows}{}</table></div>\n", believed_row("all", all))
-}
-
-fn believed_row(name: &str, lines: [usize; 3]) -> String {
-    let cells: String = lines
-        .iter()
-        .chain([&lines.iter().sum()])
-        .map(|n| format!("<td>{}</td>", crate::page::html::number(*n)))
-        .collect();
-    format!("<tr><td>{name}</td>{cells}</tr>\n")
 }

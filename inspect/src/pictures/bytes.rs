@@ -3,8 +3,7 @@
 use crate::page::html::{anchor, link};
 use crate::page::Book;
 use crate::pictures::expression::{clause, meant, value, Expression};
-use crate::pictures::layout::widths;
-use crate::pictures::svg;
+use crate::pictures::strip::{self, Cell};
 use crate::tree::{Folder, Id};
 use Expression::{Applied, Operator, Word};
 
@@ -30,9 +29,8 @@ impl Span {
     /// What stands below its name.
     fn remark(&self, book: &Book) -> String {
         match (self.long, self.value, self.repeats) {
-            (Some(1), Some(value), _) => format!("1 byte, {value:#04x}"),
-            (Some(1), None, _) => "1 byte".to_string(),
-            (Some(n), _, _) => format!("{n} bytes"),
+            (Some(n), Some(value), _) => format!("{}, {value:#04x}", strip::bytes(n)),
+            (Some(n), None, _) => strip::bytes(n),
             (None, _, Some(each)) => format!("each {}", book.tree.declaration(each).name),
             (None, _, None) => String::new(),
         }
@@ -41,8 +39,6 @@ impl Span {
 
 /// A picture of fewer spans than this would show nothing.
 const FEWEST: usize = 3;
-const WIDE: f64 = 860.0;
-const HIGH: f64 = 44.0;
 
 pub fn section(book: &Book) -> String {
     let definitions = book
@@ -173,39 +169,18 @@ fn array_in(book: &Book, id: Id, field: &str) -> Option<usize> {
 }
 
 fn draw(book: &Book, id: Id, spans: &[Span]) -> String {
-    let wide = widths(
-        &spans
-            .iter()
-            .map(|span| span.long.unwrap_or(60))
-            .collect::<Vec<_>>(),
-    );
-    let mut inside = String::new();
-    let mut x = 1.0;
-    let mut at = Some(0);
-    for (span, width) in spans.iter().zip(wide) {
-        let bytes = span.remark(book);
-        let middle = x + width / 2.0;
-        let drawn = svg::rect(x, 16.0, width, HIGH, "box")
-            + &svg::text(middle, 35.0, "name", &span.name)
-            + &svg::text(middle, 51.0, "small", &bytes);
-        inside.push_str(&match span.repeats {
-            Some(each) => svg::link(&anchor(book.tree, each), &drawn),
-            None => drawn,
-        });
-        if let Some(at) = at {
-            inside.push_str(&svg::text(x + 2.0, 11.0, "small start", &at.to_string()));
-        }
-        at = at.and_then(|at| Some(at + span.long?));
-        x += width;
-    }
-    if let Some(at) = at {
-        inside.push_str(&svg::text(x, 11.0, "small end", &at.to_string()));
-    }
+    let cell = |span: &Span| Cell {
+        name: span.name.clone(),
+        remark: span.remark(book),
+        long: span.long,
+        anchor: span.repeats.map(|each| anchor(book.tree, each)),
+    };
+    let cells: Vec<Cell> = spans.iter().map(cell).collect();
     let name = &book.tree.declaration(id).name;
-    let picture = svg::picture(WIDE, HIGH + 20.0, &format!("The bytes of {name}"), &inside);
     format!(
-        "<p>{} <span class=\"place\">{}</span></p>\n{picture}",
+        "<p>{} <span class=\"place\">{}</span></p>\n{}",
         link(&anchor(book.tree, id), name),
-        book.tree.file(id).place()
+        book.tree.file(id).place(),
+        strip::draw(&format!("The bytes of {name}"), &cells)
     )
 }

@@ -3,7 +3,7 @@
 use crate::page::html::{anchor, link};
 use crate::page::Book;
 use crate::pictures::expression::{clause, value, Expression};
-use crate::pictures::svg;
+use crate::pictures::strip::{self, Cell};
 use crate::source::Declaration;
 use crate::tree::{Folder, Id};
 use std::collections::BTreeMap;
@@ -12,7 +12,6 @@ use std::collections::BTreeMap;
 struct Field {
     id: Id,
     name: String,
-    at: usize,
     long: usize,
     parts: Option<(usize, String)>,
 }
@@ -24,9 +23,6 @@ struct Layout {
     long: usize,
     fields: Vec<Field>,
 }
-
-const WIDE: f64 = 860.0;
-const HIGH: f64 = 44.0;
 
 pub fn section(book: &Book) -> String {
     let layouts = layouts(book);
@@ -150,57 +146,21 @@ fn field(book: &Book, id: Id, next: Id) -> Option<Field> {
     Some(Field {
         id,
         name,
-        at,
-        long: number(book, next)? - at,
+        long: number(book, next)?.checked_sub(at)?,
         parts,
     })
 }
 
 fn draw(book: &Book, layout: &Layout) -> String {
-    let wide = widths(
-        &layout
-            .fields
-            .iter()
-            .map(|field| field.long)
-            .collect::<Vec<_>>(),
-    );
-    let mut inside = String::new();
-    let mut x = 1.0;
-    for (field, width) in layout.fields.iter().zip(wide) {
-        let bytes = match &field.parts {
+    let cell = |field: &Field| Cell {
+        name: field.name.clone(),
+        remark: match &field.parts {
             Some((count, _)) => format!("{count} × {}", field.long / count.max(&1)),
-            None if field.long == 1 => "1 byte".to_string(),
-            None => format!("{} bytes", field.long),
-        };
-        let middle = x + width / 2.0;
-        let drawn = svg::rect(x, 16.0, width, HIGH, "box")
-            + &svg::text(middle, 35.0, "name", &field.name)
-            + &svg::text(middle, 51.0, "small", &bytes);
-        inside.push_str(&svg::link(&anchor(book.tree, field.id), &drawn));
-        inside.push_str(&svg::text(
-            x + 2.0,
-            11.0,
-            "small start",
-            &field.at.to_string(),
-        ));
-        x += width;
-    }
-    inside.push_str(&svg::text(x, 11.0, "small end", &layout.long.to_string()));
-    svg::picture(
-        WIDE,
-        HIGH + 20.0,
-        &format!("The bytes of {}", layout.size_name),
-        &inside,
-    )
-}
-
-/// Widths that fill the picture: in proportion, as far as words fit into each.
-pub fn widths(longs: &[usize]) -> Vec<f64> {
-    let least = (WIDE / (longs.len().max(1) as f64 + 1.0)).min(108.0);
-    let spare = WIDE - 2.0 - least * longs.len() as f64;
-    let all: usize = longs.iter().sum::<usize>().max(1);
-    longs
-        .iter()
-        .map(|long| least + spare * *long as f64 / all as f64)
-        .collect()
+            None => strip::bytes(field.long),
+        },
+        long: Some(field.long),
+        anchor: Some(anchor(book.tree, field.id)),
+    };
+    let cells: Vec<Cell> = layout.fields.iter().map(cell).collect();
+    strip::draw(&format!("The bytes of {}", layout.size_name), &cells)
 }

@@ -4,6 +4,7 @@ mod bytes;
 mod expression;
 mod layers;
 mod layout;
+mod strip;
 mod svg;
 
 use crate::page::Book;
