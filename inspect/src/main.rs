@@ -64,12 +64,12 @@ fn written(file: &Path) -> io::Result<bool> {
     Ok(true)
 }
 
-/// What a command says in a line; nothing where it cannot be asked.
+/// What a command says in a line.
 fn said(command: &str, words: &[&str]) -> String {
-    let output = Command::new(command)
-        .args(words)
-        .output()
-        .map(|output| output.stdout)
-        .unwrap_or_default();
-    String::from_utf8_lossy(&output).trim().to_string()
+    let output = Command::new(command).args(words).output();
+    let text = output.map(|output| output.stdout).unwrap_or_default();
+    match String::from_utf8_lossy(&text).trim() {
+        "" => "unknown".to_string(),
+        line => line.to_string(),
+    }
 }

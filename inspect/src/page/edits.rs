@@ -1,7 +1,7 @@
 //! A wrong build: its comment, its lines before and after, and where it was refused.
 
 use crate::edit::Change;
-use crate::page::html::{anchor, edit_anchor, escaped, line_anchor};
+use crate::page::html::{anchor, edit_anchor, escaped, line_anchor, shortened};
 use crate::page::Book;
 
 /// How many letters of an error are shown.
@@ -133,10 +133,7 @@ fn refusal(book: &Book, at: usize, full: bool) -> String {
     };
     let words = match words {
         "" => String::new(),
-        words => format!(
-            ": <code>{}</code>",
-            escaped(&words.chars().take(MOST).collect::<String>())
-        ),
+        words => format!(": <code>{}</code>", escaped(&shortened(words, MOST))),
     };
     format!(
         "<p class=\"refusal\">refused at {}{words}</p>",

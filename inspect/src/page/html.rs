@@ -59,6 +59,14 @@ pub fn link(anchor: &str, text: &str) -> String {
     format!("<a href=\"#{anchor}\">{}</a>", escaped(text))
 }
 
+/// The first letters of a text, and a sign where there are more.
+pub fn shortened(text: &str, most: usize) -> String {
+    match text.char_indices().nth(most) {
+        Some((end, _)) => format!("{} …", text[..end].trim_end()),
+        None => text.to_string(),
+    }
+}
+
 /// A number with commas between thousands.
 pub fn number(n: usize) -> String {
     let digits = n.to_string();
@@ -86,6 +94,12 @@ mod tests {
         assert_eq!(number(1793), "1,793");
         assert_eq!(number(616), "616");
         assert_eq!(several(1, "crate", "crates"), "1 crate");
+    }
+
+    #[test]
+    fn a_long_text_is_cut_between_letters() {
+        assert_eq!(shortened("≡≢≡", 3), "≡≢≡");
+        assert_eq!(shortened("a ≢ b", 2), "a …");
     }
 
     #[test]

@@ -80,28 +80,23 @@ impl<'a> Book<'a> {
 
     /// What a declaration is, in a few words.
     pub fn described(&self, id: Id) -> String {
-        let declaration = self.tree.declaration(id);
-        let comment = declaration.comment.join(" ");
-        let place = self.tree.file(id).place();
-        if comment.is_empty() {
-            format!("{}, {place}", kind_word(self.tree, id))
-        } else {
-            format!("{}, {place}: {comment}", kind_word(self.tree, id))
+        let what = format!(
+            "{}, {}",
+            kind_word(self.tree, id),
+            self.tree.file(id).place()
+        );
+        match self.tree.declaration(id).comment.join(" ") {
+            comment if comment.is_empty() => what,
+            comment => format!("{what}: {}", html::shortened(&comment, 90)),
         }
     }
 
     /// The first words of a row's sentence.
     pub fn sentence(&self, number: usize) -> String {
-        let words = self
-            .map
-            .rows()
-            .nth(number)
-            .map(|row| row.sentence.plain())
-            .unwrap_or_default();
-        match words.char_indices().nth(60) {
-            Some((end, _)) => format!("{} …", words[..end].trim_end()),
-            None => words,
-        }
+        let row = self.map.rows().nth(number);
+        row.map_or(String::new(), |row| {
+            html::shortened(&row.sentence.plain(), 60)
+        })
     }
 }
 
@@ -278,8 +273,20 @@ fn navigation(book: &Book) -> String {
 }
 
 #[cfg(test)]
-mod tests {
+pub mod tests {
     use super::*;
+
+    /// The book of a tree with no map.
+    pub fn with_book<T>(tree: &Tree, look: impl Fn(&Book) -> T) -> T {
+        let map = Map::of(Node::default());
+        let origin = Origin {
+            commit: String::new(),
+            date: String::new(),
+            readme: Node::default(),
+            verdicts: Vec::new(),
+        };
+        look(&Book::new(tree, &map, None, origin))
+    }
 
     #[test]
     fn each_sign_has_its_own_meaning_where_there_are_as_many() {

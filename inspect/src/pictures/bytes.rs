@@ -184,3 +184,63 @@ fn draw(book: &Book, id: Id, spans: &[Span]) -> String {
         strip::draw(&format!("The bytes of {name}"), &cells)
     )
 }
+
+#[cfg(test)]
+mod tests {
+    use super::*;
+    use crate::page::tests::with_book;
+    use crate::tree::tests::tree;
+
+    const CODE: &str =
+        "pub const LONG: usize = 48;\n\npub struct Name {\n    pub bytes: [u8; LONG],\n}\n";
+    const WIRE: &str = "abbrev pub code : ℕ\ncode = 0x8e\n\nunfoldable pub head : ℕ → ℕ → List ℕ\nhead first n = first ∷ 0 ∷ bytesOf 2 n\n\n\
+        unfoldable pub row : Row → List ℕ\nrow r = bytesOf 2 (r .credential .0) ++ (kindNumber (r .kind) ∷ r .name .bytes)\n\n\
+        unfoldable pub message : List Row → List ℕ\nmessage rows = head code (length rows) ++ join (map row rows)\n";
+
+    fn told(name: &str) -> Vec<(String, String)> {
+        let tree = tree(&[
+            ("names", Folder::Src, "lib", CODE),
+            ("wire", Folder::Specs, "Wire", WIRE),
+        ]);
+        let [id] = tree.named_in(1, name)[..] else {
+            panic!("one")
+        };
+        with_book(&tree, |book| {
+            spans(book, id)
+                .expect("bytes")
+                .iter()
+                .map(|span| (span.name.clone(), span.remark(book)))
+                .collect()
+        })
+    }
+
+    fn pairs(texts: &[(&str, &str)]) -> Vec<(String, String)> {
+        texts
+            .iter()
+            .map(|(name, remark)| (name.to_string(), remark.to_string()))
+            .collect()
+    }
+
+    #[test]
+    fn a_row_is_taken_apart() {
+        assert_eq!(
+            told("row"),
+            pairs(&[
+                ("credential", "2 bytes"),
+                ("kind", "1 byte"),
+                ("name", "48 bytes")
+            ])
+        );
+    }
+
+    #[test]
+    fn a_definition_in_another_is_unfolded() {
+        let message = [
+            ("code", "1 byte, 0x8e"),
+            ("0", "1 byte, 0x00"),
+            ("length rows", "2 bytes"),
+            ("rows", "each row"),
+        ];
+        assert_eq!(told("message"), pairs(&message));
+    }
+}

@@ -164,3 +164,33 @@ fn draw(book: &Book, layout: &Layout) -> String {
     let cells: Vec<Cell> = layout.fields.iter().map(cell).collect();
     strip::draw(&format!("The bytes of {}", layout.size_name), &cells)
 }
+
+#[cfg(test)]
+mod tests {
+    use super::*;
+    use crate::page::tests::with_book;
+    use crate::tree::tests::tree;
+
+    const LAYOUT: &str = "-- ---- of a pair\nabbrev pub flagAt : ℕ\nflagAt = 0\n\nabbrev pub wordAt : ℕ\nwordAt = flagAt + 1\n\nabbrev pub pairSize : ℕ\n\
+        pairSize = wordAt + 4\n\n-- ---- and of the whole\nabbrev pub pairsAt : ℕ\npairsAt = 0\n\nabbrev pub restAt : ℕ\nrestAt = pairsAt + many * pairSize\n\n\
+        abbrev pub wholeLength : ℕ\nwholeLength = restAt + 2\n\n-- ---- another number\nabbrev pub many : ℕ\nmany = 8\n";
+
+    #[test]
+    fn the_whole_is_drawn_before_its_parts() {
+        let tree = tree(&[("layout", Folder::Specs, "Layout", LAYOUT)]);
+        let drawn = with_book(&tree, section);
+        let [whole, part] = ["wholeLength</a>: 42 bytes", "pairSize</a>: 5 bytes"]
+            .map(|text| drawn.find(text).expect(text));
+        assert!(whole < part);
+        for text in [
+            "8 × 5", "2 bytes", "4 bytes", ">pairs<", ">rest<", ">flag<", ">word<",
+        ] {
+            assert!(drawn.contains(text), "{text} in {drawn}");
+        }
+    }
+
+    #[test]
+    fn where_there_is_no_layout_it_says_so() {
+        assert!(with_book(&tree(&[]), section).contains("No file of definitions"));
+    }
+}
