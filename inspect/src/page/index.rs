@@ -10,18 +10,28 @@ struct Entry {
     what: String,
 }
 
+/// Names in the order of the alphabet, each with all that it names.
+type Names = BTreeMap<(String, String), Vec<Entry>>;
+
 pub fn section(book: &Book) -> String {
-    let mut names: BTreeMap<(String, String), Vec<Entry>> = BTreeMap::new();
-    let mut add = |name: &str, href: String, what: String| {
-        let key = (name.trim_matches('_').to_lowercase(), name.to_string());
-        names.entry(key).or_default().push(Entry { href, what });
-    };
+    let items: String = names(book)
+        .iter()
+        .map(|((_, name), entries)| item(book, name, entries))
+        .collect();
+    format!(
+        "<h2 id=\"index\">Index of names</h2>\n<ul class=\"index\" id=\"names\">\n{items}</ul>\n"
+    )
+}
+
+fn names(book: &Book) -> Names {
+    let mut names = Names::new();
     for id in &book.graph.shown {
         let declaration = book.tree.declaration(*id);
-        let place = book.tree.file(*id).place();
+        let (href, place) = (anchor(book.tree, *id), book.tree.file(*id).place());
         add(
+            &mut names,
             &declaration.name,
-            anchor(book.tree, *id),
+            &href,
             format!("{}, {place}", kind_word(book.tree, *id)),
         );
         for member in declaration
@@ -30,26 +40,31 @@ pub fn section(book: &Book) -> String {
             .filter(|member| member.name != "0")
         {
             add(
+                &mut names,
                 &member.name,
-                anchor(book.tree, *id),
+                &href,
                 format!("of {}, {place}", declaration.name),
             );
         }
     }
     for (at, edit) in book.tree.edits.iter().enumerate() {
         add(
+            &mut names,
             &edit.name,
-            edit_anchor(book.tree, at),
+            &edit_anchor(book.tree, at),
             format!("wrong build, {}", edit.crate_name),
         );
     }
-    let items: String = names
-        .iter()
-        .map(|((_, name), entries)| item(book, name, entries))
-        .collect();
-    format!(
-        "<h2 id=\"index\">Index of names</h2>\n<ul class=\"index\" id=\"names\">\n{items}</ul>\n"
-    )
+    names
+}
+
+fn add(names: &mut Names, name: &str, href: &str, what: String) {
+    let key = (name.trim_matches('_').to_lowercase(), name.to_string());
+    let entry = Entry {
+        href: href.to_string(),
+        what,
+    };
+    names.entry(key).or_default().push(entry);
 }
 
 fn item(book: &Book, name: &str, entries: &[Entry]) -> String {

@@ -126,40 +126,39 @@ fn one_column(book: &Book, row: &Row, column: Column) -> String {
     if groups.is_empty() {
         return String::new();
     }
-    let mut inside = String::new();
-    for group in groups.iter().filter(|group| group.names.is_empty()) {
-        inside.push_str(&format!(
-            "<p class=\"remark\">{}</p>\n",
-            escaped(&group.place)
-        ));
-    }
+    let remarks = groups.iter().filter(|group| group.names.is_empty());
+    let remarks: String = remarks
+        .map(|group| format!("<p class=\"remark\">{}</p>\n", escaped(&group.place)))
+        .collect();
+    let title = column.title();
+    let class = title.split(' ').next().unwrap_or_default().to_lowercase();
+    format!(
+        "<div class=\"{class}\"><h5>{title}</h5>\n{remarks}{}</div>\n",
+        figures(book, row, column)
+    )
+}
+
+/// What a row cites in a column; the same part of a declaration once.
+fn figures(book: &Book, row: &Row, column: Column) -> String {
+    let mut html = String::new();
     let mut done: BTreeSet<(Id, Vec<usize>)> = BTreeSet::new();
     for citation in row.citations().filter(|citation| citation.column == column) {
         for target in map::targets(book.tree, &citation) {
             match target {
-                Target::Edit(at) => inside.push_str(&figure(
+                Target::Edit(at) => html.push_str(&figure(
                     &edits::caption(book, at),
                     &edits::content(book, at, false),
                 )),
                 Target::Declaration(id) => {
                     let parts = parts(book, &citation, id);
                     if done.insert((id, parts.iter().map(|(first, _)| *first).collect())) {
-                        inside.push_str(&declaration(book, &citation, id, parts));
+                        html.push_str(&declaration(book, &citation, id, &parts));
                     }
                 }
             }
         }
     }
-    let class = column
-        .title()
-        .split(' ')
-        .next()
-        .unwrap_or_default()
-        .to_lowercase();
-    format!(
-        "<div class=\"{class}\"><h5>{}</h5>\n{inside}</div>\n",
-        column.title()
-    )
+    html
 }
 
 fn figure(caption: &str, content: &str) -> String {
@@ -169,66 +168,55 @@ fn figure(caption: &str, content: &str) -> String {
 /// Lines of a declaration that belong together, from a line of the file on.
 type Part<'a> = (usize, &'a [String]);
 
-fn declaration(book: &Book, citation: &Citation, id: Id, parts: Vec<Part>) -> String {
-    let declaration = book.tree.declaration(id);
-    let name = if declaration.has_member(citation.name) {
-        format!("{} of {}", citation.name, declaration.name)
-    } else {
-        declaration.name.clone()
-    };
-    let mut caption = format!(
-        "<a class=\"name\" href=\"#{}\">{}</a> <span class=\"place\">{}</span>",
-        anchor(book.tree, id),
-        escaped(&name),
-        escaped(citation.place)
-    );
-    if declaration.kind == Kind::Function {
-        caption.push_str(&code_link(book, id));
-    }
-    let shown: usize = parts.iter().map(|(_, lines)| lines.len()).sum();
-    let whole = declaration.statement.len()
-        + if code::has_body(book, id) {
-            declaration.body.len()
-        } else {
-            0
-        };
+fn declaration(book: &Book, citation: &Citation, id: Id, parts: &[Part]) -> String {
     let text = format!(
         "<pre class=\"code\">{}{}</pre>",
         code::context(book, id),
-        joined(book, id, &parts)
+        joined(book, id, parts)
     );
-    if shown > LONG && declaration.kind != Kind::Function {
+    let shown: usize = parts.iter().map(|(_, lines)| lines.len()).sum();
+    let declaration = book.tree.declaration(id);
+    let content = if declaration.kind != Kind::Function && shown > LONG {
         let first = escaped(declaration.statement[0].trim());
-        return figure(
-            &caption,
-            &format!(
-                "<details><summary>{shown} lines: <code>{first}</code></summary>{text}</details>"
-            ),
-        );
-    }
-    let more = match whole > shown && declaration.kind != Kind::Function && parts.len() > 1 {
-        true => format!(
-            "<p class=\"more\"><a href=\"#{}\">the whole of {}</a></p>",
+        format!("<details><summary>{shown} lines: <code>{first}</code></summary>{text}</details>")
+    } else if declaration.kind != Kind::Function && shown < whole(book, id) {
+        format!(
+            "{text}<p class=\"more\"><a href=\"#{}\">the whole of {}</a></p>",
             anchor(book.tree, id),
             escaped(&declaration.name)
-        ),
-        false => String::new(),
+        )
+    } else {
+        code::comment(&declaration.comment) + &text
     };
-    figure(
-        &caption,
-        &format!(
-            "{}{text}{more}",
-            code::comment(&own_comment(declaration, parts.len()))
-        ),
-    )
+    figure(&caption(book, citation, id), &content)
 }
 
-/// The comment of a declaration that is shown whole; that of a part stands in the part.
-fn own_comment(declaration: &Declaration, parts: usize) -> Vec<String> {
-    match parts {
-        1 => declaration.comment.clone(),
-        _ => Vec::new(),
-    }
+/// How many lines the page has of a declaration.
+fn whole(book: &Book, id: Id) -> usize {
+    let declaration = book.tree.declaration(id);
+    let body = if code::has_body(book, id) {
+        declaration.body.len()
+    } else {
+        0
+    };
+    declaration.statement.len() + body
+}
+
+fn caption(book: &Book, citation: &Citation, id: Id) -> String {
+    let declaration = book.tree.declaration(id);
+    let name = match declaration.has_member(citation.name) {
+        true => format!("{} of {}", citation.name, declaration.name),
+        false => declaration.name.clone(),
+    };
+    let code = match declaration.kind {
+        Kind::Function => code_link(book, id),
+        _ => String::new(),
+    };
+    let (anchor, place) = (anchor(book.tree, id), escaped(citation.place));
+    format!(
+        "<a class=\"name\" href=\"#{anchor}\">{}</a> <span class=\"place\">{place}</span>{code}",
+        escaped(&name)
+    )
 }
 
 /// To the code of a function, line by line.
