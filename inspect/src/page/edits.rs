@@ -135,10 +135,11 @@ fn refusal(book: &Book, at: usize, full: bool) -> String {
         "" => String::new(),
         words => format!(": <code>{}</code>", escaped(&shortened(words, MOST))),
     };
-    format!(
-        "<p class=\"refusal\">refused at {}{words}</p>",
-        escaped(&refusal.place)
-    )
+    let place = match refusal.place.as_str() {
+        "" => String::new(),
+        place => format!(" at {}", escaped(place)),
+    };
+    format!("<p class=\"refusal\">refused{place}{words}</p>")
 }
 
 #[cfg(test)]
