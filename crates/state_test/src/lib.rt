@@ -1,7 +1,7 @@
 // Whether a slice holds a state, tested where it lies. docs/STATE.md draws the layout.
 ghost use mathlib.Core.Path.{_≡_};
 ghost use mathlib.Core.List.{map};
-ghost use Prim.Native.Nat.{_+_, _*_, _<_, _≤_};
+ghost use Prim.Native.Nat.{_+_, _<_, _≤_};
 ghost use lib.ListN.{length, take, drop};
 ghost use Rattle.rows.specs.Rows.{rows, pairwise};
 ghost use Rattle.names.specs.Names.{sameBytes};
