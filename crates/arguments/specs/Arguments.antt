@@ -1,4 +1,4 @@
--- What a program in C or Rust hands in, and which call an entry makes of it.
+-- What a program in C or Rust hands in, and which values that is.
 use Prim.Native.Nat.{ℕ}
 use mathlib.Core.Bool.{Bool, cond, _&&_, _||_}
 use mathlib.Core.List.{List, [], _∷_}

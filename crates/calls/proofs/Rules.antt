@@ -1,4 +1,4 @@
--- The laws that close the needs of this crate's functions by `search rules`.
+-- The laws that close the needs of the calls' functions, in the crates above this one, by `search rules`.
 -- Assumes nothing.
 use Prim.Native.Nat.{ℕ, _+_, _*_, _<_, _≤_}
 use mathlib.Core.Path.{_≡_, refl, sym, ap, _∙_}
