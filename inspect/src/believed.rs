@@ -86,6 +86,11 @@ impl Believed {
         self.0.keys().copied()
     }
 
+    pub fn all_lines(&self, tree: &Tree) -> usize {
+        let crates = tree.crates.iter().flat_map(|c| self.lines(tree, &c.name));
+        crates.sum()
+    }
+
     /// The lines of a crate, part by part.
     pub fn lines(&self, tree: &Tree, crate_name: &str) -> [usize; 3] {
         let mut lines = [0; 3];
@@ -145,5 +150,36 @@ fn share(folder: Folder, declaration: &Declaration) -> Share {
             part: Part::Promises,
             with_body: false,
         },
+    }
+}
+
+#[cfg(test)]
+mod tests {
+    use super::*;
+    use crate::tree::tests::tree;
+    use crate::xml::Node;
+
+    const SPECS: &str = "abbrev pub used : ℕ\nused = below\n\nabbrev below : ℕ\nbelow =\n    -- why\n    0\n\nabbrev pub unused : ℕ\nunused = 1\n";
+    const CODE: &str = "ghost use Rattle.names.specs.Names.{used, unused};\n\npub fn none() -> u8\n    ensures { λ r. ⌜ r ≡ used ⌝ }\n{\n    \
+        other()\n}\n\nfn other() -> u8\n    ensures { λ r. ⌜ r ≡ unused ⌝ }\n{\n    0\n}\n";
+
+    #[test]
+    fn what_public_contracts_cite_is_believed_and_what_private_ones_cite_is_not() {
+        let tree = tree(&[
+            ("names", Folder::Specs, "Names", SPECS),
+            ("names", Folder::Src, "lib", CODE),
+        ]);
+        let scopes: Vec<Scope> = (0..2).map(|file| Scope::of(&tree, file)).collect();
+        let believed = Believed::of(&tree, &Map::of(Node::default()), &scopes);
+        let names: Vec<&str> = believed
+            .ids()
+            .map(|id| tree.declaration(id).name.as_str())
+            .collect();
+        assert_eq!(names, ["used", "below", "none"]);
+        assert_eq!(
+            believed.lines(&tree, "names"),
+            [5, 2, 0],
+            "without the comment, and without the code"
+        );
     }
 }

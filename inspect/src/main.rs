@@ -60,7 +60,11 @@ fn written(file: &Path) -> io::Result<bool> {
         fs::create_dir_all(folder)?;
     }
     fs::write(file, page::write(&book))?;
-    println!("{}", file.display());
+    let (sentences, lines) = (map.rows().count(), book.believed.all_lines(&tree));
+    println!(
+        "{}: {sentences} sentences, {lines} lines to be believed",
+        file.display()
+    );
     Ok(true)
 }
 

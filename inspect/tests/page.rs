@@ -188,13 +188,7 @@ fn the_lines_to_be_believed_are_those_that_the_page_marks() {
     let scopes: Vec<Scope> = (0..tree.files.len())
         .map(|file| Scope::of(&tree, file))
         .collect();
-    let believed = Believed::of(&tree, &map, &scopes);
-    let counted: usize = tree
-        .crates
-        .iter()
-        .map(|c| believed.lines(&tree, &c.name).iter().sum::<usize>())
-        .sum();
-    assert_eq!(marked, counted);
+    assert_eq!(marked, Believed::of(&tree, &map, &scopes).all_lines(&tree));
 }
 
 #[test]

@@ -83,17 +83,7 @@ fn map(book: &Book) -> String {
 }
 
 fn believed(book: &Book) -> String {
-    let lines: usize = book
-        .tree
-        .crates
-        .iter()
-        .map(|c| {
-            book.believed
-                .lines(book.tree, &c.name)
-                .iter()
-                .sum::<usize>()
-        })
-        .sum();
+    let lines = book.believed.all_lines(book.tree);
     format!(
         "<h2 id=\"believed\">How much has to be believed</h2>\n<p><strong>{} lines</strong>: those that have a bar at their left in <a \
          href=\"#library\">the listing below</a>, counted without comments and imports. Proofs are checked, and need not be read.</p>\n<details><summary>Crate by \
