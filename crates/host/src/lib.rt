@@ -49,7 +49,7 @@ pub extern "C" fn slavotuk_open(state: &mut [u8], session: u32) -> u32
     let st = state_read::read(state);
     stored(
         state,
-        outcomes_free::open_session(st, arguments::session_of(session)),
+        outcomes_unprotected::open_session(st, arguments::session_of(session)),
     )
 }
 
@@ -63,7 +63,7 @@ pub extern "C" fn slavotuk_close(state: &mut [u8], session: u32) -> u32
     let st = state_read::read(state);
     stored(
         state,
-        outcomes_free::close_session(st, arguments::session_of(session)),
+        outcomes_unprotected::close_session(st, arguments::session_of(session)),
     )
 }
 
@@ -77,7 +77,7 @@ pub extern "C" fn slavotuk_select(state: &mut [u8], session: u32, version: u32) 
     let st = state_read::read(state);
     stored(
         state,
-        outcomes_free::select_version(
+        outcomes_unprotected::select_version(
             st,
             arguments::session_of(session),
             rows::byte_of(version as usize),
@@ -101,7 +101,7 @@ pub extern "C" fn slavotuk_start(
     let st = state_read::read(state);
     stored(
         state,
-        outcomes_free::start(
+        outcomes_unprotected::start(
             st,
             arguments::session_of(session),
             arguments::credential_of(credential),
@@ -126,7 +126,7 @@ pub extern "C" fn slavotuk_continue(
     let st = state_read::read(state);
     stored(
         state,
-        outcomes_free::continue_saved(
+        outcomes_unprotected::continue_saved(
             st,
             arguments::session_of(session),
             arguments::credential_of(credential),
@@ -155,7 +155,7 @@ pub extern "C" fn slavotuk_elevate(
     let st = state_read::read(state);
     stored(
         state,
-        outcomes_free::elevate(
+        outcomes_unprotected::elevate(
             st,
             arguments::session_of(session),
             arguments::credential_of(credential),
@@ -175,7 +175,7 @@ pub extern "C" fn slavotuk_drop(state: &mut [u8], session: u32) -> u32
     let st = state_read::read(state);
     stored(
         state,
-        outcomes_free::drop_elevation(st, arguments::session_of(session)),
+        outcomes_unprotected::drop_elevation(st, arguments::session_of(session)),
     )
 }
 

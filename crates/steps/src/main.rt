@@ -74,7 +74,7 @@ fn record(st: State, c: u16, number: u16, class: u8) -> State {
 }
 
 fn start(st: State, s: u8, c: u16, n: Name) -> State {
-    told(outcomes_free::start(st, Session(s), Credential(c), n))
+    told(outcomes_unprotected::start(st, Session(s), Credential(c), n))
 }
 
 fn kill(st: State, s: u8, c: u16, number: u16, n: Name) -> State {
@@ -100,9 +100,9 @@ fn fresh() -> State {
 
 fn step1(st: State) -> State {
     begin(1);
-    let a = told(outcomes_free::open_session(st, Session(4)));
-    let b = told(outcomes_free::open_session(a, Session(0)));
-    let c = told(outcomes_free::open_session(b, Session(0)));
+    let a = told(outcomes_unprotected::open_session(st, Session(4)));
+    let b = told(outcomes_unprotected::open_session(a, Session(0)));
+    let c = told(outcomes_unprotected::open_session(b, Session(0)));
     end_line();
     c
 }
@@ -110,9 +110,9 @@ fn step1(st: State) -> State {
 fn step2(st: State) -> State {
     begin(2);
     let a = start(st, 0, 0, p());
-    let b = told(outcomes_free::select_version(a, Session(0), 0x20));
-    let c = told(outcomes_free::select_version(b, Session(0), 0x10));
-    let d = told(outcomes_free::select_version(c, Session(0), 0x10));
+    let b = told(outcomes_unprotected::select_version(a, Session(0), 0x20));
+    let c = told(outcomes_unprotected::select_version(b, Session(0), 0x10));
+    let d = told(outcomes_unprotected::select_version(c, Session(0), 0x10));
     end_line();
     d
 }
@@ -208,10 +208,10 @@ fn step10(st: State) -> State {
 fn step11(st: State) -> State {
     begin(11);
     let a = told(outcomes_protected::end(st, Session(0), by(0, 2), true));
-    let b = told(outcomes_free::open_session(a, Session(1)));
-    let c = told(outcomes_free::select_version(b, Session(1), 0x10));
-    let d = told(outcomes_free::continue_saved(c, Session(1), Credential(0), q()));
-    let e = told(outcomes_free::continue_saved(d, Session(1), Credential(0), p()));
+    let b = told(outcomes_unprotected::open_session(a, Session(1)));
+    let c = told(outcomes_unprotected::select_version(b, Session(1), 0x10));
+    let d = told(outcomes_unprotected::continue_saved(c, Session(1), Credential(0), q()));
+    let e = told(outcomes_unprotected::continue_saved(d, Session(1), Credential(0), p()));
     let t = e.table;
     let one = table::process_at(t, 0);
     say(one.next as u64);
@@ -224,7 +224,7 @@ fn fill(st: State) -> State {
     let mut next = st;
     let mut i: u8 = 0;
     while i < 11 {
-        let started = outcomes_free::start(next, Session(0), Credential(0), name(0x33, i));
+        let started = outcomes_unprotected::start(next, Session(0), Credential(0), name(0x33, i));
         let one = started.state;
         let ended = outcomes_protected::end(one, Session(0), by(0, 0), true);
         next = ended.state;
