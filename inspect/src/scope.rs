@@ -24,7 +24,10 @@ enum Module {
 
 pub struct Scope<'a> {
     tree: &'a Tree,
+    /// what the logic's words mean: in a file of code those of its contracts
     names: HashMap<String, Meaning>,
+    /// what the code's words mean. A function and its definition can have one name
+    code: HashMap<String, Meaning>,
     aliases: HashMap<String, Module>,
 }
 
@@ -33,6 +36,7 @@ impl<'a> Scope<'a> {
         let mut scope = Scope {
             tree,
             names: HashMap::new(),
+            code: HashMap::new(),
             aliases: HashMap::new(),
         };
         for used in &tree.files[file].content.uses {
@@ -43,10 +47,11 @@ impl<'a> Scope<'a> {
     }
 
     fn take(&mut self, used: &Use) {
+        let is_code = self.tree.crates.iter().any(|c| c.name == used.module);
         let module = module(self.tree, &used.module);
         for name in &used.names {
             if let Some(meaning) = self.of_module(&module, name) {
-                self.names.insert(name.clone(), meaning);
+                self.learn(is_code, name, meaning);
             }
         }
         if let Some(alias) = &used.alias {
@@ -54,17 +59,26 @@ impl<'a> Scope<'a> {
         }
     }
 
-    /// What the file itself declares; a file of code sees all the code of its crate.
+    fn learn(&mut self, is_code: bool, name: &str, meaning: Meaning) {
+        let names = if is_code {
+            &mut self.code
+        } else {
+            &mut self.names
+        };
+        names.insert(name.to_string(), meaning);
+    }
+
+    /// What the file itself declares.
     fn own(&mut self, file: usize) {
-        let declarations = &self.tree.files[file].content.declarations;
-        for (at, declaration) in declarations
+        let is_code = self.tree.files[file].folder == Folder::Src;
+        let declarations = self.tree.files[file]
+            .content
+            .declarations
             .iter()
-            .enumerate()
-            .filter(|(_, d)| d.kind != Kind::Module)
-        {
-            let meaning = Meaning::Ours(Id { file, at });
+            .enumerate();
+        for (at, declaration) in declarations.filter(|(_, d)| d.kind != Kind::Module) {
             for name in bare_names(declaration) {
-                self.names.insert(name.to_string(), meaning.clone());
+                self.learn(is_code, name, Meaning::Ours(Id { file, at }));
             }
         }
     }
@@ -112,25 +126,22 @@ impl<'a> Scope<'a> {
         self.of_module(self.aliases.get(alias)?, name)
     }
 
-    /// A word of the code: a name, `Type::Variant` or `crate::name`.
-    pub fn of_code(&self, word: &str) -> Option<Meaning> {
-        match word.split_once("::") {
-            None => self
-                .names
-                .get(word)
-                .cloned()
-                .filter(|meaning| self.is_code(meaning)),
+    /// A word of the code: a name, `Type::Variant` or `crate::name`. A function is meant where it is called.
+    pub fn of_code(&self, word: &str, called: bool) -> Option<Meaning> {
+        let meaning = match word.split_once("::") {
+            None => self.code.get(word).cloned(),
             Some((first, rest)) => {
                 let rest = rest.split("::").next().unwrap_or(rest);
-                let here = self.names.get(first).cloned();
+                let here = self.code.get(first).cloned();
                 here.or_else(|| self.declared(first, rest))
-                    .filter(|meaning| self.is_code(meaning))
             }
-        }
+        };
+        meaning.filter(|meaning| self.is_code(meaning, called))
     }
 
-    fn is_code(&self, meaning: &Meaning) -> bool {
-        matches!(meaning, Meaning::Ours(id) if self.tree.file(*id).folder == Folder::Src)
+    fn is_code(&self, meaning: &Meaning, called: bool) -> bool {
+        let fits = |id: Id| called || self.tree.declaration(id).kind != Kind::Function;
+        matches!(meaning, Meaning::Ours(id) if self.tree.file(*id).folder == Folder::Src && fits(*id))
     }
 }
 
@@ -272,16 +283,17 @@ pub fn cited_by_contract(scope: &Scope, function: &Declaration) -> BTreeSet<Id> 
 
 /// What lines of code cite.
 fn cited_by_code(scope: &Scope, lines: &[String]) -> BTreeSet<Id> {
-    let pieces = lines.iter().flat_map(|line| words::of_code(line));
-    let meanings = pieces.filter_map(|piece| match piece {
-        Piece::Word(word) => scope.of_code(word),
-        _ => None,
-    });
-    let ours = meanings.filter_map(|meaning| match meaning {
-        Meaning::Ours(id) => Some(id),
-        Meaning::Outside(_) => None,
-    });
-    ours.collect()
+    let mut cited = BTreeSet::new();
+    for line in lines {
+        let pieces = words::of_code(line);
+        for (at, piece) in pieces.iter().enumerate() {
+            let Piece::Word(word) = piece else { continue };
+            if let Some(Meaning::Ours(id)) = scope.of_code(word, words::is_called(&pieces, at)) {
+                cited.insert(id);
+            }
+        }
+    }
+    cited
 }
 
 /// What the statement of a declaration cites, with the modules around it: of a function its signature and its contract.
@@ -335,7 +347,7 @@ mod tests {
         pub data Call : Type 0 where\n  Open : Phase → Call\n\nabbrev pub word : ℕ\nword = 1\n\n\
         unfoldable pub number : Phase → Call → ℕ\nnumber word (Open s) = No.done when eqb word (λ s. word)\nnumber Closed call = word\n";
     const CODE: &str = "ghost use Rattle.claims.specs.Numbers.{done};\n\npub enum Phase {\n    Closed,\n}\n\npub fn none() -> u8\n    \
-        ensures { λ r. ⌜ r ≡ done ⌝ }\n{\n    0\n}\n";
+        ensures { λ r. ⌜ r ≡ done ⌝ }\n{\n    done()\n}\n\npub fn done() -> u8\n    ensures { λ r. ⌜ r ≡ done ⌝ }\n{\n    0\n}\n";
 
     fn read() -> Tree {
         tree(&[
@@ -397,11 +409,24 @@ mod tests {
             named(&tree, cited_by_contract(&scope, tree.declaration(none))),
             ["done"]
         );
-        assert!(cited_by_body(&scope, none).is_empty());
         assert_eq!(
-            scope.of_code("Phase::Closed"),
+            cited_by_contract(&scope, tree.declaration(none))
+                .first()
+                .map(|id| id.file),
+            Some(0),
+            "the definition"
+        );
+        assert_eq!(
+            cited_by_body(&scope, none).first().copied(),
+            tree.coded("claims", "done"),
+            "the function"
+        );
+        assert_eq!(
+            scope.of_code("Phase::Closed", false),
             tree.coded("claims", "Phase").map(Meaning::Ours)
         );
-        assert_eq!(scope.of_code("done"), None);
+        assert_eq!(scope.of_code("done", false), None);
+        assert_eq!(scope.of_code("none", true), Some(Meaning::Ours(none)));
+        assert_eq!(scope.of_code("none", false), None, "a variable");
     }
 }

@@ -80,6 +80,11 @@ fn word_of_logic<'a>(text: &'a str, pieces: &mut Vec<Piece<'a>>) {
     }
 }
 
+/// Whether a word of the code is given arguments.
+pub fn is_called(pieces: &[Piece], at: usize) -> bool {
+    pieces.get(at + 1) == Some(&Piece::Other("("))
+}
+
 /// The pieces of a line of code. A word is a name with the `::` in it.
 pub fn of_code(line: &str) -> Vec<Piece<'_>> {
     let mut pieces = Vec::new();
@@ -187,6 +192,16 @@ mod tests {
                 Comment("// why")
             ]
         );
+    }
+
+    #[test]
+    fn a_function_is_called_and_a_variable_is_not() {
+        let pieces = of_code("let same = same(a)");
+        let called: Vec<bool> = (0..pieces.len())
+            .filter(|at| pieces[*at] == Word("same"))
+            .map(|at| is_called(&pieces, at))
+            .collect();
+        assert_eq!(called, [false, true]);
     }
 
     #[test]

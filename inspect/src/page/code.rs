@@ -185,18 +185,19 @@ fn field(book: &Book, text: &str, name: &str) -> String {
 }
 
 fn code(book: &Book, scope: &Scope, line: &str) -> String {
-    let piece = |piece: Piece| match piece {
+    let pieces = words::of_code(line);
+    let piece = |at: usize| match pieces[at] {
         Piece::Comment(text) => format!("<i class=\"c\">{}</i>", escaped(text)),
         Piece::Other(text) | Piece::Field(text) | Piece::Label(text) => escaped(text),
         Piece::Word(word) if KEYWORDS.contains(&word) => format!("<i class=\"k\">{word}</i>"),
-        Piece::Word(word) => match scope.of_code(word) {
+        Piece::Word(word) => match scope.of_code(word, words::is_called(&pieces, at)) {
             Some(Meaning::Ours(id)) if book.graph.shown.contains(&id) => {
                 linked(book, id, word, None)
             }
             _ => escaped(word),
         },
     };
-    words::of_code(line).into_iter().map(piece).collect()
+    (0..pieces.len()).map(piece).collect()
 }
 
 /// The modules around a declaration, whose parameters its statement speaks of.
