@@ -26,8 +26,8 @@ use Rattle.facts.specs.Facts.{FormedProcess, IsState}
 use Rattle.layout.specs.Layout.{stateOf, holdsState}
 use Rattle.layout.proofs.Laws.{holds-is}
 use Rattle.wire.specs.Wire.{requestNumber, readRequest, requestRoom, countNumber, readCount, rowNumber, readRowAt}
-use Rattle.wire.proofs.Laws.{rows-fit, rows-of}
-use Rattle.wire.proofs.Back.{ReadsAs, listed-back}
+use Rattle.wire_listing.proofs.Laws.{rows-fit, rows-of}
+use Rattle.wire_listing.proofs.Back.{ReadsAs, listed-back}
 use Rattle.state_record.specs.Entry.{holdsNumber, isMade, entryNumber, Entry}
 use Rattle.host.specs.Fresh.{FreshEntry}
 use Rattle.host.specs.Messages.{entryResponse, entryLength, ListEntry, rowEntryNumber}

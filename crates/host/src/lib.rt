@@ -309,7 +309,7 @@ pub extern "C" fn slavotuk_list(
         return ARGUMENT as u32;
     }
     let st = state_read::read(state);
-    let listed = wire::list(
+    let listed = wire_listing::list(
         st,
         arguments::session_of(session),
         arguments::claim_of(kind, credential, number, verdict),

@@ -32,7 +32,8 @@ use Rattle.facts.specs.Facts.{processes, Rules, FormedProcess, IsState}
 use Rattle.layout.specs.Layout.{stateLength, stateBytes, stateOf, holdsState}
 use Rattle.layout.proofs.Laws.{state-back, holds-written, holds-is, one-form}
 use Rattle.wire.specs.Wire.{rowsAmong, listedBytes}
-use Rattle.wire.proofs.Laws.{length-listing, rows-fit}
+use Rattle.wire.proofs.Laws.{length-listing}
+use Rattle.wire_listing.proofs.Laws.{rows-fit}
 use Rattle.state_record.specs.Entry.{isMade, entryNumber, entryBytes, Entry}
 use Rattle.arguments.specs.Arguments.{pairsOf, arePairs}
 use Rattle.host.specs.Fresh.{canFresh, FreshEntry}

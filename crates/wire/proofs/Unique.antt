@@ -3,6 +3,8 @@
 use mathlib.Core.Path.{sym, _∙_}
 use denote.Ref.{now}
 use Rattle.lists.proofs.Once.{OneAnswer, OneContent}
+use Rattle.wire.proofs.put_head.Kinds as put-head-kinds
+use Rattle.wire.proofs.put_head.Reads as put-head
 use Rattle.wire.proofs.read_request.Kinds as read-request-kinds
 use Rattle.wire.proofs.read_request.Reads as read-request
 use Rattle.wire.proofs.put_request.Kinds as put-request-kinds
@@ -11,10 +13,9 @@ use Rattle.wire.proofs.read_count.Kinds as read-count-kinds
 use Rattle.wire.proofs.read_count.Reads as read-count
 use Rattle.wire.proofs.read_row_at.Kinds as read-row-at-kinds
 use Rattle.wire.proofs.read_row_at.Reads as read-row-at
-use Rattle.wire.proofs.put_listing.Kinds as put-listing-kinds
-use Rattle.wire.proofs.put_listing.Reads as put-listing
-use Rattle.wire.proofs.list.Kinds as list-kinds
-use Rattle.wire.proofs.list.Reads as list
+
+pub put-head-once : OneContent 1 put-head-kinds.ps put-head-kinds.r put-head.Post (λ κs s. now (s .0))
+put-head-once κs a x y s t p q = p ∙ sym q
 
 pub read-request-once : OneAnswer 1 read-request-kinds.ps read-request-kinds.r read-request.Post
 read-request-once κs a x y s t p q = p ∙ sym q
@@ -30,15 +31,3 @@ read-count-once κs a x y s t p q = p ∙ sym q
 
 pub read-row-at-once : OneAnswer 1 read-row-at-kinds.ps read-row-at-kinds.r read-row-at.Post
 read-row-at-once κs a x y s t p q = p ∙ sym q
-
-pub put-listing-once : OneAnswer 1 put-listing-kinds.ps put-listing-kinds.r put-listing.Post
-put-listing-once κs a x y s t p q = p .0 ∙ sym (q .0)
-
-pub put-listing-content : OneContent 1 put-listing-kinds.ps put-listing-kinds.r put-listing.Post (λ κs s. now (s .0))
-put-listing-content κs a x y s t p q = p .1 ∙ sym (q .1)
-
-pub list-once : OneAnswer 1 list-kinds.ps list-kinds.r list.Post
-list-once κs a x y s t p q = p .0 ∙ sym (q .0)
-
-pub list-content : OneContent 1 list-kinds.ps list-kinds.r list.Post (λ κs s. now (s .1 .1 .1 .1 .0))
-list-content κs a x y s t p q = p .1 ∙ sym (q .1)

@@ -1,6 +1,6 @@
-use Rattle.wire.proofs.Rules.{rules}
-use Rattle.wire.proofs.row_count.Statement.{statement}
-use Rattle.wire.proofs.row_count.Tie as tie
+use Rattle.wire_listing.proofs.Rules.{rules}
+use Rattle.wire_listing.proofs.row_count.Statement.{statement}
+use Rattle.wire_listing.proofs.row_count.Tie as tie
 
 among-of-requires : tie.Need-among-of-requires
 among-of-requires c κs = search rules

@@ -1,6 +1,6 @@
-use Rattle.wire.proofs.Rules.{rules}
-use Rattle.wire.proofs.put_listing.Statement.{statement}
-use Rattle.wire.proofs.put_listing.Tie as tie
+use Rattle.wire_listing.proofs.Rules.{rules}
+use Rattle.wire_listing.proofs.put_listing.Statement.{statement}
+use Rattle.wire_listing.proofs.put_listing.Tie as tie
 
 row-count-requires : tie.Need-row-count-requires
 row-count-requires c κs = search rules

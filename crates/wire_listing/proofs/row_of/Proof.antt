@@ -1,6 +1,6 @@
-use Rattle.wire.proofs.Rules.{rules}
-use Rattle.wire.proofs.row_of.Statement.{statement}
-use Rattle.wire.proofs.row_of.Tie as tie
+use Rattle.wire_listing.proofs.Rules.{rules}
+use Rattle.wire_listing.proofs.row_of.Statement.{statement}
+use Rattle.wire_listing.proofs.row_of.Tie as tie
 
 type-of-requires : tie.Need-type-of-requires
 type-of-requires c κs = search rules

@@ -15,8 +15,9 @@ use Rattle.claims.specs.declared.State.{State}
 use Rattle.calls.specs.Calls.{List′, number, listed}
 use Rattle.calls.specs.Listing.{rowsOf, messageLength, listing}
 use Rattle.calls.specs.declared.Wanted.{Wanted}
 use Rattle.wire.specs.Wire.{readCount, zeroRow, readRowAt, listedBytes}
-use Rattle.wire.proofs.Laws.{length-listing, count-back, row-at-back, row-past-back, list-accepted}
+use Rattle.wire.proofs.Laws.{length-listing, count-back, row-at-back, row-past-back}
+use Rattle.wire_listing.proofs.Laws.{list-accepted}
 
 -- the message is these rows': its count, the row at each place, and past the last the answer 1
 pub record ReadsAs (rows : List Row) (message : List ℕ) : Type 0 where

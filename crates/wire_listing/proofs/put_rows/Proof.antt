@@ -1,9 +1,9 @@
-use Rattle.wire.proofs.Rows.{Written}
+use Rattle.wire_listing.proofs.Rows.{Written}
 use Prim.Native.Nat.{_-_}
 use mathlib.Core.Logic.{⊎-elim}
-use Rattle.wire.proofs.Rules.{rules}
-use Rattle.wire.proofs.put_rows.Statement.{statement}
-use Rattle.wire.proofs.put_rows.Tie as tie
+use Rattle.wire_listing.proofs.Rules.{rules}
+use Rattle.wire_listing.proofs.put_rows.Statement.{statement}
+use Rattle.wire_listing.proofs.put_rows.Tie as tie
 
 abbrev Inv-loop : tie.InvT-loop
 Inv-loop buffer₀ wanted n places k₀ i₀ buffer k i = Written wanted buffer₀ places n buffer k i

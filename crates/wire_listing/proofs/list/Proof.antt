@@ -1,6 +1,6 @@
-use Rattle.wire.proofs.Rules.{rules}
-use Rattle.wire.proofs.list.Statement.{statement}
-use Rattle.wire.proofs.list.Tie as tie
+use Rattle.wire_listing.proofs.Rules.{rules}
+use Rattle.wire_listing.proofs.list.Statement.{statement}
+use Rattle.wire_listing.proofs.list.Tie as tie
 
 list-requires : tie.Need-list-requires
 list-requires c κs = search rules

@@ -1,0 +1,5 @@
+pub mod Laws
+pub mod Back
+pub mod Rows
+pub mod Rules
+pub mod Unique
