@@ -27,7 +27,8 @@ fn is_claim(claim: Claim) -> bool
     }
 }
 
-fn is_spent(next: u16) -> bool
+// Whether a next number is the last, which no claim may have.
+pub fn is_spent(next: u16) -> bool
     ensures { λ r. ⌜ r ≡ isSpent next ⌝ }
 {
     next == 65535

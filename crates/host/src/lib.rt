@@ -196,7 +196,7 @@ pub extern "C" fn slavotuk_end(
     let st = state_read::read(state);
     stored(
         state,
-        outcomes_protected::end(
+        outcomes_ending::end(
             st,
             arguments::session_of(session),
             arguments::user_claim_of(credential, number, verdict),
@@ -250,7 +250,7 @@ pub extern "C" fn slavotuk_kill(
     let st = state_read::read(state);
     stored(
         state,
-        outcomes_protected::kill(
+        outcomes_ending::kill(
             st,
             arguments::session_of(session),
             arguments::claim_of(kind, credential, number, verdict),
@@ -278,7 +278,7 @@ pub extern "C" fn slavotuk_set_word(
     let st = state_read::read(state);
     stored(
         state,
-        outcomes_protected::set_word(
+        outcomes_standing::set_word(
             st,
             arguments::session_of(session),
             arguments::claim_of(kind, credential, number, verdict),

@@ -70,7 +70,7 @@ fn wide(n: u8) -> u64 {
 }
 
 fn record(st: State, c: u16, number: u16, class: u8) -> State {
-    told(outcomes_protected::record(st, Session(0), Claim::ByUser(by(c, number)), Class(class)))
+    told(outcomes_standing::record(st, Session(0), Claim::ByUser(by(c, number)), Class(class)))
 }
 
 fn start(st: State, s: u8, c: u16, n: Name) -> State {
@@ -78,7 +78,7 @@ fn start(st: State, s: u8, c: u16, n: Name) -> State {
 }
 
 fn kill(st: State, s: u8, c: u16, number: u16, n: Name) -> State {
-    told(outcomes_protected::kill(st, Session(s), Claim::ByUser(by(c, number)), n))
+    told(outcomes_ending::kill(st, Session(s), Claim::ByUser(by(c, number)), n))
 }
 
 // "Credentials 0 (word 15) and 1 (word 16) are provisioned."
@@ -149,7 +149,7 @@ fn step6(st: State) -> State {
         number: 1,
         verdict: false,
     };
-    let a = told(outcomes_protected::record(st, Session(0), Claim::ByUser(unsigned), Class(4)));
+    let a = told(outcomes_standing::record(st, Session(0), Claim::ByUser(unsigned), Class(4)));
     let b = record(a, 1, 1, 5);
     let c = record(b, 1, 1, 4);
     end_line();
@@ -182,7 +182,7 @@ fn step9(st: State) -> State {
 
 // The number of each listing, and the length of its message.
 fn list(st: State, room: usize) -> State {
-    let listed = outcomes_protected::list(
+    let listed = outcomes_standing::list(
         st,
         Session(0),
         Claim::ByUser(by(0, 1)),
@@ -207,7 +207,7 @@ fn step10(st: State) -> State {
 // The numbers, and the next number of the one process.
 fn step11(st: State) -> State {
     begin(11);
-    let a = told(outcomes_protected::end(st, Session(0), by(0, 2), true));
+    let a = told(outcomes_ending::end(st, Session(0), by(0, 2), true));
     let b = told(outcomes_unprotected::open_session(a, Session(1)));
     let c = told(outcomes_unprotected::select_version(b, Session(1), 0x10));
     let d = told(outcomes_unprotected::continue_saved(c, Session(1), Credential(0), q()));
@@ -226,7 +226,7 @@ fn fill(st: State) -> State {
     while i < 11 {
         let started = outcomes_unprotected::start(next, Session(0), Credential(0), name(0x33, i));
         let one = started.state;
-        let ended = outcomes_protected::end(one, Session(0), by(0, 0), true);
+        let ended = outcomes_ending::end(one, Session(0), by(0, 0), true);
         next = ended.state;
         i += 1;
     }
@@ -251,7 +251,7 @@ fn spend(st: State) -> State {
     let mut done: u64 = 0;
     let mut i: u16 = 0;
     while i < 65535 {
-        let outcome = outcomes_protected::record(
+        let outcome = outcomes_standing::record(
             next,
             Session(0),
             Claim::ByUser(by(1, i)),
@@ -273,7 +273,7 @@ fn spent(st: State) {
     let mut refused: u64 = 0;
     let mut i: u16 = 0;
     loop {
-        let outcome = outcomes_protected::record(st, Session(0), Claim::ByUser(by(1, i)), Class(4));
+        let outcome = outcomes_standing::record(st, Session(0), Claim::ByUser(by(1, i)), Class(4));
         let answer = outcome.answer;
         if calls::answer_number(answer) == claims::SPENT {
             refused += 1;

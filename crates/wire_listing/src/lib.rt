@@ -88,7 +88,7 @@ pub fn list(st: State, s: Session, claim: Claim, wanted: Wanted, buffer: &mut [u
     ensures { λ r. ⌜ (r ≡ listed st s claim wanted (length (now (buffer .entry)))) × (now (buffer .exit) ≡ listedBytes st s claim wanted (now (buffer .entry))) ⌝ }
 {
     let room = buffer.len();
-    let decided = outcomes_protected::list(st, s, claim, wanted, room);
+    let decided = outcomes_standing::list(st, s, claim, wanted, room);
     if decided.length != 0 {
         let t = st.table;
         put_listing(buffer, t, wanted);

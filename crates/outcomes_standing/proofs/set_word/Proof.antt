@@ -1,7 +1,7 @@
 use Rattle.calls.specs.Calls.{refusal}
-use Rattle.calls.proofs.Rules.{rules}
-use Rattle.outcomes_protected.proofs.set_word.Statement.{statement}
-use Rattle.outcomes_protected.proofs.set_word.Tie as tie
+use Rattle.claim_count.proofs.Rules.{rules}
+use Rattle.outcomes_standing.proofs.set_word.Statement.{statement}
+use Rattle.outcomes_standing.proofs.set_word.Tie as tie
 
 admit-requires : tie.Need-admit-requires
 admit-requires c κs = search rules
@@ -16,8 +16,8 @@ returns : tie.Need-returns
 unfolding refusal
 returns c = search rules
 
-counted-requires : tie.Need-counted-requires
-counted-requires c κs = search rules
+counted-by-requires : tie.Need-counted-by-requires
+counted-by-requires c κs = search rules
 
 with-word-requires : tie.Need-with-word-requires
 with-word-requires c κs = search rules
@@ -36,7 +36,7 @@ set-word-spec =
     set-word-number-requires
     refused-claim-requires
     returns
-    counted-requires
+    counted-by-requires
     with-word-requires
     accepted-requires
     returns-2)

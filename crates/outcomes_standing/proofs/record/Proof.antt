@@ -1,7 +1,7 @@
 use Rattle.calls.specs.Calls.{refusal}
-use Rattle.calls.proofs.Rules.{rules}
-use Rattle.outcomes_protected.proofs.record.Statement.{statement}
-use Rattle.outcomes_protected.proofs.record.Tie as tie
+use Rattle.claim_count.proofs.Rules.{rules}
+use Rattle.outcomes_standing.proofs.record.Statement.{statement}
+use Rattle.outcomes_standing.proofs.record.Tie as tie
 
 admit-requires : tie.Need-admit-requires
 admit-requires c κs = search rules
@@ -16,8 +16,8 @@ returns : tie.Need-returns
 unfolding refusal
 returns c = search rules
 
-counted-requires : tie.Need-counted-requires
-counted-requires c κs = search rules
+counted-by-requires : tie.Need-counted-by-requires
+counted-by-requires c κs = search rules
 
 accepted-requires : tie.Need-accepted-requires
 accepted-requires c κs = search rules
@@ -33,6 +33,6 @@ record-spec =
     record-number-requires
     refused-claim-requires
     returns
-    counted-requires
+    counted-by-requires
     accepted-requires
     returns-2)

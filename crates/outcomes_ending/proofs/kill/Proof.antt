@@ -1,7 +1,7 @@
 use Rattle.calls.specs.Calls.{refusal}
-use Rattle.calls.proofs.Rules.{rules}
-use Rattle.outcomes_protected.proofs.kill.Statement.{statement}
-use Rattle.outcomes_protected.proofs.kill.Tie as tie
+use Rattle.claim_count.proofs.Rules.{rules}
+use Rattle.outcomes_ending.proofs.kill.Statement.{statement}
+use Rattle.outcomes_ending.proofs.kill.Tie as tie
 
 admit-requires : tie.Need-admit-requires
 admit-requires c κs = search rules
@@ -22,8 +22,8 @@ reach-requires c κs = search rules
 named-place-requires : tie.Need-named-place-requires
 named-place-requires c κs = search rules
 
-counted-requires : tie.Need-counted-requires
-counted-requires c κs = search rules
+counted-by-requires : tie.Need-counted-by-requires
+counted-by-requires c κs = search rules
 
 removed-requires : tie.Need-removed-requires
 removed-requires c κs = search rules
@@ -47,7 +47,7 @@ kill-spec =
     returns
     reach-requires
     named-place-requires
-    counted-requires
+    counted-by-requires
     removed-requires
     with-table-requires
     accepted-requires

@@ -1,6 +1,6 @@
-use Rattle.calls.proofs.Rules.{rules}
-use Rattle.outcomes_protected.proofs.list.Statement.{statement}
-use Rattle.outcomes_protected.proofs.list.Tie as tie
+use Rattle.claim_count.proofs.Rules.{rules}
+use Rattle.outcomes_standing.proofs.list.Statement.{statement}
+use Rattle.outcomes_standing.proofs.list.Tie as tie
 
 admit-requires : tie.Need-admit-requires
 admit-requires c κs = search rules
@@ -14,8 +14,8 @@ refused-claim-requires c κs = search rules
 returns : tie.Need-returns
 returns c = search rules
 
-counted-requires : tie.Need-counted-requires
-counted-requires c κs = search rules
+counted-by-requires : tie.Need-counted-by-requires
+counted-by-requires c κs = search rules
 
 accepted-requires : tie.Need-accepted-requires
 accepted-requires c κs = search rules
@@ -34,7 +34,7 @@ list-spec =
     list-number-requires
     refused-claim-requires
     returns
-    counted-requires
+    counted-by-requires
     accepted-requires
     message-length-requires
     returns-2)

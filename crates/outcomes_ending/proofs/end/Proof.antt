@@ -1,7 +1,7 @@
 use Rattle.calls.specs.Calls.{refusal}
-use Rattle.calls.proofs.Rules.{rules}
-use Rattle.outcomes_protected.proofs.end.Statement.{statement}
-use Rattle.outcomes_protected.proofs.end.Tie as tie
+use Rattle.claim_count.proofs.Rules.{rules}
+use Rattle.outcomes_ending.proofs.end.Statement.{statement}
+use Rattle.outcomes_ending.proofs.end.Tie as tie
 
 admit-requires : tie.Need-admit-requires
 admit-requires c κs = search rules
@@ -16,8 +16,8 @@ returns : tie.Need-returns
 unfolding refusal
 returns c = search rules
 
-counted-user-requires : tie.Need-counted-user-requires
-counted-user-requires c κs = search rules
+counted-at-requires : tie.Need-counted-at-requires
+counted-at-requires c κs = search rules
 
 ended-requires : tie.Need-ended-requires
 ended-requires c κs = search rules
@@ -36,7 +36,7 @@ end-spec =
     end-number-requires
     refused-claim-requires
     returns
-    counted-user-requires
+    counted-at-requires
     ended-requires
     accepted-requires
     returns-2)

@@ -1,0 +1,22 @@
+-- The claim counted at a place, whatever stands there: where the claim was admitted and the place is its process's, this is what document 01's
+-- calls count (`counted`).
+use Prim.Native.Nat.{ℕ}
+use mathlib.Core.Bool.{cond}
+use Rattle.table.specs.Table.{processAt, replaced}
+use Rattle.claims.specs.Claim.{isSpent}
+use Rattle.claims.specs.declared.Claim.{Claim}
+use Rattle.claims.specs.declared.Claim.the-variants.{Elevated, ByUser}
+use Rattle.claims.specs.declared.State.{State}
+use Rattle.calls.specs.Calls.{withTable, oneMore}
+
+-- the next number of the process at a place, one more. One that is spent stays: no claim of such a process is admitted
+unfoldable pub countedAt : State → ℕ → State
+countedAt st at =
+    cond (isSpent (processAt (st .table) at .next))
+    st
+    (withTable st (replaced (st .table) at (oneMore (processAt (st .table) at))))
+
+-- "A call answered 0 under a user claim .. adds one": an elevated claim has no number
+unfoldable pub countedBy : State → Claim → ℕ → State
+countedBy st Elevated at = st
+countedBy st (ByUser u) at = countedAt st at

@@ -1,0 +1,26 @@
+// An admitted claim counted: a user claim adds one to its process's next number.
+ghost use mathlib.Core.Path.{_≡_};
+ghost use Rattle.claim_count.specs.Count.{countedAt, countedBy};
+use claims::Claim;
+use claims::State;
+
+pub fn counted_at(st: State, at: usize) -> State
+    ensures { λ r. ⌜ r ≡ countedAt st at ⌝ }
+{
+    let t = st.table;
+    let mut p = table::process_at(t, at);
+    if claim_check::is_spent(p.next) {
+        return st;
+    }
+    p.next = p.next + 1;
+    effects::with_table(st, table_change::replaced(t, at, p))
+}
+
+pub fn counted_by(st: State, claim: Claim, at: usize) -> State
+    ensures { λ r. ⌜ r ≡ countedBy st claim at ⌝ }
+{
+    match claim {
+        Claim::Elevated => st,
+        Claim::ByUser(_) => counted_at(st, at),
+    }
+}

@@ -1,0 +1,40 @@
+// The protected calls that end a process: state in by value, answer and state out by value. Each asks its tests for the number, and does what it does where that is 0.
+ghost use mathlib.Core.Path.{_≡_};
+ghost use Rattle.calls.specs.Calls.{End, Kill, outcome};
+use calls::Outcome;
+use claims::Claim;
+use claims::DONE;
+use claims::State;
+use claims::UserClaim;
+use names::Name;
+use names::Session;
+
+// ---- end
+
+pub fn end(st: State, s: Session, u: UserClaim, keep: bool) -> Outcome
+    ensures { λ r. ⌜ r ≡ outcome st (End s u keep) ⌝ }
+{
+    let by = claim_admission::admit(st, s, Claim::ByUser(u));
+    let n = calls_protected::end_number(by, keep);
+    if n != DONE {
+        return effects::refused_claim(st, n, Claim::ByUser(u));
+    }
+    let next = claim_count::counted_at(st, by.place);
+    effects::accepted(effects::ended(next, by.place, keep))
+}
+
+// ---- kill
+
+pub fn kill(st: State, s: Session, claim: Claim, name: Name) -> Outcome
+    ensures { λ r. ⌜ r ≡ outcome st (Kill s claim name) ⌝ }
+{
+    let by = claim_admission::admit(st, s, claim);
+    let n = calls_protected::kill_number(st, by, name);
+    if n != DONE {
+        return effects::refused_claim(st, n, claim);
+    }
+    let at = calls_table::named_place(st, name, calls_protected::reach(by));
+    let next = claim_count::counted_by(st, claim, by.place);
+    let t = next.table;
+    effects::accepted(effects::with_table(next, table_removal::removed(t, at)))
+}

@@ -1,0 +1,62 @@
+// The protected calls that leave every process standing: state in by value, answer and state out by value. Each asks its tests for the number, and does what it does where that is 0.
+ghost use mathlib.Core.Path.{_≡_};
+ghost use Rattle.calls.specs.Calls.{Record, SetWord, outcome, listed};
+use calls::Listed;
+use calls::Outcome;
+use calls::Wanted;
+use claims::Claim;
+use claims::Class;
+use claims::DONE;
+use claims::State;
+use names::Credential;
+use names::Session;
+
+// ---- record
+
+pub fn record(st: State, s: Session, claim: Claim, class: Class) -> Outcome
+    ensures { λ r. ⌜ r ≡ outcome st (Record s claim class) ⌝ }
+{
+    let by = claim_admission::admit(st, s, claim);
+    let n = calls_protected::record_number(by, class);
+    if n != DONE {
+        return effects::refused_claim(st, n, claim);
+    }
+    effects::accepted(claim_count::counted_by(st, claim, by.place))
+}
+
+// ---- list
+
+// The decision of a listing: its number, the next state and the length of its message. `room` is the length of the response's buffer.
+pub fn list(st: State, s: Session, claim: Claim, wanted: Wanted, room: usize) -> Listed
+    ensures { λ r. ⌜ r ≡ listed st s claim wanted room ⌝ }
+{
+    let by = claim_admission::admit(st, s, claim);
+    let n = calls_protected::list_number(st, by, wanted, room);
+    if n != DONE {
+        return Listed {
+            outcome: effects::refused_claim(st, n, claim),
+            length: 0,
+        };
+    }
+    Listed {
+        outcome: effects::accepted(claim_count::counted_by(st, claim, by.place)),
+        length: calls_protected::message_length(st, wanted),
+    }
+}
+
+// ---- set word
+
+pub fn set_word(st: State, s: Session, claim: Claim, target: Credential, word: u32) -> Outcome
+    ensures { λ r. ⌜ r ≡ outcome st (SetWord s claim target word) ⌝ }
+{
+    let by = claim_admission::admit(st, s, claim);
+    let n = calls_protected::set_word_number(st, by, target);
+    if n != DONE {
+        return effects::refused_claim(st, n, claim);
+    }
+    effects::accepted(effects::with_word(
+        claim_count::counted_by(st, claim, by.place),
+        target,
+        word,
+    ))
+}
