@@ -14,6 +14,7 @@ use borrow.Author.Tests.{eq-eqb, ne-eqb, lt-ltb, le-ltb, lt-leb, le-leb}
 use Rattle.rows.specs.Bytes.{byteOf}
 use Rattle.rows.specs.Rows.{every}
 use Rattle.names.specs.declared.Credential.{Credential}
+use Rattle.names.specs.declared.NameRead.{NameRead}
 use Rattle.names.specs.declared.Session.{Session}
 use Rattle.claims.specs.Module.{credentialCount}
 use Rattle.claims.specs.declared.Claim.the-variants.{Elevated, ByUser}
@@ -79,6 +80,10 @@ module _ (kind verdict : ℕ) where
   claimed-none h k =
       let g : 1 < kind = omega (arith, h, k) in
       rw (lt-leb kind 1 g, ne-eqb kind 0 h)
+
+-- ---- what the arguments were tested for
+pub fine-fits : {read other : NameRead} → read ≡ other → read .fits ≡ other .fits
+fine-fits e = rw e
 
 -- two tests that are asked together
 pub fine-both : {x a b c d : Bool} → x ≡ a && b → a ≡ c → b ≡ d → x ≡ c && d

@@ -14,7 +14,7 @@ use Rattle.calls.specs.declared.Wanted.the-variants.{Every}
 use Rattle.layout.specs.Layout.{stateBytes}
 use Rattle.state_record.specs.Entry.{entryNumber, entryBytes}
 use Rattle.arguments.specs.Arguments.{pairsOf}
-use Rattle.host.specs.Fresh.{canFresh}
+use Rattle.entries_unprotected.specs.Fresh.{canFresh}
 use Rattle.history.specs.History.{Event}
 use Rattle.history.specs.Lives.{nobody}
 use Rattle.history.specs.Fits.{IsWord}

@@ -36,9 +36,9 @@ use Rattle.wire.proofs.Laws.{length-listing}
 use Rattle.wire_listing.proofs.Laws.{rows-fit}
 use Rattle.state_record.specs.Entry.{isMade, entryNumber, entryBytes, Entry}
 use Rattle.arguments.specs.Arguments.{pairsOf, arePairs}
-use Rattle.host.specs.Fresh.{canFresh, FreshEntry}
-use Rattle.host.specs.Messages.{entryResponse, entryLength, ListEntry}
-use Rattle.host.proofs.Rules.{pairs-length, flags-long, words-long}
+use Rattle.entries_unprotected.specs.Fresh.{canFresh, FreshEntry}
+use Rattle.entries_protected.specs.Listing.{entryResponse, entryLength, ListEntry}
+use Rattle.entries_unprotected.proofs.Rules.{pairs-length, flags-long, words-long}
 use Rattle.history.specs.History.{history, callsIn}
 use Rattle.history.specs.Lives.{Life, nobody}
 use Rattle.history.specs.Demand.{Tells}

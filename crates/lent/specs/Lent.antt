@@ -18,8 +18,8 @@ use Rattle.calls.specs.declared.Wanted.{Wanted}
 use Rattle.layout.specs.Layout.{stateOf, stateBytes, holdsState}
 use Rattle.state_record.specs.Entry.{Entry}
 use Rattle.arguments.specs.Arguments.{pairsOf}
-use Rattle.host.specs.Fresh.{FreshEntry}
-use Rattle.host.specs.Messages.{ListEntry}
+use Rattle.entries_unprotected.specs.Fresh.{FreshEntry}
+use Rattle.entries_protected.specs.Listing.{ListEntry}
 use Rattle.history.specs.History.{Event, history, callsIn}
 use Rattle.history.specs.Lives.{Life, nobody}
 use Rattle.history.specs.Demand.{Demand3}

@@ -1,0 +1,56 @@
+use Rattle.entries_protected.proofs.Rules.{rules}
+use Rattle.entries_protected.proofs.slavotuk_end.Statement.{statement}
+use Rattle.entries_protected.proofs.slavotuk_end.Tie as tie
+
+are-flags-requires : tie.Need-are-flags-requires
+are-flags-requires c κs = search rules
+
+is-ready-requires : tie.Need-is-ready-requires
+is-ready-requires c κs = search rules
+
+cast-result : tie.Need-cast-result
+cast-result c = search rules
+
+same-length : tie.Need-same-length
+same-length c = search rules
+
+returns : tie.Need-returns
+returns c = search rules
+
+read-requires : tie.Need-read-requires
+read-requires c κs = search rules
+
+session-of-requires : tie.Need-session-of-requires
+session-of-requires c κs = search rules
+
+user-claim-of-requires : tie.Need-user-claim-of-requires
+user-claim-of-requires c κs = search rules
+
+end-requires : tie.Need-end-requires
+end-requires c κs = search rules
+
+store-requires : tie.Need-store-requires
+store-requires c κs = search rules
+
+same-length-2 : tie.Need-same-length-2
+same-length-2 c = search rules
+
+returns-2 : tie.Need-returns-2
+returns-2 c = search rules
+
+pub slavotuk-end-spec : {M : Type 1} → statement M
+slavotuk-end-spec =
+    tie.close
+    (tie.spec
+    are-flags-requires
+    is-ready-requires
+    cast-result
+    same-length
+    returns
+    read-requires
+    session-of-requires
+    user-claim-of-requires
+    end-requires
+    store-requires
+    same-length-2
+    returns-2)

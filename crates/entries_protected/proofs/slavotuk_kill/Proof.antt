@@ -1,0 +1,64 @@
+use Rattle.entries_protected.proofs.Rules.{rules}
+use Rattle.entries_protected.proofs.slavotuk_kill.Statement.{statement}
+use Rattle.entries_protected.proofs.slavotuk_kill.Tie as tie
+
+read-name-requires : tie.Need-read-name-requires
+read-name-requires c κs = search rules
+
+is-claimed-requires : tie.Need-is-claimed-requires
+is-claimed-requires c κs = search rules
+
+both-requires : tie.Need-both-requires
+both-requires c κs = search rules
+
+is-ready-requires : tie.Need-is-ready-requires
+is-ready-requires c κs = search rules
+
+cast-result : tie.Need-cast-result
+cast-result c = search rules
+
+same-length : tie.Need-same-length
+same-length c = search rules
+
+returns : tie.Need-returns
+returns c = search rules
+
+read-requires : tie.Need-read-requires
+read-requires c κs = search rules
+
+session-of-requires : tie.Need-session-of-requires
+session-of-requires c κs = search rules
+
+claim-of-requires : tie.Need-claim-of-requires
+claim-of-requires c κs = search rules
+
+kill-requires : tie.Need-kill-requires
+kill-requires c κs = search rules
+
+store-requires : tie.Need-store-requires
+store-requires c κs = search rules
+
+same-length-2 : tie.Need-same-length-2
+same-length-2 c = search rules
+
+returns-2 : tie.Need-returns-2
+returns-2 c = search rules
+
+pub slavotuk-kill-spec : {M : Type 1} → statement M
+slavotuk-kill-spec =
+    tie.close
+    (tie.spec
+    read-name-requires
+    is-claimed-requires
+    both-requires
+    is-ready-requires
+    cast-result
+    same-length
+    returns
+    read-requires
+    session-of-requires
+    claim-of-requires
+    kill-requires
+    store-requires
+    same-length-2
+    returns-2)

@@ -1,0 +1,59 @@
+use Rattle.lists.proofs.Loops.{Copied}
+use Rattle.arguments.specs.Arguments.{pairsOf}
+use Prim.Native.Nat.{_-_}
+use Rattle.entries_unprotected.proofs.Rules.{rules}
+use Rattle.entries_unprotected.proofs.pairs_of.Statement.{statement}
+use Rattle.entries_unprotected.proofs.pairs_of.Tie as tie
+
+abbrev Inv-loop : tie.InvT-loop
+Inv-loop provisioned words pairs₀ i₀ pairs i = Copied (pairsOf provisioned words) pairs₀ pairs i
+
+abbrev μ-loop : tie.MeasureT-loop
+μ-loop provisioned words pairs₀ i₀ pairs i = 8 - i
+
+loop-holds : tie.Need-loop-holds Inv-loop μ-loop
+loop-holds c = search rules
+
+shared-slice-read-t8 : tie.Need-shared-slice-read-t8 Inv-loop μ-loop
+shared-slice-read-t8 c = search rules
+
+mul-t9 : tie.Need-mul-t9 Inv-loop μ-loop
+mul-t9 c = search rules
+
+shared-slice-read-t11 : tie.Need-shared-slice-read-t11 Inv-loop μ-loop
+shared-slice-read-t11 c = search rules
+
+mul-pairs : tie.Need-mul-pairs Inv-loop μ-loop
+mul-pairs c = search rules
+
+array-set-from-pairs : tie.Need-array-set-from-pairs Inv-loop μ-loop
+array-set-from-pairs c = search rules
+
+add-i : tie.Need-add-i Inv-loop μ-loop
+add-i c = search rules
+
+loop-less : tie.Need-loop-less Inv-loop μ-loop
+loop-less c = search rules
+
+loop-again : tie.Need-loop-again Inv-loop μ-loop
+loop-again c = search rules
+
+returns : tie.Need-returns Inv-loop μ-loop
+returns c = search rules
+
+pub pairs-of-spec : {M : Type 1} → statement M
+pairs-of-spec =
+    tie.close
+    (tie.spec
+    Inv-loop
+    μ-loop
+    loop-holds
+    shared-slice-read-t8
+    mul-t9
+    shared-slice-read-t11
+    mul-pairs
+    array-set-from-pairs
+    add-i
+    loop-less
+    loop-again
+    returns)

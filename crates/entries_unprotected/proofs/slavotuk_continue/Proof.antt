@@ -1,0 +1,56 @@
+use Rattle.entries_unprotected.proofs.Rules.{rules}
+use Rattle.entries_unprotected.proofs.slavotuk_continue.Statement.{statement}
+use Rattle.entries_unprotected.proofs.slavotuk_continue.Tie as tie
+
+read-name-requires : tie.Need-read-name-requires
+read-name-requires c κs = search rules
+
+is-ready-requires : tie.Need-is-ready-requires
+is-ready-requires c κs = search rules
+
+cast-result : tie.Need-cast-result
+cast-result c = search rules
+
+same-length : tie.Need-same-length
+same-length c = search rules
+
+returns : tie.Need-returns
+returns c = search rules
+
+read-requires : tie.Need-read-requires
+read-requires c κs = search rules
+
+session-of-requires : tie.Need-session-of-requires
+session-of-requires c κs = search rules
+
+credential-of-requires : tie.Need-credential-of-requires
+credential-of-requires c κs = search rules
+
+continue-saved-requires : tie.Need-continue-saved-requires
+continue-saved-requires c κs = search rules
+
+store-requires : tie.Need-store-requires
+store-requires c κs = search rules
+
+same-length-2 : tie.Need-same-length-2
+same-length-2 c = search rules
+
+returns-2 : tie.Need-returns-2
+returns-2 c = search rules
+
+pub slavotuk-continue-spec : {M : Type 1} → statement M
+slavotuk-continue-spec =
+    tie.close
+    (tie.spec
+    read-name-requires
+    is-ready-requires
+    cast-result
+    same-length
+    returns
+    read-requires
+    session-of-requires
+    credential-of-requires
+    continue-saved-requires
+    store-requires
+    same-length-2
+    returns-2)

@@ -1,0 +1,64 @@
+use Rattle.entries_unprotected.proofs.Rules.{rules}
+use Rattle.entries_unprotected.proofs.slavotuk_elevate.Statement.{statement}
+use Rattle.entries_unprotected.proofs.slavotuk_elevate.Tie as tie
+
+read-name-requires : tie.Need-read-name-requires
+read-name-requires c κs = search rules
+
+is-flag-requires : tie.Need-is-flag-requires
+is-flag-requires c κs = search rules
+
+both-requires : tie.Need-both-requires
+both-requires c κs = search rules
+
+is-ready-requires : tie.Need-is-ready-requires
+is-ready-requires c κs = search rules
+
+cast-result : tie.Need-cast-result
+cast-result c = search rules
+
+same-length : tie.Need-same-length
+same-length c = search rules
+
+returns : tie.Need-returns
+returns c = search rules
+
+read-requires : tie.Need-read-requires
+read-requires c κs = search rules
+
+session-of-requires : tie.Need-session-of-requires
+session-of-requires c κs = search rules
+
+credential-of-requires : tie.Need-credential-of-requires
+credential-of-requires c κs = search rules
+
+elevate-requires : tie.Need-elevate-requires
+elevate-requires c κs = search rules
+
+store-requires : tie.Need-store-requires
+store-requires c κs = search rules
+
+same-length-2 : tie.Need-same-length-2
+same-length-2 c = search rules
+
+returns-2 : tie.Need-returns-2
+returns-2 c = search rules
+
+pub slavotuk-elevate-spec : {M : Type 1} → statement M
+slavotuk-elevate-spec =
+    tie.close
+    (tie.spec
+    read-name-requires
+    is-flag-requires
+    both-requires
+    is-ready-requires
+    cast-result
+    same-length
+    returns
+    read-requires
+    session-of-requires
+    credential-of-requires
+    elevate-requires
+    store-requires
+    same-length-2
+    returns-2)

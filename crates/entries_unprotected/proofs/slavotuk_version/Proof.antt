@@ -1,0 +1,9 @@
+use Rattle.entries_unprotected.proofs.Rules.{rules}
+use Rattle.entries_unprotected.proofs.slavotuk_version.Statement.{statement}
+use Rattle.entries_unprotected.proofs.slavotuk_version.Tie as tie
+
+returns : tie.Need-returns
+returns c = search rules
+
+pub slavotuk-version-spec : {M : Type 1} → statement M
+slavotuk-version-spec = tie.close (tie.spec returns)

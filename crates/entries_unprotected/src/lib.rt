@@ -1,0 +1,219 @@
+// The calls without a claim as programs in C and Rust call them: numbers and byte slices, the state in a slice that they lend. Also a fresh module,
+// whether a slice holds a state, and the library's version.
+ghost use mathlib.Core.Path.{_≡_};
+ghost use mathlib.Core.Bool.{true, _&&_};
+ghost use lib.ListN.{length};
+ghost use Rattle.rows.specs.Bytes.{byteOf};
+ghost use Rattle.names.specs.Names.{readName};
+ghost use Rattle.claims.specs.Module.{credentialCount};
+ghost use Rattle.calls.specs.Calls.{Open, Close, Select, Start, Continue, Elevate, Drop};
+ghost use Rattle.state_record.specs.Entry.{holdsNumber, Entry};
+ghost use Rattle.arguments.specs.Arguments.{sessionOf, credentialOf, isFlag, flagOf, pairsOf};
+ghost use Rattle.entries_unprotected.specs.Fresh.{FreshEntry};
+ghost use Rattle.entries_unprotected.specs.Version.{libraryVersion};
+use claims::ARGUMENT;
+use claims::CREDENTIALS;
+use claims::DONE;
+use claims::Grants;
+use layout::STATE_LENGTH;
+
+// ---- the calls
+
+#[no_mangle]
+pub extern "C" fn slavotuk_open(state: &mut [u8], session: u32) -> u32
+    ensures { λ r. ⌜ Entry true (now (state .entry)) (Open (sessionOf session)) r (now (state .exit)) ⌝ }
+{
+    if !state_record::is_ready(true, state) {
+        return ARGUMENT as u32;
+    }
+    let st = state_read::read(state);
+    state_store::store(
+        state,
+        outcomes_unprotected::open_session(st, arguments::session_of(session)),
+    )
+}
+
+#[no_mangle]
+pub extern "C" fn slavotuk_close(state: &mut [u8], session: u32) -> u32
+    ensures { λ r. ⌜ Entry true (now (state .entry)) (Close (sessionOf session)) r (now (state .exit)) ⌝ }
+{
+    if !state_record::is_ready(true, state) {
+        return ARGUMENT as u32;
+    }
+    let st = state_read::read(state);
+    state_store::store(
+        state,
+        outcomes_unprotected::close_session(st, arguments::session_of(session)),
+    )
+}
+
+#[no_mangle]
+pub extern "C" fn slavotuk_select(state: &mut [u8], session: u32, version: u32) -> u32
+    ensures { λ r. ⌜ Entry true (now (state .entry)) (Select (sessionOf session) (byteOf version)) r (now (state .exit)) ⌝ }
+{
+    if !state_record::is_ready(true, state) {
+        return ARGUMENT as u32;
+    }
+    let st = state_read::read(state);
+    state_store::store(
+        state,
+        outcomes_unprotected::select_version(
+            st,
+            arguments::session_of(session),
+            rows::byte_of(version as usize),
+        ),
+    )
+}
+
+#[no_mangle]
+pub extern "C" fn slavotuk_start(
+    state: &mut [u8],
+    session: u32,
+    credential: u32,
+    name: &[u8],
+) -> u32
+    ensures { λ r. ⌜ Entry (readName (now (name .entry)) .fits) (now (state .entry)) (Start (sessionOf session) (credentialOf credential) (readName (now (name .entry)) .name)) r (now (state .exit)) ⌝ }
+{
+    let read = names::read_name(name);
+    if !state_record::is_ready(read.fits, state) {
+        return ARGUMENT as u32;
+    }
+    let st = state_read::read(state);
+    state_store::store(
+        state,
+        outcomes_unprotected::start(
+            st,
+            arguments::session_of(session),
+            arguments::credential_of(credential),
+            read.name,
+        ),
+    )
+}
+
+#[no_mangle]
+pub extern "C" fn slavotuk_continue(
+    state: &mut [u8],
+    session: u32,
+    credential: u32,
+    name: &[u8],
+) -> u32
+    ensures { λ r. ⌜ Entry (readName (now (name .entry)) .fits) (now (state .entry)) (Continue (sessionOf session) (credentialOf credential) (readName (now (name .entry)) .name)) r (now (state .exit)) ⌝ }
+{
+    let read = names::read_name(name);
+    if !state_record::is_ready(read.fits, state) {
+        return ARGUMENT as u32;
+    }
+    let st = state_read::read(state);
+    state_store::store(
+        state,
+        outcomes_unprotected::continue_saved(
+            st,
+            arguments::session_of(session),
+            arguments::credential_of(credential),
+            read.name,
+        ),
+    )
+}
+
+#[no_mangle]
+pub extern "C" fn slavotuk_elevate(
+    state: &mut [u8],
+    session: u32,
+    credential: u32,
+    name: &[u8],
+    verdict: u32,
+) -> u32
+    ensures { λ r. ⌜ Entry (readName (now (name .entry)) .fits && isFlag verdict) (now (state .entry)) (Elevate (sessionOf session) (credentialOf credential) (readName (now (name .entry)) .name) (flagOf verdict)) r (now (state .exit)) ⌝ }
+{
+    let read = names::read_name(name);
+    if !state_record::is_ready(
+        arguments::both(read.fits, arguments::is_flag(verdict)),
+        state,
+    ) {
+        return ARGUMENT as u32;
+    }
+    let st = state_read::read(state);
+    state_store::store(
+        state,
+        outcomes_unprotected::elevate(
+            st,
+            arguments::session_of(session),
+            arguments::credential_of(credential),
+            read.name,
+            verdict == 1,
+        ),
+    )
+}
+
+#[no_mangle]
+pub extern "C" fn slavotuk_drop(state: &mut [u8], session: u32) -> u32
+    ensures { λ r. ⌜ Entry true (now (state .entry)) (Drop (sessionOf session)) r (now (state .exit)) ⌝ }
+{
+    if !state_record::is_ready(true, state) {
+        return ARGUMENT as u32;
+    }
+    let st = state_read::read(state);
+    state_store::store(
+        state,
+        outcomes_unprotected::drop_elevation(st, arguments::session_of(session)),
+    )
+}
+
+// ---- a fresh module
+
+fn pairs_of(provisioned: &[u8], words: &[u32]) -> [Grants; CREDENTIALS]
+    requires { ⌜ (length (now provisioned) ≡ credentialCount) × (length (now words) ≡ credentialCount) ⌝ }
+    ensures { λ r. ⌜ r ≡ pairsOf (now (provisioned .entry)) (now (words .entry)) ⌝ }
+{
+    let none = Grants {
+        provisioned: false,
+        word: 0,
+    };
+    let mut pairs = [none; CREDENTIALS];
+    let mut i: usize = 0;
+    while i < CREDENTIALS {
+        pairs[i] = Grants {
+            provisioned: provisioned[i] == 1,
+            word: words[i],
+        };
+        i += 1;
+    }
+    pairs
+}
+
+#[no_mangle]
+pub extern "C" fn slavotuk_fresh(state: &mut [u8], provisioned: &[u8], words: &[u32]) -> u32
+    ensures { λ r. ⌜ FreshEntry (now (state .entry)) (now (provisioned .entry)) (now (words .entry)) r (now (state .exit)) ⌝ }
+{
+    if state.len() != STATE_LENGTH {
+        return ARGUMENT as u32;
+    }
+    if !arguments::are_pairs(provisioned, words) {
+        return ARGUMENT as u32;
+    }
+    let next = effects::fresh(pairs_of(provisioned, words));
+    state_write::write(state, next);
+    DONE as u32
+}
+
+// ---- about a slice, and about the library
+
+#[no_mangle]
+pub extern "C" fn slavotuk_holds(state: &[u8]) -> u32
+    ensures { λ r. ⌜ r ≡ holdsNumber (now (state .entry)) ⌝ }
+{
+    if state_test::holds(state) {
+        return DONE as u32;
+    }
+    ARGUMENT as u32
+}
+
+// major * 65536 + minor * 256 + patch: include/slavotuk.h and host/Cargo.toml have the same version
+const LIBRARY_VERSION: u32 = 0x010000;
+
+#[no_mangle]
+pub extern "C" fn slavotuk_version() -> u32
+    ensures { λ r. ⌜ r ≡ libraryVersion ⌝ }
+{
+    LIBRARY_VERSION
+}

@@ -1,9 +1,0 @@
-use Rattle.host.proofs.Rules.{rules}
-use Rattle.host.proofs.slavotuk_version.Statement.{statement}
-use Rattle.host.proofs.slavotuk_version.Tie as tie
-
-returns : tie.Need-returns
-returns c = search rules
-
-pub slavotuk-version-spec : {M : Type 1} → statement M
-slavotuk-version-spec = tie.close (tie.spec returns)

@@ -1,4 +1,0 @@
-pub mod Fresh
-pub mod Messages
-pub mod Stored
-pub mod Version
