@@ -1,9 +1,9 @@
 use Rattle.layout.specs.Layout.{sessionsAt, sessionSize, sessionFits}
 use Rattle.rows.proofs.Loops.{RowsTo}
 use Prim.Native.Nat.{_-_}
-use Rattle.state_fields.proofs.Rules.{rules}
-use Rattle.state_fields.proofs.sessions_fit.Statement.{statement}
-use Rattle.state_fields.proofs.sessions_fit.Tie as tie
+use Rattle.state_owners.proofs.Rules.{rules}
+use Rattle.state_owners.proofs.sessions_fit.Statement.{statement}
+use Rattle.state_owners.proofs.sessions_fit.Tie as tie
 use Rattle.claims.specs.Module.{sessionCount}
 
 abbrev Inv-loop : tie.InvT-loop

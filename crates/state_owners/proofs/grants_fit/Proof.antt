@@ -1,6 +1,6 @@
-use Rattle.state_fields.proofs.Rules.{rules}
-use Rattle.state_fields.proofs.grants_fit.Statement.{statement}
-use Rattle.state_fields.proofs.grants_fit.Tie as tie
+use Rattle.state_owners.proofs.Rules.{rules}
+use Rattle.state_owners.proofs.grants_fit.Statement.{statement}
+use Rattle.state_owners.proofs.grants_fit.Tie as tie
 
 shared-slice-read-flag : tie.Need-shared-slice-read-flag
 shared-slice-read-flag c = search rules

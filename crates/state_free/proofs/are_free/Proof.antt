@@ -1,7 +1,7 @@
 use Prim.Native.Nat.{_-_}
-use Rattle.state_fields.proofs.Rules.{Parted, rules}
-use Rattle.state_fields.proofs.are_free.Statement.{statement}
-use Rattle.state_fields.proofs.are_free.Tie as tie
+use Rattle.state_free.proofs.Rules.{Parted, rules}
+use Rattle.state_free.proofs.are_free.Statement.{statement}
+use Rattle.state_free.proofs.are_free.Tie as tie
 
 abbrev Inv-loop : tie.InvT-loop
 Inv-loop s n first part second d₀ i₀ d i = Parted s first part second d i
