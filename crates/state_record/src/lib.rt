@@ -26,7 +26,7 @@ fn count_user(state: &mut [u8], s: Session, u: UserClaim, by: Admission)
     requires { ⌜ (by ≡ admission (stateOf (now state)) s (Claim.ByUser u)) × (by .number ≡ 0) ⌝ }
     ensures { λ r. ⌜ now (state .exit) ≡ countedIn (now (state .entry)) s (Claim.ByUser u) ⌝ }
 {
-    state_write::write_next(state, by.place, by.next + 1);
+    state_write_table::write_next(state, by.place, by.next + 1);
 }
 
 fn count(state: &mut [u8], s: Session, claim: Claim, by: Admission)

@@ -1,30 +1,26 @@
 -- The laws that close the needs of this crate's functions by `search rules`: each premise is as a place's record has it.
 -- Assumes nothing.
-use Prim.Native.Nat.{ℕ, _+_, _-_, _*_, _/_, _%_, _<_, _≤_}
-use mathlib.Core.Path.{_≡_, refl, sym, ap, _∙_}
+use Prim.Native.Nat.{ℕ, _+_, _-_, _*_, _<_, _≤_}
+use mathlib.Core.Path.{_≡_, sym, ap, _∙_}
 use mathlib.Core.Bool.{Bool, true, false}
-use mathlib.Core.List.{List, [], _∷_, _++_, map, append-assoc}
+use mathlib.Core.List.{List, [], _∷_, map, append-assoc}
 use native.Mathlib.Omega.{arith}
 use borrow.Author.Needs.{needs}
-use borrow.Author.Tests.{eq-eqb, ne-eqb, lt-ltb, le-ltb}
-use borrow.Rule.Slice.PartMut.{putMid, same-len-mid}
-use lib.ListN.{length, take, drop, getD, set, length-set, length-take, length-drop, drop-of-length-le}
+use borrow.Rule.Slice.PartMut.{putMid}
+use lib.ListN.{length, take, drop, getD, set, length-set, length-drop, length-append}
+use lib.Seq.{length-take-le}
 use Rattle.lists.specs.Lists.{join}
 use Rattle.rows.specs.Bytes.{bytesOf, byteOf}
 use Rattle.lists.proofs.Lists.{length-mapped}
 use Rattle.rows.specs.Rows.{over, Put}
 use Rattle.rows.proofs.Bytes.{length-bytes}
-use Rattle.rows.proofs.Over.{over-length, over-part, over-set, put-byte, put-length, put-next, put-whole}
+use Rattle.rows.proofs.Over.{over-length, over-room, over-part, over-set, put-byte, put-length, put-next, put-whole}
 use Rattle.rows.proofs.Loops.{Wrote, wrote-begin, wrote-length, wrote-part, wrote-on, wrote-all}
-use Rattle.names.specs.Names.{nameIn, nameLength}
-use Rattle.names.proofs.Laws.{name-in}
-use Rattle.table.proofs.Rules.{noProcess}
-use Rattle.table.specs.declared.Process.{Process}
 use Rattle.claims.specs.Module.{closedSession, unprovisioned, sessionCount, credentialCount}
 use Rattle.claims.specs.declared.Grants.{Grants}
 use Rattle.claims.specs.declared.SessionState.{SessionState}
 use Rattle.claims.specs.declared.State.{State}
-use Rattle.layout.specs.Layout.{flagAt, wordAt, ownerAt, kindAt, sessionAt, nameAt, credentialSize, nextAt, placeSize, sessionsAt, sessionSize, credentialsAt, countAt, placesAt, stateLength, phaseByte, sessionBytes, flagNumber, grantsBytes, processBytes, stateBytes, stateWritten, nextWritten, kindByte}
+use Rattle.layout.specs.Layout.{flagAt, wordAt, credentialSize, placeSize, sessionsAt, sessionSize, credentialsAt, countAt, stateLength, phaseByte, sessionBytes, flagNumber, grantsBytes, processBytes, stateBytes, stateWritten}
 use Rattle.layout.proofs.Laws.{state-written, state-not-written}
 use Rattle.table.specs.Table.{places}
 
@@ -46,34 +42,6 @@ module _ (part : List ℕ) (g : Grants) (f : ℕ) (h : length part ≡ credentia
       let flag-put : Put flagAt 1 (f ∷ []) part (set part flagAt f) = put-byte flagAt f part (omega arith) in
       let word-put : Put wordAt 4 (bytesOf 4 (g .word)) (set part flagAt f) new = record { long = length-bytes 4 (g .word); is = p } in
       put-whole (put-next flag-put word-put (omega arith)) h ∙ rw e
-
-module _ (part : List ℕ) (p : Process) (c k s : ℕ) {a : List ℕ} (h : length part ≡ placeSize)
-    (q : a ≡ over nextAt 2 (bytesOf 2 (p .next)) (set (set (set part ownerAt c) kindAt k) sessionAt s)) where
-  next-put : Put nextAt 2 (bytesOf 2 (p .next)) (set (set (set part ownerAt c) kindAt k) sessionAt s) a
-  next-put = record { long = length-bytes 2 (p .next); is = q }
-
-  stored : length a ≡ length part
-  stored = put-length next-put ∙ simp length-set
-
-  pub process-end : placeSize ≤ length a
-  process-end = omega (arith, stored)
-
-  pub process-same : (ys : List ℕ) → length ys ≡ length (take nameLength (drop nameAt a)) → length (putMid nameAt nameLength a ys) ≡ length part
-  process-same ys g = same-len-mid nameAt nameLength a ys g ∙ stored
-
-  pub process-put : {ys : List ℕ} → c ≡ byteOf (p .credential .0) → k ≡ kindByte (p .kind) → s ≡ p .session .0
-      → ys ≡ nameIn (take nameLength (drop nameAt a)) (p .name) → length ys ≡ length (take nameLength (drop nameAt a)) → putMid nameAt nameLength a ys ≡ processBytes p
-  unfolding processBytes
-  process-put {ys} ec ek es e g =
-      let behind : length (take nameLength (drop nameAt a)) ≡ nameLength = simp (length-take, length-drop) (omega (arith, stored)) in
-      let one : Put ownerAt 1 (c ∷ []) part (set part ownerAt c) = put-byte ownerAt c part (omega arith) in
-      let two : Put kindAt 1 (k ∷ []) (set part ownerAt c) (set (set part ownerAt c) kindAt k) = put-byte kindAt k (set part ownerAt c) (simp length-set (omega arith)) in
-      let three : Put sessionAt 1 (s ∷ []) (set (set part ownerAt c) kindAt k) (set (set (set part ownerAt c) kindAt k) sessionAt s) = put-byte sessionAt s (set (set part ownerAt c) kindAt k) (simp length-set (omega arith)) in
-      let name-put : Put nameAt nameLength ys a (putMid nameAt nameLength a ys) = record { long = g ∙ behind; is = over-part nameAt nameLength ys a (omega (arith, stored)) } in
-      let all : putMid nameAt nameLength a ys ≡ (c ∷ k ∷ s ∷ bytesOf 2 (p .next)) ++ ys =
-      put-whole (put-next (put-next (put-next (put-next one two (omega arith)) three (omega arith)) next-put (omega arith)) name-put (omega arith)) h
-      in
-      all ∙ rw (e, name-in (take nameLength (drop nameAt a)) (p .name) behind, ec, ek, es)
 
 -- ---- the rows of an array
 pub rows-length : {A : Type 0} {enc : A → List ℕ} {k off : ℕ} {l : List A} {old new : List ℕ} {i : ℕ} → Wrote enc k off l old new i → length new ≡ length old
@@ -121,53 +89,23 @@ module _ {l : List Grants} {old new : List ℕ} {i : ℕ} (v : Wrote grantsBytes
     pub credentials-all : credentialCount ≤ i → Put credentialsAt (credentialCount * credentialSize) (join (map grantsBytes l)) old new
     credentials-all k = rw h at (wrote-all v (rw h k))
 
-pub places-begin : (l : List Process) (old : List ℕ) → length l ≡ places → length old ≡ stateLength → Wrote processBytes placeSize placesAt l old old 0
-places-begin l old h k = wrote-begin processBytes placeSize placesAt l old (rw h (omega arith))
+-- ---- the parts, one after the other
 
-module _ {l : List Process} {old new : List ℕ} {i : ℕ} (v : Wrote processBytes placeSize placesAt l old new i) where
-  pub places-end : length old ≡ stateLength → i < places → placesAt + i * placeSize + placeSize ≤ length new
-  places-end h k = omega (arith, wrote-length v)
-
-  module _ (h : length l ≡ places) where
-    pub places-part : i < places → length (take (placesAt + i * placeSize + placeSize - (placesAt + i * placeSize)) (drop (placesAt + i * placeSize) new)) ≡ placeSize
-    places-part k = wrote-part v (rw h k)
-
-    pub places-next : {ys : List ℕ} → i < places → ys ≡ processBytes (getD l i noProcess) → length ys ≡ length (take (placesAt + i * placeSize + placeSize - (placesAt + i * placeSize)) (drop (placesAt + i * placeSize) new))
-        → Wrote processBytes placeSize placesAt l old (putMid (placesAt + i * placeSize) (placesAt + i * placeSize + placeSize - (placesAt + i * placeSize)) new ys) (i + 1)
-    places-next k e g = wrote-on v noProcess (rw h k) e g
-
-    pub places-all : places ≤ i → Put placesAt (places * placeSize) (join (map processBytes l)) old new
-    places-all k = rw h at (wrote-all v (rw h k))
-
--- ---- the four parts, one after the other
-pub count-put : (b : List ℕ) (count : ℕ) {n : ℕ} → length b ≡ stateLength → n ≡ byteOf count → Put countAt 1 (byteOf count ∷ []) b (set b countAt n)
-count-put b count {n} h e = rw (← e) (put-byte countAt n b (omega arith))
+-- bytes that were written with room for them, and left the length as it was, are as many as the room
+same-put : {at n : ℕ} {bytes old new : List ℕ} → new ≡ over at n bytes old → length new ≡ length old → at + n ≤ length old → Put at n bytes old new
+same-put {at} {n} {bytes} {old} e m h = record { long = omega (arith, all, length-take-le at old (omega arith), length-drop (at + n) old); is = e }
+  where
+    all : length (take at old) + (length bytes + length (drop (at + n) old)) ≡ length old
+    all = sym (ap length (e ∙ over-room at n bytes old h) ∙ simp length-append) ∙ m
 
 pub written-other : (old : List ℕ) (st : State) → (length old ≡ stateLength → ⊥) → old ≡ stateWritten old st
 written-other old st n = sym (state-not-written old st n)
 
-pub written-all : (old : List ℕ) (st : State) {a b c d : List ℕ} → length old ≡ stateLength
-    → Put sessionsAt (sessionCount * sessionSize) (join (map sessionBytes (st .sessions))) old a → Put credentialsAt (credentialCount * credentialSize) (join (map grantsBytes (st .credentials))) a b → Put countAt 1 (byteOf (st .table .count) ∷ []) b c
-    → Put placesAt (places * placeSize) (join (map processBytes (st .table .places))) c d → d ≡ stateWritten old st
+pub written-all : (old : List ℕ) (st : State) {a b d : List ℕ} → length old ≡ stateLength
+    → Put sessionsAt (sessionCount * sessionSize) (join (map sessionBytes (st .sessions))) old a → Put credentialsAt (credentialCount * credentialSize) (join (map grantsBytes (st .credentials))) a b
+    → d ≡ over countAt (1 + places * placeSize) (byteOf (st .table .count) ∷ join (map processBytes (st .table .places))) b → length d ≡ length b → d ≡ stateWritten old st
 unfolding stateBytes
-written-all old st h p q r t =
-    put-whole (put-next (put-next (put-next p q (omega arith)) r (omega arith)) t (omega arith)) h ∙ rw (state-written old st h) (simp append-assoc)
+written-all old st h p q t m =
+    put-whole (put-next (put-next p q (omega arith)) (same-put t m (omega (arith, put-length p, put-length q))) (omega arith)) h ∙ rw (state-written old st h) (simp append-assoc)
 
--- ---- a next number where it lies
-module _ (b : List ℕ) (at next : ℕ) where
-  pub next-same : {new : List ℕ} → new ≡ over (placesAt + at * placeSize + nextAt) 2 (bytesOf 2 next) b → length new ≡ length b
-  next-same p = ap length p ∙ over-length (placesAt + at * placeSize + nextAt) 2 (bytesOf 2 next) b (length-bytes 2 next)
-
-  pub next-written : {new : List ℕ} → length b ≡ stateLength → at < places → new ≡ over (placesAt + at * placeSize + nextAt) 2 (bytesOf 2 next) b → new ≡ nextWritten b at next
-  unfolding nextWritten
-  next-written h k p = p ∙ rw (eq-eqb (length b) stateLength h, lt-ltb at places k)
-
-  pub next-short : (length b ≡ stateLength → ⊥) → b ≡ nextWritten b at next
-  unfolding nextWritten
-  next-short n = rw (ne-eqb (length b) stateLength n)
-
-  pub next-nowhere : places ≤ at → length b ≡ stateLength → b ≡ nextWritten b at next
-  unfolding nextWritten
-  next-nowhere k h = rw (eq-eqb (length b) stateLength h, le-ltb at places k)
-
-pub ruleset rules = (needs, length-mapped, flag-true, flag-false, grants-same, grants-put, process-end, process-same, process-put, rows-length, sessions-begin, sessions-room, sessions-next, sessions-all, credentials-begin, credentials-end, credentials-part, credentials-next, credentials-all, places-begin, places-end, places-part, places-next, places-all, count-put, written-other, written-all, next-same, next-written, next-short, next-nowhere)
+pub ruleset rules = (needs, length-mapped, flag-true, flag-false, grants-same, grants-put, rows-length, sessions-begin, sessions-room, sessions-next, sessions-all, credentials-begin, credentials-end, credentials-part, credentials-next, credentials-all, written-other, written-all)

@@ -1,36 +1,23 @@
 // The bytes of a state, written into a slice of 681. docs/STATE.md draws the layout.
 ghost use mathlib.Core.Path.{_≡_};
-ghost use mathlib.Core.List.{map, [], _∷_};
+ghost use mathlib.Core.List.{map};
 ghost use Prim.Native.Nat.{_*_};
 ghost use lib.ListN.{length};
 ghost use Rattle.lists.specs.Lists.{join};
-ghost use Rattle.rows.specs.Bytes.{byteOf};
 ghost use Rattle.rows.specs.Rows.{Put};
-ghost use Rattle.layout.specs.Layout.{credentialSize, placeSize, sessionsAt, sessionSize, credentialsAt, countAt, placesAt, stateLength, phaseByte, kindByte, sessionBytes, flagNumber, grantsBytes, processBytes, stateWritten, nextWritten};
+ghost use Rattle.layout.specs.Layout.{credentialSize, sessionsAt, sessionSize, credentialsAt, stateLength, phaseByte, sessionBytes, flagNumber, grantsBytes, stateWritten};
 ghost use Rattle.claims.specs.Module.{sessionCount, credentialCount};
-ghost use Rattle.table.specs.Table.{places};
 use claims::CREDENTIALS;
 use claims::Grants;
 use claims::Phase;
 use claims::SESSIONS;
 use claims::SessionState;
 use claims::State;
-use layout::COUNT_AT;
 use layout::CREDENTIAL_SIZE;
 use layout::CREDENTIALS_AT;
 use layout::FLAG_AT;
-use layout::KIND_AT;
-use layout::NAME_AT;
-use layout::NEXT_AT;
-use layout::OWNER_AT;
-use layout::PLACE_SIZE;
-use layout::PLACES_AT;
-use layout::SESSION_AT;
 use layout::STATE_LENGTH;
 use layout::WORD_AT;
-use names::Kind;
-use table::PLACES;
-use table::Process;
 
 // ---- a session
 
@@ -87,53 +74,6 @@ fn put_credentials(s: &mut [u8], l: [Grants; CREDENTIALS])
     }
 }
 
-// ---- the count
-
-fn put_count(s: &mut [u8], count: usize)
-    requires { ⌜ length (now s) ≡ stateLength ⌝ }
-    ensures { λ r. ⌜ Put countAt 1 (byteOf count ∷ []) (now (s .entry)) (now (s .exit)) ⌝ }
-{
-    s[COUNT_AT] = rows::byte_of(count);
-}
-
-// ---- a place
-
-fn kind_byte(kind: Kind) -> u8
-    ensures { λ r. ⌜ r ≡ kindByte kind ⌝ }
-{
-    match kind {
-        Kind::User => 0,
-        Kind::Elevation => 1,
-        Kind::Saved => 2,
-    }
-}
-
-fn put_process(part: &mut [u8], p: Process)
-    requires { ⌜ length (now part) ≡ placeSize ⌝ }
-    ensures { λ r. ⌜ now (part .exit) ≡ processBytes p ⌝ }
-{
-    let kind = p.kind;
-    part[OWNER_AT] = rows::byte_of(p.credential.0 as usize);
-    part[KIND_AT] = kind_byte(kind);
-    part[SESSION_AT] = p.session.0;
-    rows::put_number16(part, NEXT_AT, p.next);
-    names::put_name(&mut part[NAME_AT..PLACE_SIZE], p.name);
-}
-
-fn put_places(s: &mut [u8], l: [Process; PLACES])
-    requires { ⌜ length (now s) ≡ stateLength ⌝ }
-    ensures { λ r. ⌜ Put placesAt (places * placeSize) (join (map processBytes l)) (now (s .entry)) (now (s .exit)) ⌝ }
-{
-    let mut i: usize = 0;
-    while i < PLACES {
-        let p = l[i];
-        let a = PLACES_AT + i * PLACE_SIZE;
-        let e = a + PLACE_SIZE;
-        put_process(&mut s[a..e], p);
-        i += 1;
-    }
-}
-
 // ---- the whole
 
 // The bytes of a state, in a slice of 681. A slice of another length stays.
@@ -144,22 +84,8 @@ pub fn write(s: &mut [u8], st: State)
         let sessions = st.sessions;
         let credentials = st.credentials;
         let t = st.table;
-        let places = t.places;
         put_sessions(s, sessions);
         put_credentials(s, credentials);
-        put_count(s, t.count);
-        put_places(s, places);
-    }
-}
-
-// The next number of a place, in a slice of 681, and nothing else. A slice of another length stays, and so does one where there is no such place.
-pub fn write_next(s: &mut [u8], at: usize, next: u16)
-    ensures { λ r. ⌜ now (s .exit) ≡ nextWritten (now (s .entry)) at next ⌝ }
-{
-    if s.len() == STATE_LENGTH {
-        if at < PLACES {
-            let a = PLACES_AT + at * PLACE_SIZE;
-            rows::put_number16(s, a + NEXT_AT, next);
-        }
+        state_write_table::put_table(s, t);
     }
 }

@@ -8,11 +8,8 @@ put-sessions-requires c κs = search rules
 put-credentials-requires : tie.Need-put-credentials-requires
 put-credentials-requires c κs = search rules
 
-put-count-requires : tie.Need-put-count-requires
-put-count-requires c κs = search rules
-
-put-places-requires : tie.Need-put-places-requires
-put-places-requires c κs = search rules
+put-table-requires : tie.Need-put-table-requires
+put-table-requires c κs = search rules
 
 same-length : tie.Need-same-length
 same-length c = search rules
@@ -29,8 +26,7 @@ write-spec =
     (tie.spec
     put-sessions-requires
     put-credentials-requires
-    put-count-requires
-    put-places-requires
+    put-table-requires
     same-length
     returns
     returns-2)

@@ -1,6 +1,6 @@
-use Rattle.state_write.proofs.Rules.{process-same, rules}
-use Rattle.state_write.proofs.put_process.Statement.{statement}
-use Rattle.state_write.proofs.put_process.Tie as tie
+use Rattle.state_write_table.proofs.Rules.{process-same, rules}
+use Rattle.state_write_table.proofs.put_process.Statement.{statement}
+use Rattle.state_write_table.proofs.put_process.Tie as tie
 
 cast-byte-of : tie.Need-cast-byte-of
 cast-byte-of c = search rules

@@ -1,6 +1,6 @@
-use Rattle.state_write.proofs.Rules.{rules}
-use Rattle.state_write.proofs.write_next.Statement.{statement}
-use Rattle.state_write.proofs.write_next.Tie as tie
+use Rattle.state_write_table.proofs.Rules.{rules}
+use Rattle.state_write_table.proofs.write_next.Statement.{statement}
+use Rattle.state_write_table.proofs.write_next.Tie as tie
 
 mul-a : tie.Need-mul-a
 mul-a c = search rules

@@ -1,6 +1,6 @@
-use Rattle.state_write.proofs.Rules.{rules}
-use Rattle.state_write.proofs.put_count.Statement.{statement}
-use Rattle.state_write.proofs.put_count.Tie as tie
+use Rattle.state_write_table.proofs.Rules.{rules}
+use Rattle.state_write_table.proofs.put_count.Statement.{statement}
+use Rattle.state_write_table.proofs.put_count.Tie as tie
 
 byte-of-requires : tie.Need-byte-of-requires
 byte-of-requires c κs = search rules

@@ -1,9 +1,9 @@
 use Rattle.layout.specs.Layout.{placeSize, placesAt, processBytes}
 use Rattle.rows.proofs.Loops.{Wrote}
 use Prim.Native.Nat.{_-_}
-use Rattle.state_write.proofs.Rules.{rules}
-use Rattle.state_write.proofs.put_places.Statement.{statement}
-use Rattle.state_write.proofs.put_places.Tie as tie
+use Rattle.state_write_table.proofs.Rules.{rules}
+use Rattle.state_write_table.proofs.put_places.Statement.{statement}
+use Rattle.state_write_table.proofs.put_places.Tie as tie
 use Rattle.table.specs.Table.{places}
 
 abbrev Inv-loop : tie.InvT-loop
