@@ -8,12 +8,6 @@ use Rattle.calls_protected.proofs.is_device.Kinds as is-device-kinds
 use Rattle.calls_protected.proofs.is_device.Reads as is-device
 use Rattle.calls_protected.proofs.record_number.Kinds as record-number-kinds
 use Rattle.calls_protected.proofs.record_number.Reads as record-number
-use Rattle.calls_protected.proofs.among_of.Kinds as among-of-kinds
-use Rattle.calls_protected.proofs.among_of.Reads as among-of
-use Rattle.calls_protected.proofs.message_length.Kinds as message-length-kinds
-use Rattle.calls_protected.proofs.message_length.Reads as message-length
-use Rattle.calls_protected.proofs.list_number.Kinds as list-number-kinds
-use Rattle.calls_protected.proofs.list_number.Reads as list-number
 use Rattle.calls_protected.proofs.reach.Kinds as reach-kinds
 use Rattle.calls_protected.proofs.reach.Reads as reach
 use Rattle.calls_protected.proofs.kill_number.Kinds as kill-number-kinds
@@ -29,15 +23,6 @@ is-device-once κs a x y s t p q = p ∙ sym q
 
 pub record-number-once : OneAnswer 0 record-number-kinds.ps record-number-kinds.r record-number.Post
 record-number-once κs a x y s t p q = p ∙ sym q
-
-pub among-of-once : OneAnswer 0 among-of-kinds.ps among-of-kinds.r among-of.Post
-among-of-once κs a x y s t p q = p ∙ sym q
-
-pub message-length-once : OneAnswer 0 message-length-kinds.ps message-length-kinds.r message-length.Post
-message-length-once κs a x y s t p q = p ∙ sym q
-
-pub list-number-once : OneAnswer 0 list-number-kinds.ps list-number-kinds.r list-number.Post
-list-number-once κs a x y s t p q = p ∙ sym q
 
 pub reach-once : OneAnswer 0 reach-kinds.ps reach-kinds.r reach.Post
 reach-once κs a x y s t p q = p ∙ sym q

@@ -2,12 +2,6 @@
 -- Assumes nothing.
 use mathlib.Core.Path.{sym, _∙_}
 use Rattle.lists.proofs.Once.{OneAnswer}
-use Rattle.calls_unprotected.proofs.open_number.Kinds as open-number-kinds
-use Rattle.calls_unprotected.proofs.open_number.Reads as open-number
-use Rattle.calls_unprotected.proofs.close_number.Kinds as close-number-kinds
-use Rattle.calls_unprotected.proofs.close_number.Reads as close-number
-use Rattle.calls_unprotected.proofs.select_number.Kinds as select-number-kinds
-use Rattle.calls_unprotected.proofs.select_number.Reads as select-number
 use Rattle.calls_unprotected.proofs.start_number.Kinds as start-number-kinds
 use Rattle.calls_unprotected.proofs.start_number.Reads as start-number
 use Rattle.calls_unprotected.proofs.continue_number.Kinds as continue-number-kinds
@@ -16,15 +10,6 @@ use Rattle.calls_unprotected.proofs.elevate_number.Kinds as elevate-num
 use Rattle.calls_unprotected.proofs.elevate_number.Reads as elevate-number
 use Rattle.calls_unprotected.proofs.drop_number.Kinds as drop-number-kinds
 use Rattle.calls_unprotected.proofs.drop_number.Reads as drop-number
-
-pub open-number-once : OneAnswer 0 open-number-kinds.ps open-number-kinds.r open-number.Post
-open-number-once κs a x y s t p q = p ∙ sym q
-
-pub close-number-once : OneAnswer 0 close-number-kinds.ps close-number-kinds.r close-number.Post
-close-number-once κs a x y s t p q = p ∙ sym q
-
-pub select-number-once : OneAnswer 0 select-number-kinds.ps select-number-kinds.r select-number.Post
-select-number-once κs a x y s t p q = p ∙ sym q
 
 pub start-number-once : OneAnswer 0 start-number-kinds.ps start-number-kinds.r start-number.Post
 start-number-once κs a x y s t p q = p ∙ sym q

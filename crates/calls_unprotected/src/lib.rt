@@ -1,11 +1,11 @@
-// What each call without a claim asks: its tests in their order, and the number that it answers.
+// What start, continue, elevate and drop ask: their tests in their order, and the number that each answers.
 ghost use mathlib.Core.Path.{_≡_};
 ghost use Rattle.claims.specs.Numbers.{_when_, _unless_, _▸_};
 ghost use Rattle.claims.specs.Numbers as No;
 ghost use Rattle.claims.specs.Module.{isCredential, provisioned};
 ghost use Rattle.claims.specs.Claim.{entered};
 ghost use Rattle.table.specs.declared.Among.the-variants.{All};
-ghost use Rattle.calls.specs.Calls.{Open, Close, Select, Start, Continue, Elevate, Drop, isVersion, isFull, hasNamed, number};
+ghost use Rattle.calls.specs.Calls.{Start, Continue, Elevate, Drop, isFull, hasNamed, number};
 use claims::ALREADY_ACTIVE;
 use claims::ARGUMENT;
 use claims::CREDENTIAL;
@@ -13,64 +13,13 @@ use claims::DONE;
 use claims::FULL;
 use claims::NAME_TAKEN;
 use claims::NO_PROCESS;
-use claims::SESSION;
 use claims::State;
 use claims::VERDICT;
-use claims::VERSION;
 use names::Credential;
 use names::Name;
 use names::Session;
 use table::Active;
 use table::Among;
-
-// ---- open, close, select
-
-pub fn open_number(st: State, s: Session) -> u8
-    ensures { λ r. ⌜ r ≡ number st (Open s) ⌝ }
-{
-    if !claims::is_handle(s) {
-        return ARGUMENT;
-    }
-    if !claims::is_closed(st, s) {
-        return SESSION;
-    }
-    DONE
-}
-
-pub fn close_number(st: State, s: Session) -> u8
-    ensures { λ r. ⌜ r ≡ number st (Close s) ⌝ }
-{
-    if !claims::is_handle(s) {
-        return ARGUMENT;
-    }
-    if claims::is_closed(st, s) {
-        return SESSION;
-    }
-    DONE
-}
-
-fn is_version(byte: u8) -> bool
-    ensures { λ r. ⌜ r ≡ isVersion byte ⌝ }
-{
-    byte == 0x10
-}
-
-pub fn select_number(st: State, s: Session, byte: u8) -> u8
-    ensures { λ r. ⌜ r ≡ number st (Select s byte) ⌝ }
-{
-    if !claims::is_handle(s) {
-        return ARGUMENT;
-    }
-    if claims::is_closed(st, s) {
-        return SESSION;
-    }
-    if !is_version(byte) {
-        return VERSION;
-    }
-    DONE
-}
-
-// ---- start, continue, elevate, drop
 
 // The tests that start, continue and elevate begin with.
 fn known_number(st: State, s: Session, c: Credential) -> u8

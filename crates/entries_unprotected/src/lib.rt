@@ -29,7 +29,7 @@ pub extern "C" fn slavotuk_open(state: &mut [u8], session: u32) -> u32
     let st = state_read::read(state);
     state_store::store(
         state,
-        outcomes_unprotected::open_session(st, arguments::session_of(session)),
+        outcomes_session::open_session(st, arguments::session_of(session)),
     )
 }
 
@@ -43,7 +43,7 @@ pub extern "C" fn slavotuk_close(state: &mut [u8], session: u32) -> u32
     let st = state_read::read(state);
     state_store::store(
         state,
-        outcomes_unprotected::close_session(st, arguments::session_of(session)),
+        outcomes_session::close_session(st, arguments::session_of(session)),
     )
 }
 
@@ -57,7 +57,7 @@ pub extern "C" fn slavotuk_select(state: &mut [u8], session: u32, version: u32) 
     let st = state_read::read(state);
     state_store::store(
         state,
-        outcomes_unprotected::select_version(
+        outcomes_session::select_version(
             st,
             arguments::session_of(session),
             rows::byte_of(version as usize),

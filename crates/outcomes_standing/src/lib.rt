@@ -31,7 +31,7 @@ pub fn list(st: State, s: Session, claim: Claim, wanted: Wanted, room: usize) ->
     ensures { λ r. ⌜ r ≡ listed st s claim wanted room ⌝ }
 {
     let by = claim_admission::admit(st, s, claim);
-    let n = calls_protected::list_number(st, by, wanted, room);
+    let n = calls_listing::list_number(st, by, wanted, room);
     if n != DONE {
         return Listed {
             outcome: effects::refused_claim(st, n, claim),
@@ -40,7 +40,7 @@ pub fn list(st: State, s: Session, claim: Claim, wanted: Wanted, room: usize) ->
     }
     Listed {
         outcome: effects::accepted(claim_count::counted_by(st, claim, by.place)),
-        length: calls_protected::message_length(st, wanted),
+        length: calls_listing::message_length(st, wanted),
     }
 }
 

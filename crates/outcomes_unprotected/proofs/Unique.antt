@@ -2,12 +2,6 @@
 -- Assumes nothing.
 use mathlib.Core.Path.{sym, _∙_}
 use Rattle.lists.proofs.Once.{OneAnswer}
-use Rattle.outcomes_unprotected.proofs.open_session.Kinds as open-session-kinds
-use Rattle.outcomes_unprotected.proofs.open_session.Reads as open-session
-use Rattle.outcomes_unprotected.proofs.close_session.Kinds as close-session-kinds
-use Rattle.outcomes_unprotected.proofs.close_session.Reads as close-session
-use Rattle.outcomes_unprotected.proofs.select_version.Kinds as select-version-kinds
-use Rattle.outcomes_unprotected.proofs.select_version.Reads as select-version
 use Rattle.outcomes_unprotected.proofs.start.Kinds as start-kinds
 use Rattle.outcomes_unprotected.proofs.start.Reads as start
 use Rattle.outcomes_unprotected.proofs.continue_saved.Kinds as continue-saved-kinds
@@ -16,15 +10,6 @@ use Rattle.outcomes_unprotected.proofs.elevate.Kinds as elevate-kinds
 use Rattle.outcomes_unprotected.proofs.elevate.Reads as elevate
 use Rattle.outcomes_unprotected.proofs.drop_elevation.Kinds as drop-elevation-kinds
 use Rattle.outcomes_unprotected.proofs.drop_elevation.Reads as drop-elevation
-
-pub open-session-once : OneAnswer 0 open-session-kinds.ps open-session-kinds.r open-session.Post
-open-session-once κs a x y s t p q = p ∙ sym q
-
-pub close-session-once : OneAnswer 0 close-session-kinds.ps close-session-kinds.r close-session.Post
-close-session-once κs a x y s t p q = p ∙ sym q
-
-pub select-version-once : OneAnswer 0 select-version-kinds.ps select-version-kinds.r select-version.Post
-select-version-once κs a x y s t p q = p ∙ sym q
 
 pub start-once : OneAnswer 0 start-kinds.ps start-kinds.r start.Post
 start-once κs a x y s t p q = p ∙ sym q

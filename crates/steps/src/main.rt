@@ -100,9 +100,9 @@ fn fresh() -> State {
 
 fn step1(st: State) -> State {
     begin(1);
-    let a = told(outcomes_unprotected::open_session(st, Session(4)));
-    let b = told(outcomes_unprotected::open_session(a, Session(0)));
-    let c = told(outcomes_unprotected::open_session(b, Session(0)));
+    let a = told(outcomes_session::open_session(st, Session(4)));
+    let b = told(outcomes_session::open_session(a, Session(0)));
+    let c = told(outcomes_session::open_session(b, Session(0)));
     end_line();
     c
 }
@@ -110,9 +110,9 @@ fn step1(st: State) -> State {
 fn step2(st: State) -> State {
     begin(2);
     let a = start(st, 0, 0, p());
-    let b = told(outcomes_unprotected::select_version(a, Session(0), 0x20));
-    let c = told(outcomes_unprotected::select_version(b, Session(0), 0x10));
-    let d = told(outcomes_unprotected::select_version(c, Session(0), 0x10));
+    let b = told(outcomes_session::select_version(a, Session(0), 0x20));
+    let c = told(outcomes_session::select_version(b, Session(0), 0x10));
+    let d = told(outcomes_session::select_version(c, Session(0), 0x10));
     end_line();
     d
 }
@@ -208,8 +208,8 @@ fn step10(st: State) -> State {
 fn step11(st: State) -> State {
     begin(11);
     let a = told(outcomes_ending::end(st, Session(0), by(0, 2), true));
-    let b = told(outcomes_unprotected::open_session(a, Session(1)));
-    let c = told(outcomes_unprotected::select_version(b, Session(1), 0x10));
+    let b = told(outcomes_session::open_session(a, Session(1)));
+    let c = told(outcomes_session::select_version(b, Session(1), 0x10));
     let d = told(outcomes_unprotected::continue_saved(c, Session(1), Credential(0), q()));
     let e = told(outcomes_unprotected::continue_saved(d, Session(1), Credential(0), p()));
     let t = e.table;

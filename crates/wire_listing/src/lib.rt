@@ -21,7 +21,7 @@ use wire::AUTH_PROCESSES;
 fn is_wanted(p: Process, wanted: Wanted) -> bool
     ensures { λ r. ⌜ r ≡ isAmong (amongOf wanted) p ⌝ }
 {
-    let among = calls_protected::among_of(wanted);
+    let among = calls_listing::among_of(wanted);
     table::is_among(p, among)
 }
 
@@ -42,7 +42,7 @@ fn row_of(p: Process) -> Row
 fn row_count(t: Table, wanted: Wanted) -> usize
     ensures { λ r. ⌜ r ≡ length (rowsAmong wanted (standing t)) ⌝ }
 {
-    let rows = calls_protected::among_of(wanted);
+    let rows = calls_listing::among_of(wanted);
     table_search::count_among(t, rows)
 }
 

@@ -1,0 +1,41 @@
+use Rattle.calls.specs.Calls.{number}
+use Rattle.calls.proofs.Rules.{rules}
+use Rattle.calls_session.proofs.select_number.Statement.{statement}
+use Rattle.calls_session.proofs.select_number.Tie as tie
+
+is-handle-requires : tie.Need-is-handle-requires
+is-handle-requires c κs = search rules
+
+returns : tie.Need-returns
+unfolding number
+returns c = search rules
+
+is-closed-requires : tie.Need-is-closed-requires
+is-closed-requires c κs = search rules
+
+returns-2 : tie.Need-returns-2
+unfolding number
+returns-2 c = search rules
+
+is-version-requires : tie.Need-is-version-requires
+is-version-requires c κs = search rules
+
+returns-3 : tie.Need-returns-3
+unfolding number
+returns-3 c = search rules
+
+returns-4 : tie.Need-returns-4
+unfolding number
+returns-4 c = search rules
+
+pub select-number-spec : {M : Type 1} → statement M
+select-number-spec =
+    tie.close
+    (tie.spec
+    is-handle-requires
+    returns
+    is-closed-requires
+    returns-2
+    is-version-requires
+    returns-3
+    returns-4)
