@@ -1,0 +1,316 @@
+// What the messages of 004 clause 9.2 are made of: their fields, what a field may hold, and what follows the fields.
+ghost use mathlib.Core.Path.{_≡_};
+ghost use mathlib.Core.List.{[], _∷_};
+ghost use lib.ListN.{getD};
+ghost use Rattle.formats.specs.declared.Field.the-variants.{Unused};
+ghost use Rattle.formats.specs.declared.Layout.the-variants.{Capabilities};
+ghost use Rattle.formats.specs.Formats as Formats;
+ghost use Rattle.formats.specs.Formats.{formOf, credential, fieldsOf, restOf};
+
+// A field, by its name in 004. `Change` is the operation that changes parameters or policies, `LockOrUnlock` the other two; `NoErrorData` is the error's
+// data where Table 21 says 0.
+pub enum Field {
+    Unused,
+    AuthVersion,
+    VersionNumberEntryCount,
+    VersionNumberEntry,
+    MessageCaps,
+    AuthProcessCaps,
+    DeviceProvisioningState,
+    AuthRecordProcessTime,
+    BaseAsymAlgo,
+    BaseHashAlgo,
+    SupportedPolicyOwnerIDCount,
+    Change,
+    LockOrUnlock,
+    CredentialID,
+    CredentialType,
+    Reserved,
+    CredentialDataSize,
+    CredAttributes,
+    NumPolicies,
+    RegistryID,
+    VendorIDLen,
+    PolicyVersion,
+    PolicyLen,
+    AuthProcInfoCount,
+    AuthProcessType,
+    StartAttributes,
+    NonceLen,
+    EndAttributes,
+    DataType,
+    SVResetDataTypeCount,
+    SVResetDataTypeLen,
+    ErrorCode,
+    ErrorData,
+    NoErrorData,
+}
+
+// What a field holds: its bytes; of how many values the bits that count say one, 0 where all bits count; and the least and the most that it may say.
+pub struct Form {
+    pub width: usize,
+    pub values: u64,
+    pub least: u64,
+    pub most: u64,
+}
+
+// An element of a list.
+pub enum Part {
+    VersionEntry,
+    ProcessInfo,
+    Owner,
+    Policy,
+    ResetElement,
+}
+
+// What follows the fields. A place is that of a value among the fields.
+pub enum Rest {
+    Exactly(usize),
+    Said(usize),
+    SaidTo(usize, usize),
+    Parts(Part, usize),
+    Never,
+}
+
+// A message, or a piece of a list's element, by what it is made of.
+pub enum Layout {
+    NoMessage,
+    Plain,
+    VersionNumber,
+    OneCredential,
+    ChangeCredential,
+    ChangePolicies,
+    LockOrUnlocking,
+    StartAuth,
+    EndAuth,
+    Reset,
+    CredentialAndName,
+    VersionList,
+    CredentialParameters,
+    PolicyAnswer,
+    StartAuthResponse,
+    Capabilities,
+    ProcessList,
+    NameAlone,
+    PlainError,
+    UnsupportedRequest,
+    Terminated,
+    VendorError,
+    VersionPiece,
+    ProcessPiece,
+    OwnerPiece,
+    PolicyPiece,
+    ResetPiece,
+}
+
+fn between(width: usize, least: u64, most: u64) -> Form
+    ensures { λ r. ⌜ r ≡ Formats.between width least most ⌝ }
+{
+    Form {
+        width: width,
+        values: 0,
+        least: least,
+        most: most,
+    }
+}
+
+fn flags(width: usize, values: u64, most: u64) -> Form
+    ensures { λ r. ⌜ r ≡ Formats.flags width values most ⌝ }
+{
+    Form {
+        width: width,
+        values: values,
+        least: 0,
+        most: most,
+    }
+}
+
+pub fn form_of(field: Field) -> Form
+    ensures { λ r. ⌜ r ≡ formOf field ⌝ }
+{
+    match field {
+        Field::Unused => flags(0, 1, 0),
+        Field::AuthVersion => between(1, 0, 255),
+        Field::VersionNumberEntryCount => between(1, 0, 255),
+        Field::VersionNumberEntry => between(2, 0, 65535),
+        Field::MessageCaps => flags(2, 64, 63),
+        Field::AuthProcessCaps => flags(2, 16, 15),
+        Field::DeviceProvisioningState => between(1, 0, 2),
+        Field::AuthRecordProcessTime => between(1, 0, 31),
+        Field::BaseAsymAlgo => between(8, 0, 18446744073709551615),
+        Field::BaseHashAlgo => between(8, 0, 18446744073709551615),
+        Field::SupportedPolicyOwnerIDCount => between(2, 0, 65535),
+        Field::Change => between(1, 1, 1),
+        Field::LockOrUnlock => between(1, 2, 3),
+        Field::CredentialID => between(2, 0, 65535),
+        Field::CredentialType => between(1, 1, 1),
+        Field::Reserved => flags(4, 1, 0),
+        Field::CredentialDataSize => between(4, 0, 4294967295),
+        Field::CredAttributes => flags(2, 8, 7),
+        Field::NumPolicies => between(2, 1, 65535),
+        Field::RegistryID => between(1, 0, 255),
+        Field::VendorIDLen => between(1, 0, 255),
+        Field::PolicyVersion => between(4, 0, 4294967295),
+        Field::PolicyLen => between(2, 0, 65535),
+        Field::AuthProcInfoCount => between(2, 0, 65535),
+        Field::AuthProcessType => between(1, 0, 2),
+        Field::StartAttributes => flags(1, 2, 1),
+        Field::NonceLen => between(1, 32, 32),
+        Field::EndAttributes => flags(1, 4, 2),
+        Field::DataType => flags(2, 4, 3),
+        Field::SVResetDataTypeCount => between(2, 0, 65535),
+        Field::SVResetDataTypeLen => between(1, 0, 32),
+        Field::ErrorCode => between(1, 0, 255),
+        Field::ErrorData => between(1, 0, 255),
+        Field::NoErrorData => between(1, 0, 0),
+    }
+}
+
+// What follows the fields of a layout.
+pub fn rest_of(layout: Layout) -> Rest
+    ensures { λ r. ⌜ r ≡ restOf layout ⌝ }
+{
+    match layout {
+        Layout::NoMessage => Rest::Never,
+        Layout::Plain => Rest::Exactly(0),
+        Layout::VersionNumber => Rest::Exactly(0),
+        Layout::OneCredential => Rest::Exactly(0),
+        Layout::ChangeCredential => Rest::Said(6),
+        Layout::ChangePolicies => Rest::Parts(Part::Policy, 2),
+        Layout::LockOrUnlocking => Rest::Exactly(0),
+        Layout::StartAuth => Rest::Said(2),
+        Layout::EndAuth => Rest::Exactly(0),
+        Layout::Reset => Rest::Parts(Part::ResetElement, 2),
+        Layout::CredentialAndName => Rest::Exactly(48),
+        Layout::VersionList => Rest::Parts(Part::VersionEntry, 0),
+        Layout::CredentialParameters => Rest::Said(6),
+        Layout::PolicyAnswer => Rest::Parts(Part::Policy, 2),
+        Layout::StartAuthResponse => Rest::Said(1),
+        Layout::Capabilities => Rest::Parts(Part::Owner, 6),
+        Layout::ProcessList => Rest::Parts(Part::ProcessInfo, 0),
+        Layout::NameAlone => Rest::Exactly(48),
+        Layout::PlainError => Rest::Exactly(0),
+        Layout::UnsupportedRequest => Rest::Exactly(0),
+        Layout::Terminated => Rest::Exactly(0),
+        Layout::VendorError => Rest::SaidTo(2, 31),
+        Layout::VersionPiece => Rest::Exactly(0),
+        Layout::ProcessPiece => Rest::Exactly(48),
+        Layout::OwnerPiece => Rest::Said(1),
+        Layout::PolicyPiece => Rest::Said(1),
+        Layout::ResetPiece => Rest::Said(0),
+    }
+}
+
+// The field at a place of one, two or three.
+fn one(at: usize, a: Field) -> Field
+    ensures { λ r. ⌜ r ≡ getD (a ∷ []) at Unused ⌝ }
+{
+    if at == 0 { a } else { Field::Unused }
+}
+
+fn two(at: usize, a: Field, b: Field) -> Field
+    ensures { λ r. ⌜ r ≡ getD (a ∷ b ∷ []) at Unused ⌝ }
+{
+    match at {
+        0 => a,
+        1 => b,
+        _ => Field::Unused,
+    }
+}
+
+fn three(at: usize, a: Field, b: Field, c: Field) -> Field
+    ensures { λ r. ⌜ r ≡ getD (a ∷ b ∷ c ∷ []) at Unused ⌝ }
+{
+    match at {
+        0 => a,
+        1 => b,
+        2 => c,
+        _ => Field::Unused,
+    }
+}
+
+// A field, and the credential structure behind it.
+fn before_credential(at: usize, a: Field) -> Field
+    ensures { λ r. ⌜ r ≡ getD (a ∷ credential) at Unused ⌝ }
+{
+    match at {
+        0 => a,
+        1 => Field::CredentialID,
+        2 => Field::CredentialType,
+        3 => Field::BaseAsymAlgo,
+        4 => Field::BaseHashAlgo,
+        5 => Field::Reserved,
+        6 => Field::CredentialDataSize,
+        _ => Field::Unused,
+    }
+}
+
+fn capability(at: usize) -> Field
+    ensures { λ r. ⌜ r ≡ getD (fieldsOf Capabilities) at Unused ⌝ }
+{
+    match at {
+        0 => Field::MessageCaps,
+        1 => Field::AuthProcessCaps,
+        2 => Field::DeviceProvisioningState,
+        3 => Field::AuthRecordProcessTime,
+        4 => Field::BaseAsymAlgo,
+        5 => Field::BaseHashAlgo,
+        6 => Field::SupportedPolicyOwnerIDCount,
+        _ => Field::Unused,
+    }
+}
+
+// The field at a place of a layout.
+pub fn field_of(layout: Layout, at: usize) -> Field
+    ensures { λ r. ⌜ r ≡ getD (fieldsOf layout) at Unused ⌝ }
+{
+    match layout {
+        Layout::NoMessage => Field::Unused,
+        Layout::Plain => Field::Unused,
+        Layout::VersionNumber => one(at, Field::AuthVersion),
+        Layout::OneCredential => one(at, Field::CredentialID),
+        Layout::ChangeCredential => before_credential(at, Field::Change),
+        Layout::ChangePolicies => three(at, Field::Change, Field::CredentialID, Field::NumPolicies),
+        Layout::LockOrUnlocking => two(at, Field::LockOrUnlock, Field::CredentialID),
+        Layout::StartAuth => three(
+            at,
+            Field::CredentialID,
+            Field::StartAttributes,
+            Field::NonceLen,
+        ),
+        Layout::EndAuth => two(at, Field::CredentialID, Field::EndAttributes),
+        Layout::Reset => three(
+            at,
+            Field::DataType,
+            Field::CredentialID,
+            Field::SVResetDataTypeCount,
+        ),
+        Layout::CredentialAndName => one(at, Field::CredentialID),
+        Layout::VersionList => one(at, Field::VersionNumberEntryCount),
+        Layout::CredentialParameters => before_credential(at, Field::CredAttributes),
+        Layout::PolicyAnswer => three(
+            at,
+            Field::CredAttributes,
+            Field::CredentialID,
+            Field::NumPolicies,
+        ),
+        Layout::StartAuthResponse => two(at, Field::CredentialID, Field::NonceLen),
+        Layout::Capabilities => capability(at),
+        Layout::ProcessList => one(at, Field::AuthProcInfoCount),
+        Layout::NameAlone => Field::Unused,
+        Layout::PlainError => two(at, Field::ErrorCode, Field::NoErrorData),
+        Layout::UnsupportedRequest => two(at, Field::ErrorCode, Field::ErrorData),
+        Layout::Terminated => three(
+            at,
+            Field::ErrorCode,
+            Field::NoErrorData,
+            Field::CredentialID,
+        ),
+        Layout::VendorError => three(at, Field::ErrorCode, Field::ErrorData, Field::VendorIDLen),
+        Layout::VersionPiece => one(at, Field::VersionNumberEntry),
+        Layout::ProcessPiece => two(at, Field::CredentialID, Field::AuthProcessType),
+        Layout::OwnerPiece => two(at, Field::RegistryID, Field::VendorIDLen),
+        Layout::PolicyPiece => two(at, Field::PolicyVersion, Field::PolicyLen),
+        Layout::ResetPiece => one(at, Field::SVResetDataTypeLen),
+    }
+}
