@@ -242,7 +242,7 @@ pub fn read_row(
     })
 }
 
-fn number_of(call: impl FnOnce() -> Result<(), Number>) -> u32 {
+pub(crate) fn number_of(call: impl FnOnce() -> Result<(), Number>) -> u32 {
     call().err().unwrap_or(Number::Done) as u32
 }
 

@@ -2,7 +2,8 @@
 //! error of one is not an error of both. The tests run the compiled archive beside it.
 //!
 //! [`module`] has what the module holds and the calls, in the order of the document's sentences; [`messages`] the listing messages; [`layout`] the state's
-//! 681 bytes; [`entries`] the entries as a host calls them.
+//! 681 bytes; [`entries`] the entries as a host calls them. [`wire`] has all messages of 004 clause 9.2, read by [`wire_read`], written by [`wire_write`], with
+//! their entries in [`wire_entries`] and examples in [`wire_examples`].
 #![forbid(unsafe_code)]
 #![warn(missing_docs)]
 
@@ -10,6 +11,11 @@ pub mod entries;
 pub mod layout;
 pub mod messages;
 pub mod module;
+pub mod wire;
+pub mod wire_entries;
+pub mod wire_examples;
+pub mod wire_read;
+pub mod wire_write;
 
 mod number;
 
@@ -18,3 +24,5 @@ pub use number::Number;
 
 #[cfg(test)]
 mod steps;
+#[cfg(test)]
+mod wire_tests;
