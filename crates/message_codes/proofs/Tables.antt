@@ -1,0 +1,47 @@
+-- No message is missing, and none is there that Tables 16 and 17 have not. Assumes nothing.
+use Prim.Native.Nat.{ℕ}
+use mathlib.Core.Path.{_≡_, refl, sym, ap, _∙_}
+use mathlib.Core.Bool.{Bool, true, false, true≢false}
+use mathlib.Core.List.{List, [], _∷_, _++_, map}
+use Rattle.formats.specs.declared.Layout.{Layout}
+use Rattle.formats.specs.declared.Layout.the-variants.{NoMessage}
+use Rattle.formats.specs.declared.Rest.{Rest}
+use Rattle.formats.specs.declared.Rest.the-variants.{Exactly, Said, SaidTo, Parts, Never}
+use Rattle.formats.specs.Formats.{restOf}
+use Rattle.lists.specs.Each.{Each, each-nil, each-cons}
+use Rattle.lists.proofs.Each.{each-imp}
+use Rattle.message_codes.specs.Codes.{Entry, find, operations, errors, requests, responses, layoutOf}
+
+abbrev pub table-16 : List ℕ
+table-16 = 0x81 ∷ 0x82 ∷ 0x83 ∷ 0x84 ∷ 0x85 ∷ 0x86 ∷ 0x87 ∷ 0x88 ∷ 0x89 ∷ 0x8a ∷ 0x8b ∷ 0x8c ∷ 0x8d ∷ 0x8e ∷ 0x8f ∷ []
+
+abbrev pub table-17 : List ℕ
+table-17 = 0x01 ∷ 0x02 ∷ 0x03 ∷ 0x04 ∷ 0x05 ∷ 0x06 ∷ 0x07 ∷ 0x08 ∷ 0x09 ∷ 0x0a ∷ 0x0b ∷ 0x0c ∷ 0x0d ∷ 0x0e ∷ 0x0f ∷ 0x7f ∷ []
+
+-- the lists have their codes, in their order
+pub requests-all : (chooser : ℕ) → map (λ (e : Entry). e .code) (requests chooser) ≡ table-16
+unfolding requests
+requests-all chooser = refl
+
+pub responses-all : (chooser : ℕ) → map (λ (e : Entry). e .code) (responses chooser) ≡ table-17
+unfolding responses
+responses-all chooser = refl
+
+-- of the layouts, that of no message alone never ends
+abbrev ends : Rest → Bool
+ends (Exactly n) = true
+ends (Said at) = true
+ends (SaidTo at most) = true
+ends (Parts part at) = true
+ends Never = false
+
+is-message : (layout : Layout) → ends (restOf layout) ≡ true → layout ≡ NoMessage → ⊥
+unfolding restOf
+is-message layout h e = true≢false (sym h ∙ ap (λ l. ends (restOf l)) e)
+
+-- and each is a message, where the chooser is 1: a change, and the first error
+pub none-missing : Each (λ (code : ℕ). layoutOf code 1 ≡ NoMessage → ⊥) (table-16 ++ table-17)
+unfolding restOf layoutOf find operations errors requests responses
+none-missing = each-imp (λ code. is-message (layoutOf code 1)) all where
+  all : Each (λ (code : ℕ). ends (restOf (layoutOf code 1)) ≡ true) (table-16 ++ table-17)
+  all = search (each-nil, each-cons) depth 34
