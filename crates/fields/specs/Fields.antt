@@ -1,0 +1,48 @@
+-- The fields of a message of 004 clause 9.2 and of a piece of its lists: which values bytes say, which values may stand there, and the bytes that say them.
+use Prim.Native.Nat.{ℕ, _+_, _%_}
+use mathlib.Core.Bool.{Bool, true, cond, _&&_}
+use mathlib.Core.List.{List, [], _∷_, _++_}
+use lib.Dec.{eqb, leb}
+use lib.ListN.{getD, take, drop}
+use Rattle.lists.specs.Lists.{padded}
+use Rattle.rows.specs.Bytes.{bytesOf, numberOf}
+use Rattle.formats.specs.declared.Field.{Field}
+use Rattle.formats.specs.declared.Field.the-variants.{Unused}
+use Rattle.formats.specs.declared.Form.{Form}
+use Rattle.formats.specs.declared.Layout.{Layout}
+use Rattle.formats.specs.Formats.{formOf, fieldsOf}
+
+-- ---- one field. "Reserved bytes and bits are written zero and ignored on reading": what a number of its bytes means
+unfoldable pub meant : Form → ℕ → ℕ
+meant form n = cond (eqb (form .values) 0) n (n % form .values)
+
+-- a value that 004 has for the field. It has no reserved bit set, since the most that a form allows is below its count of values
+unfoldable pub isAllowed : Form → ℕ → Bool
+isAllowed form value = leb (form .least) value && leb value (form .most)
+
+-- ---- the fields of a layout. Seven values stand for every layout, of which the unused ones are 0
+abbrev pub most : ℕ
+most = 7
+
+unfoldable pub fields : Layout → List Field
+fields layout = padded most Unused (fieldsOf layout)
+
+-- how many bytes they have
+unfoldable pub longOf : List Field → ℕ
+longOf [] = 0
+longOf (f ∷ fs) = formOf f .width + longOf fs
+
+-- the values that bytes say, one field after the other
+unfoldable pub valuesIn : List Field → List ℕ → List ℕ
+valuesIn [] b = []
+valuesIn (f ∷ fs) b = meant (formOf f) (numberOf (take (formOf f .width) b)) ∷ valuesIn fs (drop (formOf f .width) b)
+
+-- each value may stand in its field
+unfoldable pub areAllowed : List Field → List ℕ → Bool
+areAllowed [] values = true
+areAllowed (f ∷ fs) values = isAllowed (formOf f) (getD values 0 0) && areAllowed fs (drop 1 values)
+
+-- the bytes that say them
+unfoldable pub fieldBytes : List Field → List ℕ → List ℕ
+fieldBytes [] values = []
+fieldBytes (f ∷ fs) values = bytesOf (formOf f .width) (getD values 0 0) ++ fieldBytes fs (drop 1 values)
