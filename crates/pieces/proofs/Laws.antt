@@ -1,0 +1,38 @@
+-- The definitions of this crate, for those who use them: a piece, or a part, that stands at the front of bytes ends within them.
+-- Assumes nothing.
+use Prim.Native.Nat.{ℕ, _-_, _≤_}
+use mathlib.Core.Path.{_≡_}
+use mathlib.Core.Bool.{true}
+use mathlib.Core.List.{List}
+use native.Mathlib.Omega.{arith}
+use borrow.Author.Tests.{leb-true}
+use lib.Dec.{leb}
+use lib.ListN.{length, length-drop}
+use Rattle.formats.specs.declared.Layout.{Layout}
+use Rattle.formats.specs.declared.Part.{Part}
+use Rattle.fields.specs.Fields.{fields, areAllowed}
+use Rattle.lists.proofs.Tests.{and-left, and-right}
+use Rattle.pieces.specs.Pieces.{valuesOf, pieceLong, isPiece, first, second, behind, isPart, partLong}
+
+pub is-piece-long : (layout : Layout) (b : List ℕ) → isPiece layout b ≡ true → pieceLong layout b ≤ length b
+unfolding isPiece
+is-piece-long layout b e =
+    leb-true (pieceLong layout b) (length b) (and-left (leb (pieceLong layout b) (length b)) (areAllowed (fields layout) (valuesOf layout b)) e)
+
+module _ (part : Part) (b : List ℕ) (e : isPart part b ≡ true) where
+  pub is-part-first : isPiece (first part) b ≡ true
+  unfolding isPart
+  is-part-first = and-left (isPiece (first part) b) (isPiece (second part) (behind part b)) e
+
+  pub is-part-second : isPiece (second part) (behind part b) ≡ true
+  unfolding isPart
+  is-part-second = and-right (isPiece (first part) b) (isPiece (second part) (behind part b)) e
+
+  second-long : pieceLong (second part) (behind part b) ≤ length b - pieceLong (first part) b
+  unfolding behind
+  second-long =
+      rw length-drop at (is-piece-long (second part) (behind part b) is-part-second)
+
+  pub is-part-long : partLong part b ≤ length b
+  unfolding partLong
+  is-part-long = omega (arith, is-piece-long (first part) b is-part-first, second-long)
