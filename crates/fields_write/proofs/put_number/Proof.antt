@@ -1,0 +1,53 @@
+use Prim.Native.Nat.{_-_}
+use Rattle.fields_write.proofs.Rules.{rules, NumberTo}
+use Rattle.fields_write.proofs.put_number.Statement.{statement}
+use Rattle.fields_write.proofs.put_number.Tie as tie
+
+abbrev Inv-loop : tie.InvT-loop
+Inv-loop buffer₀ at width number rest₀ done₀ buffer rest done = NumberTo at width number buffer₀ buffer rest done
+
+abbrev μ-loop : tie.MeasureT-loop
+μ-loop buffer₀ at width number rest₀ done₀ buffer rest done = width - done
+
+loop-holds : tie.Need-loop-holds Inv-loop μ-loop
+loop-holds c = search rules
+
+cast-buffer : tie.Need-cast-buffer Inv-loop μ-loop
+cast-buffer c = search rules
+
+add-buffer : tie.Need-add-buffer Inv-loop μ-loop
+add-buffer c = search rules
+
+slice-write-buffer : tie.Need-slice-write-buffer Inv-loop μ-loop
+slice-write-buffer c = search rules
+
+add-done : tie.Need-add-done Inv-loop μ-loop
+add-done c = search rules
+
+loop-less : tie.Need-loop-less Inv-loop μ-loop
+loop-less c = search rules
+
+loop-again : tie.Need-loop-again Inv-loop μ-loop
+loop-again c = search rules
+
+same-length : tie.Need-same-length Inv-loop μ-loop
+same-length c = search rules
+
+returns : tie.Need-returns Inv-loop μ-loop
+returns c = search rules
+
+pub put-number-spec : {M : Type 1} → statement M
+put-number-spec =
+    tie.close
+    (tie.spec
+    Inv-loop
+    μ-loop
+    loop-holds
+    cast-buffer
+    add-buffer
+    slice-write-buffer
+    add-done
+    loop-less
+    loop-again
+    same-length
+    returns)
