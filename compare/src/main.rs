@@ -12,6 +12,18 @@ mod run;
 mod sequence;
 mod shrink;
 mod sides;
+#[cfg(test)]
+mod wire;
+#[cfg(test)]
+mod wire_bounds;
+#[cfg(test)]
+mod wire_generate;
+#[cfg(test)]
+mod wire_random;
+#[cfg(test)]
+mod wire_test;
+#[cfg(test)]
+mod wire_tried;
 
 use std::process::ExitCode;
 use std::time::{Duration, SystemTime, UNIX_EPOCH};

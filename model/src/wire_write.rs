@@ -50,7 +50,7 @@ pub fn code_of(message: &Message) -> u8 {
     }
 }
 
-/// The message's bytes. Where a count or a length does not fit its field, they are as many and no message.
+/// The message's bytes. Where a message cannot carry the values they are none, but there are as many.
 pub fn form(message: &Message) -> Vec<u8> {
     let mut bytes = vec![code_of(message), 0];
     match message {
