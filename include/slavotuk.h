@@ -54,7 +54,7 @@ extern "C" {
 
 /* The library's version. Where a call or the state's bytes change, the major number does, and with it the soname. */
 #define SLAVOTUK_VERSION_MAJOR 1
-#define SLAVOTUK_VERSION_MINOR 0
+#define SLAVOTUK_VERSION_MINOR 1
 #define SLAVOTUK_VERSION_PATCH 0
 
 /* The same as one number, in which a later version is larger. */
