@@ -3,7 +3,8 @@
 use crate::entries::{self, RawClaim};
 use std::fmt;
 
-/// A call of one of the entries, with numbers that may be wrong: it is for the module to answer them. It can be read, kept, made again, changed and printed.
+/// A call of one of the entries, with numbers that may be wrong: it is for the module to answer them. It can be read, kept, made again, changed and printed. The
+/// entries for all messages of 004 clause 9.2 are not among them: they have [`Message`](crate::message::Message).
 ///
 /// Each case is named after its entry, and its fields are the entry's parameters after the state. What an entry writes to is a part of the call: before it is made, what stands there; afterwards,
 /// what it has left there. `B` is the buffer of those that are slices.

@@ -127,6 +127,42 @@ mod declared {
             name: *mut u8,
             name_length: usize,
         ) -> u32;
+        pub fn slavotuk_read_message(
+            message: *const u8,
+            message_length: usize,
+            values: *mut u64,
+            values_length: usize,
+            rest: *mut usize,
+        ) -> u32;
+        pub fn slavotuk_write_message(
+            buffer: *mut u8,
+            buffer_length: usize,
+            code: u32,
+            values: *const u64,
+            values_length: usize,
+            rest: *const u8,
+            rest_length: usize,
+            written: *mut usize,
+        ) -> u32;
+        pub fn slavotuk_read_piece(
+            bytes: *const u8,
+            bytes_length: usize,
+            kind: u32,
+            values: *mut u64,
+            values_length: usize,
+            rest: *mut usize,
+            next: *mut usize,
+        ) -> u32;
+        pub fn slavotuk_write_piece(
+            buffer: *mut u8,
+            buffer_length: usize,
+            kind: u32,
+            values: *const u64,
+            values_length: usize,
+            rest: *const u8,
+            rest_length: usize,
+            written: *mut usize,
+        ) -> u32;
     }
 }
 
@@ -384,6 +420,99 @@ pub fn read_row(
             kind,
             name.as_mut_ptr(),
             name.len(),
+        )
+    }
+}
+
+/// How many values the four functions below take or hand out: those of the fields, and 0 for the others.
+pub const MESSAGE_VALUES: usize = 7;
+
+/// The kind of a version entry (Table 25).
+pub const PIECE_VERSION: u32 = 0;
+/// The kind of an Authorization process information (Table 46).
+pub const PIECE_PROCESS: u32 = 1;
+/// The kind of an owner, a header of DSP0293 with its bytes: a part of its own, or the beginning of a policy or of a reset element.
+pub const PIECE_OWNER: u32 = 2;
+/// The kind of what follows the owner in a policy (Table 4).
+pub const PIECE_POLICY: u32 = 3;
+/// The kind of what follows the owner in a reset element (Table 63).
+pub const PIECE_RESET: u32 = 4;
+
+/// Reads a message of 004 clause 9.2: where the number is 0, the values of its fields are handed out, and the place where what follows them begins.
+pub fn read_message(message: &[u8], values: &mut [u64], rest: &mut usize) -> u32 {
+    unsafe {
+        declared::slavotuk_read_message(
+            message.as_ptr(),
+            message.len(),
+            values.as_mut_ptr(),
+            values.len(),
+            rest,
+        )
+    }
+}
+
+/// Writes a message of 004 clause 9.2 to the front of the buffer: its length is handed out where the number is 0.
+pub fn write_message(
+    buffer: &mut [u8],
+    code: u32,
+    values: &[u64],
+    rest: &[u8],
+    written: &mut usize,
+) -> u32 {
+    unsafe {
+        declared::slavotuk_write_message(
+            buffer.as_mut_ptr(),
+            buffer.len(),
+            code,
+            values.as_ptr(),
+            values.len(),
+            rest.as_ptr(),
+            rest.len(),
+            written,
+        )
+    }
+}
+
+/// Reads the piece of a list at the front of the bytes: where the number is 0, the values of its fields are handed out, and the places where what follows
+/// them begins and where the piece ends.
+pub fn read_piece(
+    bytes: &[u8],
+    kind: u32,
+    values: &mut [u64],
+    rest: &mut usize,
+    next: &mut usize,
+) -> u32 {
+    unsafe {
+        declared::slavotuk_read_piece(
+            bytes.as_ptr(),
+            bytes.len(),
+            kind,
+            values.as_mut_ptr(),
+            values.len(),
+            rest,
+            next,
+        )
+    }
+}
+
+/// Writes a piece of a list to the front of the buffer: its length is handed out where the number is 0.
+pub fn write_piece(
+    buffer: &mut [u8],
+    kind: u32,
+    values: &[u64],
+    rest: &[u8],
+    written: &mut usize,
+) -> u32 {
+    unsafe {
+        declared::slavotuk_write_piece(
+            buffer.as_mut_ptr(),
+            buffer.len(),
+            kind,
+            values.as_ptr(),
+            values.len(),
+            rest.as_ptr(),
+            rest.len(),
+            written,
         )
     }
 }

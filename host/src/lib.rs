@@ -54,6 +54,7 @@
 //! | [`Session`], [`Credential`], [`Class`], [`Name`], [`Claim`], [`Wanted`] | what a call is handed |
 //! | [`Refusal`], [`answered`] | document 01's numbers 1 to 15, and those of later archives |
 //! | [`Listing`], [`read_request`], [`write_request`] | the listing messages, for consoles too |
+//! | [`message`] | all messages of 004 clause 9.2 |
 //! | [`entries`] | the archive's entries as they are, with numbers and byte slices |
 //! | [`Call`] | a call of an entry as a value |
 
@@ -64,6 +65,7 @@ mod call;
 #[allow(unsafe_code)]
 pub mod entries;
 mod listing;
+pub mod message;
 mod module;
 mod numbers;
 mod values;
