@@ -142,6 +142,51 @@ static inline const char *slavotuk_number_name(uint32_t number)
 /* The wanted credential of a listing of all processes. */
 #define SLAVOTUK_WANTED_ALL 65535
 
+/* Codes of the messages of 004 clause 9.2: the requests of Table 16, and the responses of Table 17. */
+enum slavotuk_code {
+    SLAVOTUK_GET_AUTH_VERSION = 0x81,
+    SLAVOTUK_SELECT_AUTH_VERSION = 0x82,
+    SLAVOTUK_SET_CRED_ID_PARAMS = 0x83,
+    SLAVOTUK_GET_CRED_ID_PARAMS = 0x84,
+    SLAVOTUK_SET_AUTH_POLICY = 0x85,
+    SLAVOTUK_GET_AUTH_POLICY = 0x86,
+    SLAVOTUK_START_AUTH = 0x87,
+    SLAVOTUK_END_AUTH = 0x88,
+    SLAVOTUK_ELEVATE_PRIVILEGE = 0x89,
+    SLAVOTUK_END_ELEVATED_PRIVILEGE = 0x8a,
+    SLAVOTUK_GET_AUTH_CAPABILITIES = 0x8b,
+    SLAVOTUK_AUTH_RESET_TO_DEFAULT = 0x8c,
+    SLAVOTUK_TAKE_OWNERSHIP = 0x8d,
+    SLAVOTUK_GET_AUTH_PROCESSES = 0x8e,
+    SLAVOTUK_KILL_AUTH_PROCESS = 0x8f,
+    SLAVOTUK_AUTH_VERSION = 0x01,
+    SLAVOTUK_SELECT_AUTH_VERSION_RSP = 0x02,
+    SLAVOTUK_SET_CRED_ID_PARAMS_DONE = 0x03,
+    SLAVOTUK_CRED_ID_PARAMS = 0x04,
+    SLAVOTUK_SET_AUTH_POLICY_DONE = 0x05,
+    SLAVOTUK_AUTH_POLICY = 0x06,
+    SLAVOTUK_START_AUTH_RSP = 0x07,
+    SLAVOTUK_END_AUTH_RSP = 0x08,
+    SLAVOTUK_PRIVILEGE_ELEVATED = 0x09,
+    SLAVOTUK_ELEVATED_PRIVILEGE_ENDED = 0x0a,
+    SLAVOTUK_AUTH_CAPABILITIES = 0x0b,
+    SLAVOTUK_AUTH_DEFAULTS_APPLIED = 0x0c,
+    SLAVOTUK_OWNERSHIP_TAKEN = 0x0d,
+    SLAVOTUK_AUTH_PROCESSES = 0x0e,
+    SLAVOTUK_PROCESS_KILLED = 0x0f,
+    SLAVOTUK_AUTH_ERROR = 0x7f
+};
+
+/* The values of every message and of every piece of a list: those of its fields, and 0 for the others. */
+#define SLAVOTUK_MESSAGE_VALUES 7
+
+/* Kinds of a piece. */
+#define SLAVOTUK_PIECE_VERSION 0
+#define SLAVOTUK_PIECE_PROCESS 1
+#define SLAVOTUK_PIECE_OWNER 2
+#define SLAVOTUK_PIECE_POLICY 3
+#define SLAVOTUK_PIECE_RESET 4
+
 /* ---- the library */
 
 /* The version of the library that is linked, as SLAVOTUK_VERSION_NUMBER has that of this header. */
@@ -337,6 +382,110 @@ uint32_t slavotuk_read_count(const uint8_t *message, size_t message_length, uint
  */
 uint32_t slavotuk_read_row(const uint8_t *message, size_t message_length, size_t at, uint16_t *SLAVOTUK_RESTRICT credential,
                            uint8_t *SLAVOTUK_RESTRICT kind, uint8_t *SLAVOTUK_RESTRICT name, size_t name_length);
+
+/*
+ * ---- all messages of 004 clause 9.2. These take no state
+ *
+ * A message is its code, the values of its fields in their order, and the rest: the bytes that follow the fields. The code and
+ * the reserved byte behind it are no values. A reserved field is one, and is 0; reserved bits are 0 in what is handed out and
+ * may not be set in what is written. The fields have 004's names:
+ *
+ *   GET_AUTH_VERSION, ELEVATE_PRIVILEGE, END_ELEVATED_PRIVILEGE, GET_AUTH_CAPABILITIES, TAKE_OWNERSHIP,
+ *   SELECT_AUTH_VERSION_RSP, SET_CRED_ID_PARAMS_DONE, SET_AUTH_POLICY_DONE, PRIVILEGE_ELEVATED, ELEVATED_PRIVILEGE_ENDED,
+ *   AUTH_DEFAULTS_APPLIED, OWNERSHIP_TAKEN
+ *                            no value, no rest
+ *   SELECT_AUTH_VERSION      AuthVersion
+ *   GET_CRED_ID_PARAMS, GET_AUTH_POLICY, GET_AUTH_PROCESSES, END_AUTH_RSP
+ *                            CredentialID
+ *   SET_CRED_ID_PARAMS       SetCredInfoOp 1, CredentialID, CredentialType, BaseAsymAlgo, BaseHashAlgo, 0, CredentialDataSize;
+ *                            rest: CredentialData
+ *                            SetCredInfoOp 2 or 3, CredentialID
+ *   SET_AUTH_POLICY          SetAuthPolicyOp 1, CredentialID, NumPolicies; rest: Policies
+ *                            SetAuthPolicyOp 2 or 3, CredentialID
+ *   START_AUTH               CredentialID, Attributes, NonceLen; rest: Nonce
+ *   END_AUTH                 CredentialID, Attributes
+ *   AUTH_RESET_TO_DEFAULT    DataType, CredentialID, SVResetDataTypeCount; rest: SVResetDataTypeList
+ *   KILL_AUTH_PROCESS        CredentialID; rest: AuthProcID
+ *   AUTH_VERSION             VersionNumberEntryCount; rest: VersionNumberEntries
+ *   CRED_ID_PARAMS           CredAttributes, CredentialID, CredentialType, BaseAsymAlgo, BaseHashAlgo, 0, CredentialDataSize;
+ *                            rest: CredentialData
+ *   AUTH_POLICY              PolicyAttributes, CredentialID, NumPolicies; rest: Policies
+ *   START_AUTH_RSP           CredentialID, NonceLen; rest: Nonce
+ *   AUTH_CAPABILITIES        MessageCaps, AuthProcessCaps, DeviceProvisioningState, AuthRecordProcessTime,
+ *                            BaseAsymAlgoSupported, BaseHashAlgoSupported, SupportedPolicyOwnerIDCount;
+ *                            rest: SupportedPolicyOwnerIDList
+ *   AUTH_PROCESSES           AuthProcInfoCount; rest: AuthProcInfoList
+ *   PROCESS_KILLED           no value; rest: AuthProcID
+ *   AUTH_ERROR               ErrorCode 0x01 to 0x08 or 0x0a, 0
+ *                            ErrorCode 0x09, ErrorData
+ *                            ErrorCode 0x0b, 0, CredentialID
+ *                            ErrorCode 0xff, ErrorData, VendorIDLen; rest: VendorID and OpaqueErrorData
+ *
+ * A list is its pieces one behind the other. A policy is an owner and a policy piece, a reset element an owner and a reset
+ * piece. To go over a list, read the piece at the front of the rest, then that at the front of what lies behind it; as many as
+ * the count says fill the rest of a message that was read.
+ *
+ *   SLAVOTUK_PIECE_VERSION   VersionNumberEntry
+ *   SLAVOTUK_PIECE_PROCESS   CredentialID, AuthProcessType; rest: AuthProcID
+ *   SLAVOTUK_PIECE_OWNER     ID, VendorIDLen; rest: VendorID
+ *   SLAVOTUK_PIECE_POLICY    PolicyVersion, PolicyLen; rest: Policy
+ *   SLAVOTUK_PIECE_RESET     SVResetDataTypeLen; rest: SVResetDataType
+ */
+
+/*
+ * Reads a message of any code.
+ *
+ *   message  the whole message and no byte more
+ *   values   handed out, into a slice of SLAVOTUK_MESSAGE_VALUES numbers
+ *   rest     handed out: where in the message the rest begins; its length where there is none
+ *
+ * Refused: ARGUMENT, for another count of values and for nothing else; MESSAGE for a code that 004 has not, a length other
+ * than the fields and counts say, or a value that 004 does not allow in its field.
+ */
+uint32_t slavotuk_read_message(const uint8_t *message, size_t message_length, uint64_t *SLAVOTUK_RESTRICT values,
+                               size_t values_length, size_t *SLAVOTUK_RESTRICT rest);
+
+/*
+ * Writes a message to the front of the buffer. Later bytes are not touched.
+ *
+ *   code     of enum slavotuk_code
+ *   values   SLAVOTUK_MESSAGE_VALUES numbers
+ *   rest     what follows the fields
+ *   written  handed out: the message's length
+ *
+ * Refused: ARGUMENT, for another count of values and for nothing else; ROOM for a buffer shorter than the message; MESSAGE
+ * where a message of that code can't carry the values and the rest, also for a code that 004 has not.
+ */
+uint32_t slavotuk_write_message(uint8_t *SLAVOTUK_RESTRICT buffer, size_t buffer_length, uint32_t code, const uint64_t *values,
+                                size_t values_length, const uint8_t *rest, size_t rest_length,
+                                size_t *SLAVOTUK_RESTRICT written);
+
+/*
+ * Reads the piece at the front of some bytes. What lies behind it is not looked at.
+ *
+ *   kind    SLAVOTUK_PIECE_VERSION to SLAVOTUK_PIECE_RESET
+ *   values  handed out, into a slice of SLAVOTUK_MESSAGE_VALUES numbers
+ *   rest    handed out: where its rest begins
+ *   next    handed out: where the piece ends
+ *
+ * Refused: ARGUMENT, for another kind or count of values and for nothing else; MESSAGE where no such piece stands there.
+ */
+uint32_t slavotuk_read_piece(const uint8_t *bytes, size_t bytes_length, uint32_t kind, uint64_t *SLAVOTUK_RESTRICT values,
+                             size_t values_length, size_t *SLAVOTUK_RESTRICT rest, size_t *SLAVOTUK_RESTRICT next);
+
+/*
+ * Writes a piece to the front of the buffer. Later bytes are not touched.
+ *
+ *   kind     SLAVOTUK_PIECE_VERSION to SLAVOTUK_PIECE_RESET
+ *   values   SLAVOTUK_MESSAGE_VALUES numbers
+ *   rest     what follows the fields
+ *   written  handed out: the piece's length
+ *
+ * Refused: ARGUMENT, for another kind or count of values and for nothing else; ROOM for a buffer shorter than the piece;
+ * MESSAGE where a piece of that kind can't carry the values and the rest.
+ */
+uint32_t slavotuk_write_piece(uint8_t *SLAVOTUK_RESTRICT buffer, size_t buffer_length, uint32_t kind, const uint64_t *values,
+                              size_t values_length, const uint8_t *rest, size_t rest_length, size_t *SLAVOTUK_RESTRICT written);
 
 #ifdef __cplusplus
 }

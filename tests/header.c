@@ -14,6 +14,7 @@
 #define ELEVATED SLAVOTUK_CLAIM_ELEVATED, 99, 99, 99
 #define MODULE state, SLAVOTUK_STATE_SIZE
 #define NAMED(last) named(last), SLAVOTUK_NAME_SIZE
+#define VALUES values, SLAVOTUK_MESSAGE_VALUES
 
 #define EXPECT(value, expected) expect(__LINE__, #value, (unsigned long)(value), (unsigned long)(expected))
 
@@ -156,6 +157,30 @@ static void check_nulls(void)
     EXPECT(type, 1);
 }
 
+/* The same of what reads and writes all messages. */
+static void check_message_nulls(void)
+{
+    uint64_t values[SLAVOTUK_MESSAGE_VALUES] = {0};
+    uint8_t message[2] = {SLAVOTUK_TAKE_OWNERSHIP, 0};
+    size_t rest = 9, next = 9;
+    EXPECT(slavotuk_read_message(NULL, 0, VALUES, &rest), SLAVOTUK_REFUSED_MESSAGE);
+    EXPECT(slavotuk_read_message(message, sizeof message, NULL, 0, &rest), SLAVOTUK_REFUSED_ARGUMENT);
+    EXPECT(slavotuk_write_message(NULL, 0, SLAVOTUK_TAKE_OWNERSHIP, VALUES, NULL, 0, &rest), SLAVOTUK_REFUSED_ROOM);
+    EXPECT(slavotuk_write_message(message, sizeof message, SLAVOTUK_TAKE_OWNERSHIP, NULL, 0, NULL, 0, &rest),
+           SLAVOTUK_REFUSED_ARGUMENT);
+    EXPECT(slavotuk_read_piece(NULL, 0, SLAVOTUK_PIECE_VERSION, VALUES, &rest, &next), SLAVOTUK_REFUSED_MESSAGE);
+    EXPECT(slavotuk_read_piece(message, sizeof message, SLAVOTUK_PIECE_VERSION, NULL, 0, &rest, &next),
+           SLAVOTUK_REFUSED_ARGUMENT);
+    EXPECT(slavotuk_write_piece(NULL, 0, SLAVOTUK_PIECE_VERSION, VALUES, NULL, 0, &rest), SLAVOTUK_REFUSED_ROOM);
+    EXPECT(slavotuk_write_piece(message, sizeof message, SLAVOTUK_PIECE_VERSION, NULL, 0, NULL, 0, &rest),
+           SLAVOTUK_REFUSED_ARGUMENT);
+    EXPECT(rest, 9);
+    EXPECT(next, 9);
+    EXPECT(slavotuk_write_message(message, sizeof message, SLAVOTUK_OWNERSHIP_TAKEN, VALUES, NULL, 0, &rest), SLAVOTUK_DONE);
+    EXPECT(rest, 2);
+    EXPECT(message[0], SLAVOTUK_OWNERSHIP_TAKEN);
+}
+
 static void check_sessions(void)
 {
     EXPECT(slavotuk_open(MODULE, SLAVOTUK_SESSIONS), SLAVOTUK_REFUSED_ARGUMENT);
@@ -265,6 +290,132 @@ static void check_request(void)
     free(request);
 }
 
+/* A message of each code: its first values, and how many bytes it has with so many bytes of rest, which are all zero. */
+static const struct {
+    uint32_t code;
+    uint64_t values[SLAVOTUK_MESSAGE_VALUES];
+    size_t fields, rest;
+} samples[] = {
+    {SLAVOTUK_GET_AUTH_VERSION, {0}, 0, 0},
+    {SLAVOTUK_SELECT_AUTH_VERSION, {0x10}, 1, 0},
+    {SLAVOTUK_SET_CRED_ID_PARAMS, {1, 2, 1, 3, 4, 0, 5}, 28, 5},
+    {SLAVOTUK_GET_CRED_ID_PARAMS, {65535}, 2, 0},
+    {SLAVOTUK_SET_AUTH_POLICY, {1, 2, 3}, 5, 24},
+    {SLAVOTUK_GET_AUTH_POLICY, {1}, 2, 0},
+    {SLAVOTUK_START_AUTH, {1, 1, 32}, 4, 32},
+    {SLAVOTUK_END_AUTH, {1, 2}, 3, 0},
+    {SLAVOTUK_ELEVATE_PRIVILEGE, {0}, 0, 0},
+    {SLAVOTUK_END_ELEVATED_PRIVILEGE, {0}, 0, 0},
+    {SLAVOTUK_GET_AUTH_CAPABILITIES, {0}, 0, 0},
+    {SLAVOTUK_AUTH_RESET_TO_DEFAULT, {3, 65535, 2}, 6, 6},
+    {SLAVOTUK_TAKE_OWNERSHIP, {0}, 0, 0},
+    {SLAVOTUK_GET_AUTH_PROCESSES, {SLAVOTUK_WANTED_ALL}, 2, 0},
+    {SLAVOTUK_KILL_AUTH_PROCESS, {7}, 2, SLAVOTUK_NAME_SIZE},
+    {SLAVOTUK_AUTH_VERSION, {2}, 1, 4},
+    {SLAVOTUK_SELECT_AUTH_VERSION_RSP, {0}, 0, 0},
+    {SLAVOTUK_SET_CRED_ID_PARAMS_DONE, {0}, 0, 0},
+    {SLAVOTUK_CRED_ID_PARAMS, {7, 65535, 1, 1, 1, 0, 0}, 29, 0},
+    {SLAVOTUK_SET_AUTH_POLICY_DONE, {0}, 0, 0},
+    {SLAVOTUK_AUTH_POLICY, {7, 2, 1}, 6, 8},
+    {SLAVOTUK_START_AUTH_RSP, {1, 32}, 3, 32},
+    {SLAVOTUK_END_AUTH_RSP, {1}, 2, 0},
+    {SLAVOTUK_PRIVILEGE_ELEVATED, {0}, 0, 0},
+    {SLAVOTUK_ELEVATED_PRIVILEGE_ENDED, {0}, 0, 0},
+    {SLAVOTUK_AUTH_CAPABILITIES, {63, 15, 2, 31, 0xfff, 0x7f, 3}, 24, 6},
+    {SLAVOTUK_AUTH_DEFAULTS_APPLIED, {0}, 0, 0},
+    {SLAVOTUK_OWNERSHIP_TAKEN, {0}, 0, 0},
+    {SLAVOTUK_AUTH_PROCESSES, {2}, 2, 2 * SLAVOTUK_ROW_SIZE},
+    {SLAVOTUK_PROCESS_KILLED, {0}, 0, SLAVOTUK_NAME_SIZE},
+    {SLAVOTUK_AUTH_ERROR, {0xff, 3, 31}, 3, 31},
+};
+
+/* Each code: written into just the room that it takes, read back, and refused in a byte less of both. */
+static void check_messages(void)
+{
+    for (size_t at = 0; at < sizeof samples / sizeof *samples; at++) {
+        const uint64_t *sent = samples[at].values;
+        const size_t begins = 2 + samples[at].fields, length = begins + samples[at].rest;
+        uint8_t *zeros = allocate(samples[at].rest + 1), *message = allocate(length);
+        uint64_t values[SLAVOTUK_MESSAGE_VALUES] = {0};
+        size_t written = 0, rest = 0;
+        memset(zeros, 0, samples[at].rest + 1);
+        EXPECT(slavotuk_write_message(message, length - 1, samples[at].code, sent, SLAVOTUK_MESSAGE_VALUES, zeros,
+                                      samples[at].rest, &written), SLAVOTUK_REFUSED_ROOM);
+        EXPECT(slavotuk_write_message(message, length, samples[at].code, sent, SLAVOTUK_MESSAGE_VALUES - 1, zeros,
+                                      samples[at].rest, &written), SLAVOTUK_REFUSED_ARGUMENT);
+        EXPECT(slavotuk_write_message(message, length, samples[at].code, sent, SLAVOTUK_MESSAGE_VALUES, zeros,
+                                      samples[at].rest, &written), SLAVOTUK_DONE);
+        EXPECT(written, length);
+        EXPECT(message[0], samples[at].code);
+        EXPECT(message[1], 0);
+        EXPECT(slavotuk_read_message(message, length - 1, VALUES, &rest), SLAVOTUK_REFUSED_MESSAGE);
+        EXPECT(slavotuk_read_message(message, length, values, SLAVOTUK_MESSAGE_VALUES - 1, &rest), SLAVOTUK_REFUSED_ARGUMENT);
+        EXPECT(slavotuk_read_message(message, length, VALUES, &rest), SLAVOTUK_DONE);
+        EXPECT(rest, begins);
+        EXPECT(memcmp(values, sent, sizeof values), 0);
+        free(zeros);
+        free(message);
+    }
+}
+
+/* The codes next to those of Tables 16 and 17, and one that has more than a byte. */
+static void check_no_messages(void)
+{
+    const uint32_t codes[] = {0, SLAVOTUK_PROCESS_KILLED + 1, SLAVOTUK_AUTH_ERROR - 1, SLAVOTUK_AUTH_ERROR + 1,
+                              SLAVOTUK_KILL_AUTH_PROCESS + 1, 0xff, 0x100 + SLAVOTUK_TAKE_OWNERSHIP};
+    for (size_t at = 0; at < sizeof codes / sizeof *codes; at++) {
+        uint64_t values[SLAVOTUK_MESSAGE_VALUES] = {0};
+        uint8_t message[2] = {0xee, 0xee};
+        size_t written = 9, rest = 9;
+        EXPECT(slavotuk_write_message(message, 1, codes[at], VALUES, NULL, 0, &written), SLAVOTUK_REFUSED_ROOM);
+        EXPECT(slavotuk_write_message(message, 2, codes[at], VALUES, NULL, 0, &written), SLAVOTUK_REFUSED_MESSAGE);
+        EXPECT(message[0] == 0xee && message[1] == 0xee && written == 9, 1);
+        message[0] = (uint8_t)codes[at];
+        if (codes[at] < 0x100) {
+            EXPECT(slavotuk_read_message(message, 2, VALUES, &rest), SLAVOTUK_REFUSED_MESSAGE);
+            EXPECT(rest, 9);
+        }
+    }
+}
+
+/* A piece of each kind: its values, the bytes of its fields, and of its rest. */
+static void check_pieces(void)
+{
+    static const struct {
+        uint32_t kind;
+        uint64_t values[SLAVOTUK_MESSAGE_VALUES];
+        size_t fields, rest;
+    } pieces[] = {
+        {SLAVOTUK_PIECE_VERSION, {0x1000}, 2, 0},   {SLAVOTUK_PIECE_PROCESS, {65535, SLAVOTUK_TYPE_SAVED_USER}, 3, 48},
+        {SLAVOTUK_PIECE_OWNER, {255, 255}, 2, 255}, {SLAVOTUK_PIECE_POLICY, {UINT32_MAX, 65535}, 6, 65535},
+        {SLAVOTUK_PIECE_RESET, {32}, 1, 32},
+    };
+    for (size_t at = 0; at < sizeof pieces / sizeof *pieces; at++) {
+        const uint64_t *sent = pieces[at].values;
+        const size_t length = pieces[at].fields + pieces[at].rest;
+        uint8_t *ones = allocate(pieces[at].rest + 1), *piece = allocate(length);
+        uint64_t values[SLAVOTUK_MESSAGE_VALUES] = {0};
+        size_t written = 0, rest = 0, next = 0;
+        memset(ones, 1, pieces[at].rest + 1);
+        EXPECT(slavotuk_write_piece(piece, length - 1, pieces[at].kind, sent, SLAVOTUK_MESSAGE_VALUES, ones, pieces[at].rest,
+                                    &written), SLAVOTUK_REFUSED_ROOM);
+        EXPECT(slavotuk_write_piece(piece, length, pieces[at].kind, sent, SLAVOTUK_MESSAGE_VALUES, ones, pieces[at].rest,
+                                    &written), SLAVOTUK_DONE);
+        EXPECT(written, length);
+        EXPECT(slavotuk_read_piece(piece, length - 1, pieces[at].kind, VALUES, &rest, &next), SLAVOTUK_REFUSED_MESSAGE);
+        EXPECT(slavotuk_read_piece(piece, length, pieces[at].kind, VALUES, &rest, &next), SLAVOTUK_DONE);
+        EXPECT(rest, pieces[at].fields);
+        EXPECT(next, length);
+        EXPECT(memcmp(values, sent, sizeof values), 0);
+        EXPECT(memcmp(piece + rest, ones, pieces[at].rest), 0);
+        EXPECT(slavotuk_read_piece(piece, length, SLAVOTUK_PIECE_RESET + 1, VALUES, &rest, &next), SLAVOTUK_REFUSED_ARGUMENT);
+        EXPECT(slavotuk_write_piece(piece, length, SLAVOTUK_PIECE_RESET + 1, VALUES, ones, pieces[at].rest, &written),
+               SLAVOTUK_REFUSED_ARGUMENT);
+        free(ones);
+        free(piece);
+    }
+}
+
 /* The next number of the first process, written where docs/STATE.md has it, as 65535 records would leave it. */
 static void check_spent(void)
 {
@@ -290,6 +441,10 @@ int main(void)
     check_full();
     check_listing();
     check_request();
+    check_message_nulls();
+    check_messages();
+    check_no_messages();
+    check_pieces();
     check_spent();
     free(state);
     free(name);

@@ -29,6 +29,10 @@ static uint8_t request[SLAVOTUK_REQUEST_SIZE];
 static size_t length;
 static uint16_t number;
 static uint8_t type;
+static uint8_t list[2 * (2 + 6 + 2 * SLAVOTUK_NAME_SIZE)];
+static uint8_t message[8 + sizeof list];
+static uint64_t values[SLAVOTUK_MESSAGE_VALUES], handed_out[SLAVOTUK_MESSAGE_VALUES];
+static size_t rest, next;
 
 /* Where the entry's use of the stack begins: below this function's own. */
 static void enter(void)
@@ -78,6 +82,18 @@ static void write_request0(void) { slavotuk_write_request(request, sizeof reques
 static void read_request0(void) { slavotuk_read_request(request, sizeof request, &number); }
 static void read_count0(void) { slavotuk_read_count(listing, length, &number); }
 static void read_row0(void) { slavotuk_read_row(listing, length, 0, &number, &type, name, sizeof name); }
+#define VALUES values, SLAVOTUK_MESSAGE_VALUES
+#define HANDED_OUT handed_out, SLAVOTUK_MESSAGE_VALUES
+static void write_message0(void)
+{
+    slavotuk_write_message(message, sizeof message, SLAVOTUK_AUTH_POLICY, VALUES, list, sizeof list, &length);
+}
+static void read_message0(void) { slavotuk_read_message(message, sizeof message, HANDED_OUT, &rest); }
+static void write_piece0(void)
+{
+    slavotuk_write_piece(list, sizeof list, SLAVOTUK_PIECE_OWNER, VALUES, name, sizeof name, &length);
+}
+static void read_piece0(void) { slavotuk_read_piece(list, sizeof list, SLAVOTUK_PIECE_OWNER, HANDED_OUT, &rest, &next); }
 static void version0(void) { slavotuk_version(); }
 
 /* What is called to come to a state, from which an entry is then measured. */
@@ -109,6 +125,30 @@ static void ending(void) { nearly_full(); start0(); }
 static void saved(void) { ending(); end0(); }
 static void listed(void) { full(); list0(); write_request0(); }
 
+static void set_values(uint64_t first, uint64_t second, uint64_t third)
+{
+    values[0] = first;
+    values[1] = second;
+    values[2] = third;
+}
+
+/* The owner of a policy, as long as a name. */
+static void owner(void) { set_values(0, sizeof name, 0); }
+
+/* Two policies: in the list, and in a message. */
+static void policies(void)
+{
+    size_t end = 0;
+    for (uint32_t piece = 0; piece < 4; piece++) {
+        owner();
+        slavotuk_write_piece(list + end, sizeof list - end, SLAVOTUK_PIECE_OWNER + piece % 2, VALUES, name, sizeof name,
+                             &length);
+        end += length;
+    }
+    set_values(0, 1, 2);
+    write_message0();
+}
+
 static const struct {
     const char *entry;
     void (*call)(void);
@@ -132,6 +172,10 @@ static const struct {
     {"slavotuk_write_request", write_request0, {nothing}},
     {"slavotuk_read_count", read_count0, {nothing, listed}},
     {"slavotuk_read_row", read_row0, {nothing, listed}},
+    {"slavotuk_read_message", read_message0, {nothing, policies}},
+    {"slavotuk_write_message", write_message0, {nothing, policies}},
+    {"slavotuk_read_piece", read_piece0, {nothing, policies}},
+    {"slavotuk_write_piece", write_piece0, {nothing, owner}},
     {"slavotuk_version", version0, {nothing}},
 };
 
