@@ -26,53 +26,55 @@ use Rattle.formats.proofs.Laws.{width-most}
 use Rattle.fields.specs.Fields.{meant, isAllowed, fields, longOf, valuesIn, areAllowed}
 use Rattle.fields.proofs.Laws.{length-fields, fields-from}
 
--- ---- a number, read from its highest byte down: what the bytes from the one at `left` on say
-pub record Said (b : List ℕ) (at width left number : ℕ) : Type 0 where
+-- ---- a number, read from its highest byte down: what the last `done` of its bytes say. Of the width, `size` bytes are there
+pub record Said (b : List ℕ) (at width size done number : ℕ) : Type 0 where
   pub short : width ≤ 8
-  pub low : left ≤ width
-  pub inside : at + left ≤ length b
-  pub is : number ≡ numberAt (width - left) (at + left) b
-  pub small : number < 256 ^ (width - left)
+  pub low : done ≤ size
+  pub some : size ≤ width
+  pub inside : at + size ≤ length b
+  pub is : number ≡ numberAt (width - size + done) (at + (size - done)) b
+  pub small : number < 256 ^ (width - size + done)
 
 pub number-none : (b : List ℕ) (at width : ℕ) → length b ≤ at → 0 ≡ numberAt width at b
 number-none b at width h = sym (number-past width at b h)
 
 module _ (b : List ℕ) (at width : ℕ) (w : width ≤ 8) (i : at < length b) where
-  pub said-all : {left : ℕ} → width < length b - at → left ≡ width → Said b at width left 0
+  pub said-all : {size : ℕ} → width < length b - at → size ≡ width → Said b at width size 0 0
   unfolding numberAt numberOf
-  said-all {left} h e =
-      let z : width - left ≡ 0 = omega arith in
-      record { short = w; low = omega arith; inside = omega arith; is = rw z; small = rw z (omega arith) }
+  said-all {size} h e =
+      let z : width - size + 0 ≡ 0 = omega arith in
+      record { short = w; low = omega arith; some = omega arith; inside = omega arith; is = rw z; small = rw z (omega arith) }
 
-  pub said-there : {left : ℕ} → length b - at ≤ width → left ≡ length b - at → Said b at width left 0
-  said-there {left} h e =
-      let p : length b ≤ at + left = omega arith in
+  pub said-there : {size : ℕ} → length b - at ≤ width → size ≡ length b - at → Said b at width size 0 0
+  said-there {size} h e =
+      let p : length b ≤ at + (size - 0) = omega arith in
       record {
         short = w;
         low = omega arith;
+        some = omega arith;
         inside = omega arith;
-        is = sym (number-past (width - left) (at + left) b p);
-        small = one-le-pow (width - left) 256 (omega arith);
+        is = sym (number-past (width - size + 0) (at + (size - 0)) b p);
+        small = one-le-pow (width - size + 0) 256 (omega arith);
       }
 
-module _ {b : List ℕ} {at width left number : ℕ} (v : Said b at width left number) where
-  pub said-end : left ≤ 0 → number ≡ numberAt width at b
+module _ {b : List ℕ} {at width size done number : ℕ} (v : Said b at width size done number) where
+  pub said-end : size ≤ done → number ≡ numberAt width at b
   said-end h =
-      let z : width - left ≡ width = omega arith in
-      let e : at + left ≡ at = omega arith in
+      let z : width - size + done ≡ width = omega arith in
+      let e : at + (size - done) ≡ at = omega arith in
       rw (z, e) at (v .is)
 
-  module _ (h : 0 < left) where
-    one-more : width - (left - 1) ≡ suc (width - left)
+  module _ (h : done < size) where
+    one-more : width - size + (done + 1) ≡ suc (width - size + done)
     one-more = omega arith
 
-    next-small : (x : ℕ) → x < 256 → number * 256 + x < 256 ^ (width - (left - 1))
+    next-small : (x : ℕ) → x < 256 → number * 256 + x < 256 ^ (width - size + (done + 1))
     next-small x k = rw (one-more, pow-suc) (digits-lt (v .small) k)
 
-    room : 256 ^ (width - (left - 1)) ≤ 256 ^ 8
+    room : 256 ^ (width - size + (done + 1)) ≤ 256 ^ 8
     room =
         let z : 0 < 256 = omega arith in
-        let k : width - (left - 1) ≤ 8 = omega (arith, v .short) in
+        let k : width - size + (done + 1) ≤ 8 = omega arith in
         pow-le-pow-right z k
 
     pub said-times : Fits w64 (number * 256)
@@ -81,18 +83,19 @@ module _ {b : List ℕ} {at width left number : ℕ} (v : Said b at width left n
     pub said-sum : {y x : ℕ} → Widened y x → Fits w64 (number * 256 + x)
     said-sum {y} {x} k = record { fits = omega (arith, next-small x (k .small), room) }
 
-    pub said-place : at + (left - 1) < length b
-    said-place = omega (arith, v .inside)
-
-    pub said-on : {x : ℕ} → Widened (getD b (at + (left - 1)) 0) x → Said b at width (left - 1) (number * 256 + x)
+    pub said-on : {x : ℕ} → Widened (getD b (at + (size - (done + 1))) 0) x → Said b at width size (done + 1) (number * 256 + x)
     said-on {x} k =
-        let s : width - (left - 1) ≡ 1 + (width - left) = omega arith in
-        let p : at + (left - 1) + 1 ≡ at + left = omega arith in
+        let s : width - size + (done + 1) ≡ 1 + (width - size + done) = omega arith in
+        let p : at + (size - (done + 1)) + 1 ≡ at + (size - done) = omega arith in
         record {
           short = v .short;
-          low = omega (arith, v .low);
-          inside = omega (arith, v .inside);
-          is = sym (rw s (number-join 1 (width - left) (at + (left - 1)) b ∙ rw (number-one (at + (left - 1)) b, p, v .is, k .is)));
+          low = omega arith;
+          some = v .some;
+          inside = v .inside;
+          is =
+              sym
+              (rw s
+              (number-join 1 (width - size + done) (at + (size - (done + 1))) b ∙ rw (number-one (at + (size - (done + 1))) b, p, v .is, k .is)));
           small = next-small x (k .small);
         }
 
@@ -208,4 +211,4 @@ module _ (l : Layout) {at : ℕ} (h : 7 ≤ at) where
   unfolding areAllowed
   allowed-end v = sym (v .is ∙ rw past)
 
-pub ruleset rules = (needs, number-none, said-all, said-there, said-end, said-times, said-sum, said-place, said-on, meant-all, meant-bits, value-is, width-few, allowed-below, allowed-not, long-begin, long-fits, long-on, long-end, read-begin, place-fits, read-on, read-end, allowed-begin, allowed-on, allowed-fail, allowed-end)
+pub ruleset rules = (needs, number-none, said-all, said-there, said-end, said-times, said-sum, said-on, meant-all, meant-bits, value-is, width-few, allowed-below, allowed-not, long-begin, long-fits, long-on, long-end, read-begin, place-fits, read-on, read-end, allowed-begin, allowed-on, allowed-fail, allowed-end)

@@ -21,11 +21,12 @@ fn number_at(bytes: &[u8], at: usize, width: usize) -> u64
         return 0;
     }
     let there = bytes.len() - at;
-    let mut left = if width < there { width } else { there };
+    let size = if width < there { width } else { there };
+    let mut done: usize = 0;
     let mut number: usize = 0;
-    while 0 < left {
-        left -= 1;
-        number = number * 256 + rows::wide(bytes[at + left]);
+    while done < size {
+        done += 1;
+        number = number * 256 + rows::wide(bytes[at + (size - done)]);
     }
     number as u64
 }
@@ -89,13 +90,13 @@ pub fn values_in(bytes: &[u8], layout: Layout) -> [u64; 7]
 pub fn are_allowed(layout: Layout, values: [u64; 7]) -> bool
     ensures { λ r. ⌜ r ≡ areAllowed (fields layout) values ⌝ }
 {
-    let mut at: usize = 0;
-    while at < 7 {
-        let form = formats::form_of(formats::field_of(layout, at));
-        if !is_allowed(form, values[at]) {
+    let mut tested: usize = 0;
+    while tested < 7 {
+        let form = formats::form_of(formats::field_of(layout, tested));
+        if !is_allowed(form, values[tested]) {
             return false;
         }
-        at += 1;
+        tested += 1;
     }
     true
 }

@@ -1,7 +1,7 @@
 -- The laws that close the needs of this crate's functions by `search rules`: each premise is as a place's record has it. A loop's record says what is
 -- still to be written over what the buffer has. Assumes nothing.
 use Prim.Native.Nat.{ℕ, suc, _+_, _-_, _*_, _/_, _%_, _<_, _≤_}
-use mathlib.Core.Path.{_≡_, refl, sym, ap, _∙_}
+use mathlib.Core.Path.{_≡_, refl, sym, ap, subst, _∙_}
 use mathlib.Core.List.{List, [], _∷_, _++_}
 use native.Mathlib.Numerals.{add-one}
 use native.Mathlib.Omega.{arith}
@@ -53,56 +53,51 @@ module _ {at n : ℕ} {x old : List ℕ} {place : ℕ} {new : List ℕ} where
       rw (over-set place b new h) (left-next 1 m (b ∷ []) z refl v)
 
 -- ---- a number
-pub record NumberTo (at width number : ℕ) (old new : List ℕ) (rest done : ℕ) : Type 0 where
-  pub low : done ≤ width
-  pub left : Left at width (bytesOf width number) old (at + done) (width - done) (bytesOf (width - done) rest) new
+pub record NumberTo (at width number : ℕ) (old new : List ℕ) (rest left : ℕ) : Type 0 where
+  pub low : left ≤ width
+  pub remains : Left at width (bytesOf width number) old (at + (width - left)) left (bytesOf left rest) new
 
-pub number-begin : (at width number : ℕ) (old : List ℕ) → at + width ≤ length old → NumberTo at width number old old number 0
+pub number-begin : (at width number : ℕ) (old : List ℕ) → at + width ≤ length old → NumberTo at width number old old number width
 number-begin at width number old h =
-    let p : at + 0 ≡ at = omega arith in
-    let w : width - 0 ≡ width = omega arith in
-    record { low = omega arith; left = rw (p, w) (left-all at width (bytesOf width number) old h) }
+    let p : at + (width - width) ≡ at = omega arith in
+    record { low = omega arith; remains = rw p (left-all at width (bytesOf width number) old h) }
 
-module _ {at width number : ℕ} {old new : List ℕ} {rest done : ℕ} (v : NumberTo at width number old new rest done) where
+module _ {at width number : ℕ} {old new : List ℕ} {rest left : ℕ} (v : NumberTo at width number old new rest left) where
   pub number-length : length new ≡ length old
-  number-length = v .left .long
+  number-length = v .remains .long
 
-  pub number-place : done < width → at + done < length new
-  number-place h = omega (arith, v .left .room)
-
-  pub number-on : done < width → NumberTo at width number old (set new (at + done) (rest % 256)) (rest / 256) (done + 1)
+  pub number-on : 0 < left → NumberTo at width number old (set new (at + (width - left)) (rest % 256)) (rest / 256) (left - 1)
   unfolding bytesOf
   number-on h =
-      let w : width - done ≡ suc (width - (done + 1)) = omega arith in
-      let o : suc (width - (done + 1)) ≡ 1 + (width - (done + 1)) = omega arith in
-      let p : at + (done + 1) ≡ at + done + 1 = omega arith in
-      let k : Left at width (bytesOf width number) old (at + done) (suc (width - (done + 1))) (bytesOf (suc (width - (done + 1))) rest) new = rw w at (v .left) in
-      record {
-        low = omega arith;
-        left = rw p (left-byte (width - (done + 1)) (rest % 256) (bytesOf (width - (done + 1)) (rest / 256)) (rw o at k));
-      }
+      let w : left ≡ suc (left - 1) = omega arith in
+      let o : suc (left - 1) ≡ 1 + (left - 1) = omega arith in
+      let p : at + (width - (left - 1)) ≡ at + (width - left) + 1 = omega arith in
+      let q : Left at width (bytesOf width number) old (at + (width - left)) (suc (left - 1)) (bytesOf (suc (left - 1)) rest) new =
+      subst (λ (n : ℕ). Left at width (bytesOf width number) old (at + (width - left)) n (bytesOf n rest) new) w (v .remains)
+      in
+      record { low = omega arith; remains = rw p (left-byte (left - 1) (rest % 256) (bytesOf (left - 1) (rest / 256)) (rw o at q)) }
 
-  pub number-end : width ≤ done → new ≡ over at width (bytesOf width number) old
+  pub number-end : left ≤ 0 → new ≡ over at width (bytesOf width number) old
   unfolding bytesOf
-  number-end h = let z : width - done ≡ 0 = omega (arith, v .low) in left-none (rw z at (v .left))
+  number-end h = let z : left ≡ 0 = omega arith in left-none (rw z at (v .remains))
 
 -- ---- bytes
 pub record BytesTo (at : ℕ) (bytes old new : List ℕ) (done : ℕ) : Type 0 where
   pub low : done ≤ length bytes
-  pub left : Left at (length bytes) bytes old (at + done) (length bytes - done) (drop done bytes) new
+  pub remains : Left at (length bytes) bytes old (at + done) (length bytes - done) (drop done bytes) new
 
 pub bytes-begin : (at : ℕ) (bytes old : List ℕ) → at + length bytes ≤ length old → BytesTo at bytes old old 0
 bytes-begin at bytes old h =
     let p : at + 0 ≡ at = omega arith in
     let w : length bytes - 0 ≡ length bytes = omega arith in
-    record { low = omega arith; left = rw (p, w) (left-all at (length bytes) bytes old h) }
+    record { low = omega arith; remains = rw (p, w) (left-all at (length bytes) bytes old h) }
 
 module _ {at : ℕ} {bytes old new : List ℕ} {done : ℕ} (v : BytesTo at bytes old new done) where
   pub bytes-length : length new ≡ length old
-  bytes-length = v .left .long
+  bytes-length = v .remains .long
 
   pub bytes-place : done < length bytes → at + done < length new
-  bytes-place h = omega (arith, v .left .room)
+  bytes-place h = omega (arith, v .remains .room)
 
   pub bytes-on : done < length bytes → BytesTo at bytes old (set new (at + done) (getD bytes done 0)) (done + 1)
   bytes-on h =
@@ -111,26 +106,26 @@ module _ {at : ℕ} {bytes old new : List ℕ} {done : ℕ} (v : BytesTo at byte
       let d : drop done bytes ≡ getD bytes done 0 ∷ drop (done + 1) bytes = drop-cons bytes done 0 h ∙ rw add-one in
       record {
         low = omega arith;
-        left = rw p (left-byte (length bytes - (done + 1)) (getD bytes done 0) (drop (done + 1) bytes) (rw (w, d) at (v .left)));
+        remains = rw p (left-byte (length bytes - (done + 1)) (getD bytes done 0) (drop (done + 1) bytes) (rw (w, d) at (v .remains)));
       }
 
   pub bytes-end : length bytes ≤ done → new ≡ over at (length bytes) bytes old
   bytes-end h =
       let z : length bytes - done ≡ 0 = omega arith in
-      left-none (rw (z, drop-of-length-le bytes h) at (v .left))
+      left-none (rw (z, drop-of-length-le bytes h) at (v .remains))
 
 -- ---- the fields of a layout
 pub record FieldsTo (l : Layout) (values old new : List ℕ) (place at : ℕ) : Type 0 where
   pub low : place ≤ 8 * at
-  pub left : Left 0 (longOf (fields l)) (fieldBytes (fields l) values) old place (longOf (drop at (fields l))) (fieldBytes (drop at (fields l)) (drop at values)) new
+  pub remains : Left 0 (longOf (fields l)) (fieldBytes (fields l) values) old place (longOf (drop at (fields l))) (fieldBytes (drop at (fields l)) (drop at values)) new
 
 pub fields-begin : (l : Layout) (values old : List ℕ) → longOf (fields l) ≤ length old → FieldsTo l values old old 0 0
 fields-begin l values old h =
-    record { low = omega arith; left = left-all 0 (longOf (fields l)) (fieldBytes (fields l) values) old (omega arith) }
+    record { low = omega arith; remains = left-all 0 (longOf (fields l)) (fieldBytes (fields l) values) old (omega arith) }
 
 module _ {l : Layout} {values old new : List ℕ} {place at : ℕ} (v : FieldsTo l values old new place at) where
   pub fields-length : length new ≡ length old
-  fields-length = v .left .long
+  fields-length = v .remains .long
 
   module _ {f : Field} {form : Form} (h : at < 7) (p : f ≡ getD (fieldsOf l) at Unused) (q : form ≡ formOf f) where
     width-few : form .width ≤ 8
@@ -145,7 +140,7 @@ module _ {l : Layout} {values old new : List ℕ} {place at : ℕ} (v : FieldsTo
     unfolding longOf fieldBytes
     ahead =
         let z : at + 0 ≡ at = omega arith in
-        rw (next, ← q, getD-drop, z, drop-drop) at (v .left)
+        rw (next, ← q, getD-drop, z, drop-drop) at (v .remains)
 
     pub fields-room : place + form .width ≤ length new
     fields-room = omega (arith, ahead .room)
@@ -157,7 +152,7 @@ module _ {l : Layout} {values old new : List ℕ} {place at : ℕ} (v : FieldsTo
     fields-on e =
         record {
           low = omega (arith, v .low, width-few);
-          left =
+          remains =
               rw e
               (left-next (form .width) (longOf (drop (at + 1) (fields l))) (bytesOf (form .width) (getD values at 0)) (fieldBytes (drop (at + 1) (fields l)) (drop (at + 1) values)) (length-bytes (form .width) (getD values at 0)) ahead);
         }
@@ -166,7 +161,7 @@ module _ {l : Layout} {values old new : List ℕ} {place at : ℕ} (v : FieldsTo
   unfolding longOf fieldBytes
   fields-end h =
       let k : length (fields l) ≤ at = rw (length-fields l) h in
-      left-none (rw (drop-of-length-le (fields l) k) at (v .left))
+      left-none (rw (drop-of-length-le (fields l) k) at (v .remains))
 
 -- ---- fields and what follows them
 module _ (l : Layout) (values rest old : List ℕ) {head : ℕ} (e : head ≡ longOf (fields l)) where
@@ -192,4 +187,4 @@ module _ (l : Layout) (values rest old : List ℕ) {head : ℕ} (e : head ≡ lo
         let z : 0 + longOf (fields l) ≡ head = omega arith in
         q ∙ sym (over-append 0 (longOf (fields l)) (length rest) (fieldBytes (fields l) values) rest old (Laws.bytes-length (fields l) values) r ∙ rw (z, m))
 
-pub ruleset rules = (needs, number-begin, number-length, number-place, number-on, number-end, bytes-begin, bytes-length, bytes-place, bytes-on, bytes-end, fields-begin, fields-length, fields-room, place-fits, fields-on, fields-end, body-none, body-short, head-room, rest-room, body-put)
+pub ruleset rules = (needs, number-begin, number-length, number-on, number-end, bytes-begin, bytes-length, bytes-place, bytes-on, bytes-end, fields-begin, fields-length, fields-room, place-fits, fields-on, fields-end, body-none, body-short, head-room, rest-room, body-put)

@@ -14,11 +14,11 @@ fn put_number(buffer: &mut [u8], at: usize, width: usize, number: u64)
     ensures { λ r. ⌜ now (buffer .exit) ≡ over at width (bytesOf width number) (now (buffer .entry)) ⌝ }
 {
     let mut rest = number;
-    let mut done: usize = 0;
-    while done < width {
-        buffer[at + done] = (rest % 256) as u8;
+    let mut left = width;
+    while 0 < left {
+        buffer[at + (width - left)] = (rest % 256) as u8;
         rest = rest / 256;
-        done += 1;
+        left -= 1;
     }
 }
 

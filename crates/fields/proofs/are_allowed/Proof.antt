@@ -4,10 +4,10 @@ use Rattle.fields.proofs.are_allowed.Statement.{statement}
 use Rattle.fields.proofs.are_allowed.Tie as tie
 
 abbrev Inv-loop : tie.InvT-loop
-Inv-loop layout values at₀ at = Allowed layout values at
+Inv-loop layout values tested₀ tested = Allowed layout values tested
 
 abbrev μ-loop : tie.MeasureT-loop
-μ-loop layout values at₀ at = 7 - at
+μ-loop layout values tested₀ tested = 7 - tested
 
 loop-holds : tie.Need-loop-holds Inv-loop μ-loop
 loop-holds c = search rules
@@ -30,8 +30,8 @@ is-allowed-requires c κs = search rules
 returns : tie.Need-returns Inv-loop μ-loop
 returns c = search rules
 
-add-at : tie.Need-add-at Inv-loop μ-loop
-add-at c = search rules
+add-tested : tie.Need-add-tested Inv-loop μ-loop
+add-tested c = search rules
 
 loop-less : tie.Need-loop-less Inv-loop μ-loop
 loop-less c = search rules
@@ -55,7 +55,7 @@ are-allowed-spec =
     array-read-is-allowed
     is-allowed-requires
     returns
-    add-at
+    add-tested
     loop-less
     loop-again
     returns-2)

@@ -1,13 +1,14 @@
+use Prim.Native.Nat.{_-_}
 use mathlib.Core.Logic.{⊎-elim}
 use Rattle.fields.proofs.Rules.{rules, Said}
 use Rattle.fields.proofs.number_at.Statement.{statement}
 use Rattle.fields.proofs.number_at.Tie as tie
 
 abbrev Inv-loop : tie.InvT-loop
-Inv-loop bytes at width there left₀ number₀ left number = Said bytes at width left number
+Inv-loop bytes at width there size done₀ number₀ done number = Said bytes at width size done number
 
 abbrev μ-loop : tie.MeasureT-loop
-μ-loop bytes at width there left₀ number₀ left number = left
+μ-loop bytes at width there size done₀ number₀ done number = size - done
 
 returns : tie.Need-returns Inv-loop μ-loop
 returns c = search rules
@@ -18,11 +19,14 @@ sub-there c = search rules
 loop-holds : tie.Need-loop-holds Inv-loop μ-loop
 loop-holds c = ⊎-elim (λ w. search rules) (λ w. search rules) (c .if2 .came)
 
-sub-left : tie.Need-sub-left Inv-loop μ-loop
-sub-left c = search rules
+add-done : tie.Need-add-done Inv-loop μ-loop
+add-done c = search rules
 
 mul-number : tie.Need-mul-number Inv-loop μ-loop
 mul-number c = search rules
+
+sub-wide : tie.Need-sub-wide Inv-loop μ-loop
+sub-wide c = search rules
 
 add-wide : tie.Need-add-wide Inv-loop μ-loop
 add-wide c = search rules
@@ -54,8 +58,9 @@ number-at-spec =
     returns
     sub-there
     loop-holds
-    sub-left
+    add-done
     mul-number
+    sub-wide
     add-wide
     shared-slice-read-wide
     wide-requires

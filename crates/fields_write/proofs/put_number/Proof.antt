@@ -1,13 +1,12 @@
-use Prim.Native.Nat.{_-_}
 use Rattle.fields_write.proofs.Rules.{rules, NumberTo}
 use Rattle.fields_write.proofs.put_number.Statement.{statement}
 use Rattle.fields_write.proofs.put_number.Tie as tie
 
 abbrev Inv-loop : tie.InvT-loop
-Inv-loop buffer₀ at width number rest₀ done₀ buffer rest done = NumberTo at width number buffer₀ buffer rest done
+Inv-loop buffer₀ at width number rest₀ left₀ buffer rest left = NumberTo at width number buffer₀ buffer rest left
 
 abbrev μ-loop : tie.MeasureT-loop
-μ-loop buffer₀ at width number rest₀ done₀ buffer rest done = width - done
+μ-loop buffer₀ at width number rest₀ left₀ buffer rest left = left
 
 loop-holds : tie.Need-loop-holds Inv-loop μ-loop
 loop-holds c = search rules
@@ -15,14 +14,17 @@ loop-holds c = search rules
 cast-buffer : tie.Need-cast-buffer Inv-loop μ-loop
 cast-buffer c = search rules
 
+sub-buffer : tie.Need-sub-buffer Inv-loop μ-loop
+sub-buffer c = search rules
+
 add-buffer : tie.Need-add-buffer Inv-loop μ-loop
 add-buffer c = search rules
 
 slice-write-buffer : tie.Need-slice-write-buffer Inv-loop μ-loop
 slice-write-buffer c = search rules
 
-add-done : tie.Need-add-done Inv-loop μ-loop
-add-done c = search rules
+sub-left : tie.Need-sub-left Inv-loop μ-loop
+sub-left c = search rules
 
 loop-less : tie.Need-loop-less Inv-loop μ-loop
 loop-less c = search rules
@@ -44,9 +46,10 @@ put-number-spec =
     μ-loop
     loop-holds
     cast-buffer
+    sub-buffer
     add-buffer
     slice-write-buffer
-    add-done
+    sub-left
     loop-less
     loop-again
     same-length
