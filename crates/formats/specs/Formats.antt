@@ -28,13 +28,13 @@ formOf Unused = flags 0 1 0
 formOf AuthVersion = between 1 0 255
 formOf VersionNumberEntryCount = between 1 0 255
 formOf VersionNumberEntry = between 2 0 65535
--- Tables 29 to 32: six bits, four bits, "All other values: Reserved", "shall not exceed 31"; 8 bytes of algorithms each
+-- Tables 29 to 32: six bits, four bits, "All other values: Reserved", "shall not exceed 31"; Tables 70 and 71: twelve and seven bits
 formOf MessageCaps = flags 2 64 63
 formOf AuthProcessCaps = flags 2 16 15
 formOf DeviceProvisioningState = between 1 0 2
 formOf AuthRecordProcessTime = between 1 0 31
-formOf BaseAsymAlgo = between 8 0 18446744073709551615
-formOf BaseHashAlgo = between 8 0 18446744073709551615
+formOf BaseAsymAlgo = flags 8 4096 4095
+formOf BaseHashAlgo = flags 8 128 127
 formOf SupportedPolicyOwnerIDCount = between 2 0 65535
 -- Tables 34 and 40: ParameterChange or PolicyChange, Lock or Unlock
 formOf Change = between 1 1 1
