@@ -1,8 +1,9 @@
--- The definitions of this crate, for those who use them: a piece, or a part, that stands at the front of bytes ends within them.
+-- The definitions of this crate, for those who use them: what is answered of a piece; and a piece, or a part, that stands at the front of bytes ends
+-- within them.
 -- Assumes nothing.
 use Prim.Native.Nat.{ℕ, _-_, _≤_}
 use mathlib.Core.Path.{_≡_}
-use mathlib.Core.Bool.{true}
+use mathlib.Core.Bool.{true, false}
 use mathlib.Core.List.{List}
 use native.Mathlib.Omega.{arith}
 use borrow.Author.Tests.{leb-true}
@@ -11,8 +12,22 @@ use lib.ListN.{length, length-drop}
 use Rattle.formats.specs.declared.Layout.{Layout}
 use Rattle.formats.specs.declared.Part.{Part}
 use Rattle.fields.specs.Fields.{fields, areAllowed}
-use Rattle.lists.proofs.Tests.{and-left, and-right}
-use Rattle.pieces.specs.Pieces.{valuesOf, pieceLong, isPiece, first, second, behind, isPart, partLong}
+use Rattle.lists.proofs.Tests.{split, and-left, and-right}
+use Rattle.pieces.specs.Pieces.{valuesOf, headLong, pieceLong, isPiece, noPiece, pieceIn, first, second, behind, isPart, partLong}
+
+module _ (layout : Layout) (b : List ℕ) where
+  pub piece-taken : isPiece layout b ≡ true
+      → pieceIn layout b ≡ record { fits = true; values = valuesOf layout b; rest = headLong layout; long = pieceLong layout b }
+  unfolding pieceIn
+  piece-taken e = rw e
+
+  pub piece-refused : isPiece layout b ≡ false → pieceIn layout b ≡ noPiece
+  unfolding pieceIn
+  piece-refused e = rw e
+
+  pub piece-fits : pieceIn layout b .fits ≡ isPiece layout b
+  unfolding pieceIn
+  piece-fits = split (isPiece layout b) (λ e. rw e) (λ e. rw e)
 
 pub is-piece-long : (layout : Layout) (b : List ℕ) → isPiece layout b ≡ true → pieceLong layout b ≤ length b
 unfolding isPiece
