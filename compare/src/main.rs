@@ -12,17 +12,11 @@ mod run;
 mod sequence;
 mod shrink;
 mod sides;
-#[cfg(test)]
 mod wire;
-#[cfg(test)]
 mod wire_bounds;
-#[cfg(test)]
 mod wire_generate;
-#[cfg(test)]
 mod wire_random;
-#[cfg(test)]
 mod wire_test;
-#[cfg(test)]
 mod wire_tried;
 
 use std::process::ExitCode;
@@ -36,7 +30,8 @@ usage: slavotuk-compare test [--calls N] [--seed S]
        slavotuk-compare replay SEED
 
 test    all tests: N calls in random sequences over the 17 entries (5000000 unless given, at least 200000), accepted records
-        sent again, damaged states, messages, fresh modules. The same seed makes the same calls; it is 1 unless given.
+        sent again, damaged states, fresh modules, the listing messages, and all messages of 004 clause 9.2. The same seed makes
+        the same calls; it is 1 unless given.
 soak    random sequences and damaged states for N seconds (60 unless given), with a line now and then. The seed is taken
         from the clock unless given, and printed.
 replay  one sequence again, by the seed that a failure printed. The failure is printed with its sequence shrunk.

@@ -7,6 +7,7 @@ use crate::random::Random;
 use crate::report::Report;
 use crate::sequence::{self, Failure, Plan};
 use crate::shrink::{describe, shrink};
+use crate::{wire, wire_test};
 use std::process::ExitCode;
 use std::sync::atomic::{AtomicBool, AtomicUsize, Ordering};
 use std::thread;
@@ -25,6 +26,9 @@ const REPLAYED_PLAN: Plan = Plan {
 /// What is to come up comes up at least once in so many calls.
 const CALLS_FOR_ONE: u64 = 20_000;
 
+/// Messages of 004 clause 9.2 that are drawn.
+const MESSAGES: usize = 2_000_000;
+
 /// Every test, with about so many calls in random sequences.
 pub fn test(calls: usize, seed: u64) -> ExitCode {
     let begun = Instant::now();
@@ -36,6 +40,9 @@ pub fn test(calls: usize, seed: u64) -> ExitCode {
     damage::test(seed, &mut report);
     damage::test_fresh(seed, &mut report);
     messages::test(seed, &mut report);
+    for outcome in wire_test::test(&wire::Archive, MESSAGES, seed) {
+        report.judge(outcome);
+    }
     println!("{:.1} s", begun.elapsed().as_secs_f64());
     report.finish()
 }

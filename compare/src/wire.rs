@@ -2,6 +2,7 @@
 //! guards, so that a refusal that writes is seen, and a write past the end.
 
 use crate::call::{Bytes, Guarded};
+use slavotuk::entries;
 use slavotuk_model::wire_entries::{self, Values, VALUES};
 
 /// The four entries. Numbers are document 01's.
@@ -59,6 +60,28 @@ impl Wire for Model {
 
     fn write_piece(&self, buffer: &mut [u8], kind: u32, values: &[u64], rest: &[u8], written: &mut usize) -> u32 {
         wire_entries::write_piece(buffer, kind, values, rest, written)
+    }
+}
+
+/// The compiled archive's.
+pub struct Archive;
+
+#[rustfmt::skip]
+impl Wire for Archive {
+    fn read_message(&self, message: &[u8], values: &mut [u64], rest: &mut usize) -> u32 {
+        entries::read_message(message, values, rest)
+    }
+
+    fn write_message(&self, buffer: &mut [u8], code: u8, values: &[u64], rest: &[u8], written: &mut usize) -> u32 {
+        entries::write_message(buffer, code.into(), values, rest, written)
+    }
+
+    fn read_piece(&self, bytes: &[u8], kind: u32, values: &mut [u64], rest: &mut usize, next: &mut usize) -> u32 {
+        entries::read_piece(bytes, kind, values, rest, next)
+    }
+
+    fn write_piece(&self, buffer: &mut [u8], kind: u32, values: &[u64], rest: &[u8], written: &mut usize) -> u32 {
+        entries::write_piece(buffer, kind, values, rest, written)
     }
 }
 

@@ -27,11 +27,11 @@ pub mod piece {
     pub const RESET_DATA_TYPE: u32 = 4;
 }
 
-/// Reads a message: 14 unless the bytes are one, then 1 unless there is room for seven values.
+/// Reads a message: 1 unless there is room for seven values, then 14 unless the bytes are one.
 pub fn read_message(message: &[u8], values: &mut [u64], rest: &mut usize) -> u32 {
     number_of(|| {
-        let read = wire_read::read(message)?;
         refuse_unless(values.len() == VALUES, Number::Argument)?;
+        let read = wire_read::read(message)?;
         let its = values_of(&read);
         values.copy_from_slice(&its);
         *rest = fields_end(message[0], its[0]);
@@ -56,7 +56,7 @@ pub fn write_message(
     })
 }
 
-/// Reads the piece at the front of the bytes: 14 unless one stands there, then 1 unless there is room for seven values.
+/// Reads the piece at the front of the bytes: 1 unless there are such pieces and room for seven values, then 14 unless one stands there.
 pub fn read_piece(
     bytes: &[u8],
     kind: u32,
@@ -65,9 +65,9 @@ pub fn read_piece(
     next: &mut usize,
 ) -> u32 {
     number_of(|| {
+        refuse_unless(values.len() == VALUES, Number::Argument)?;
         let mut reader = Reader::of(bytes);
         let its = piece_values(kind, &mut reader)?;
-        refuse_unless(values.len() == VALUES, Number::Argument)?;
         values.copy_from_slice(&its);
         *rest = piece_fields(kind);
         *next = bytes.len() - reader.left();
@@ -75,7 +75,7 @@ pub fn read_piece(
     })
 }
 
-/// Writes a piece: 1 unless there are seven values, 15 where the buffer is shorter than the piece, 14 where no piece of the kind can carry them.
+/// Writes a piece: 1 unless there are such pieces and seven values, 15 where the buffer is shorter than the piece, 14 where no piece of the kind can carry them.
 pub fn write_piece(
     buffer: &mut [u8],
     kind: u32,
@@ -85,6 +85,7 @@ pub fn write_piece(
 ) -> u32 {
     number_of(|| {
         let values = seven(values)?;
+        refuse_when(kind > piece::RESET_DATA_TYPE, Number::Argument)?;
         let length = piece_fields(kind) + rest.len();
         refuse_when(buffer.len() < length, Number::Room)?;
         let piece = form_piece(kind, values, rest)?;
@@ -461,7 +462,7 @@ fn piece_values(kind: u32, reader: &mut Reader) -> Result<Values, Number> {
             padded([policy_version.into(), policy.len() as u64])
         }
         piece::RESET_DATA_TYPE => padded([wire_read::sv_reset_data_type(reader)?.len() as u64]),
-        _ => return Err(Number::Message),
+        _ => return Err(Number::Argument),
     })
 }
 
@@ -499,7 +500,7 @@ fn form_piece(kind: u32, values: &Values, rest: &[u8]) -> Result<Vec<u8>, Number
             refuse_when(length > LONGEST_RESET_DATA_TYPE, Number::Message)?;
             length
         }
-        _ => return Err(Number::Message),
+        _ => return Err(Number::Argument),
     };
     fields.end()?;
     refuse_unless(rest.len() == length, Number::Message)?;

@@ -466,15 +466,28 @@ fn what_is_read_can_be_written_and_no_other_values() {
 }
 
 #[test]
-fn seven_values_are_asked_for_where_the_bytes_are_a_message() {
+fn seven_values_are_asked_for_before_the_bytes() {
     let (mut values, mut rest) = ([9; 8], 9);
     let good = named("END_AUTH").bytes;
-    assert_eq!(wire_entries::read_message(&good, &mut values, &mut rest), 1);
-    assert_eq!(
-        wire_entries::read_message(&good[1..], &mut values, &mut rest),
-        14
-    );
+    for bytes in [&good[..], &good[1..]] {
+        assert_eq!(wire_entries::read_message(bytes, &mut values, &mut rest), 1);
+    }
     assert_eq!((values, rest), ([9; 8], 9));
+}
+
+#[test]
+fn a_kind_that_no_piece_has_is_asked_for_before_the_room() {
+    let (mut values, mut at) = ([0; VALUES], [9; 2]);
+    let [rest, next] = &mut at;
+    assert_eq!(
+        wire_entries::read_piece(&[0; 9], 5, &mut values, rest, next),
+        1
+    );
+    assert_eq!(
+        wire_entries::write_piece(&mut [0; 1], 5, &values, &[0; 2], rest),
+        1
+    );
+    assert_eq!(at, [9; 2]);
 }
 
 /// Kind, bytes, values, where what follows the fields begins.
