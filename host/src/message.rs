@@ -152,7 +152,6 @@ macro_rules! messages {
         /// assert_eq!(GetAuthProcesses::read(&buffer), Ok(all));
         /// ```
         #[derive(Clone, Copy, Debug, PartialEq, Eq)]
-        #[non_exhaustive]
         pub enum Message<'a> {
             $(#[doc = $name] $message($message $(<$bytes>)?),)+
         }
