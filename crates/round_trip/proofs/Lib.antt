@@ -1,0 +1,9 @@
+pub mod Fields
+pub mod Bodies
+pub mod Messages
+pub mod Buffers
+pub mod Parts
+pub mod Following
+pub mod Listing
+pub mod ListingRead
+pub mod Worked
