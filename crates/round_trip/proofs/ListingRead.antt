@@ -33,7 +33,7 @@ use Rattle.pieces.specs.Pieces.{valuesOf, headLong, restLong, pieceLong, isPiec
 use Rattle.message_codes.specs.Codes.{find, requests, responses, layoutOf}
 use Rattle.messages.specs.Messages.{layoutIn, headOf, messageValues, isMessage, readMessage}
 use Rattle.round_trip.specs.Listing.{alone, rowHeld}
-use Rattle.round_trip.specs.Parts.{PartHeld, heldIn, partIn, partsIn}
+use Rattle.round_trip.specs.Parts.{PartHeld, pieceHeldIn, partHeldIn, partsIn}
 use Rattle.round_trip.proofs.Listing.{one-allowed}
 
 -- two tests that tell each other
@@ -110,17 +110,17 @@ rows-parts (suc n) b h =
         (λ t. eq-eqb (length b - 51) (51 * n) (omega (arith, eqb-true (length b) (51 * suc n) t)))
 
 -- the parts are the rows
-row-held : (b : List ℕ) → isRow (take 51 b) ≡ true → rowHeld (rowFrom (take 51 b)) ≡ partIn ProcessInfo b
-unfolding rowHeld partIn heldIn valuesOf headLong fields padded fieldsOf longOf valuesIn meant formOf restOf restLong first second numberAt numberOf
+row-held : (b : List ℕ) → isRow (take 51 b) ≡ true → rowHeld (rowFrom (take 51 b)) ≡ partHeldIn ProcessInfo b
+unfolding rowHeld partHeldIn pieceHeldIn valuesOf headLong fields padded fieldsOf longOf valuesIn meant formOf restOf restLong first second numberAt numberOf
 row-held b e = by b (row-shaped (take 51 b) e .long) (row-shaped (take 51 b) e .typed)
   where
-    by : (b : List ℕ) → length (take 51 b) ≡ 51 → getD (take 51 b) 2 0 ≤ 2 → rowHeld (rowFrom (take 51 b)) ≡ partIn ProcessInfo b
+    by : (b : List ℕ) → length (take 51 b) ≡ 51 → getD (take 51 b) 2 0 ≤ 2 → rowHeld (rowFrom (take 51 b)) ≡ partHeldIn ProcessInfo b
     by [] h k = absurd (omega arith)
     by (x ∷ []) h k = absurd (omega arith)
     by (x ∷ y ∷ []) h k = absurd (omega arith)
     by (x ∷ y ∷ z ∷ rest) h k = rw (type-forth z k, zero-add z)
 
-part-at : (n at : ℕ) (b : List ℕ) (none : PartHeld) → at < n → getD (partsIn ProcessInfo n b) at none ≡ partIn ProcessInfo (drop (at * 51) b)
+part-at : (n at : ℕ) (b : List ℕ) (none : PartHeld) → at < n → getD (partsIn ProcessInfo n b) at none ≡ partHeldIn ProcessInfo (drop (at * 51) b)
 unfolding partsIn
 part-at zero at b none h = absurd (omega arith)
 part-at (suc n) zero b none h = refl

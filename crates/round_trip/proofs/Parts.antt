@@ -15,7 +15,7 @@ use Rattle.formats.specs.Formats.{restOf}
 use Rattle.fields.specs.Fields.{fields, areAllowed}
 use Rattle.pieces.specs.Pieces.{pieceLong, isPiece, first, second, behind, isPart, partLong, areParts, fitsRest}
 use Rattle.messages.specs.Messages.{layoutFor, messageBytes, carries}
-use Rattle.round_trip.specs.Parts.{PieceHeld, PartHeld, pieceBytes, partBytes, PieceCarried, PartCarried, heldIn, partIn, partsIn}
+use Rattle.round_trip.specs.Parts.{PieceHeld, PartHeld, pieceBytes, partBytes, PieceCarried, PartCarried, pieceHeldIn, partHeldIn, partsIn}
 use Rattle.round_trip.specs.RoundTrip.{ReadsAs, ListReadsAs}
 use Rattle.round_trip.proofs.Bodies.{piece-values, piece-said, piece-taken, piece-rest, piece-behind}
 use Rattle.round_trip.proofs.Messages.{written-is-read}
@@ -30,8 +30,8 @@ module _ (layout : Layout) (piece : PieceHeld) (y : List ℕ) (c : PieceCarried 
   unfolding pieceBytes
   passed = piece-behind layout (piece .values) (piece .rest) y (c .seven) (c .carried)
 
-  held-back : heldIn layout (pieceBytes layout piece ++ y) ≡ piece
-  unfolding pieceBytes heldIn
+  held-back : pieceHeldIn layout (pieceBytes layout piece ++ y) ≡ piece
+  unfolding pieceBytes pieceHeldIn
   held-back =
       rw (piece-values layout (piece .values) (piece .rest) y (c .seven) (c .carried), ← piece-said layout (piece .values) (piece .rest) y (c .seven) (c .carried), piece-rest layout (piece .values) (piece .rest) y (c .seven) (c .carried))
 
@@ -56,8 +56,8 @@ module _ (part : Part) (held : PartHeld) (y : List ℕ) (c : PartCarried part he
   part-taken =
       rw (behind-is, taken (second part) (held .back) y (c .back), whole, taken (first part) (held .front) later (c .front))
 
-  part-back : partIn part (partBytes part held ++ y) ≡ held
-  unfolding partIn
+  part-back : partHeldIn part (partBytes part held ++ y) ≡ held
+  unfolding partHeldIn
   part-back =
       rw (behind-is, held-back (second part) (held .back) y (c .back), whole, held-back (first part) (held .front) later (c .front))
 

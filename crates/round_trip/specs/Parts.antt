@@ -36,14 +36,14 @@ pub record PartCarried (part : Part) (held : PartHeld) : Type 0 where
   pub back : PieceCarried (second part) (held .back)
 
 -- ---- read
-unfoldable pub heldIn : Layout → List ℕ → PieceHeld
-heldIn layout b =
+unfoldable pub pieceHeldIn : Layout → List ℕ → PieceHeld
+pieceHeldIn layout b =
     record { values = valuesOf layout b; rest = take (restLong (restOf layout) (valuesOf layout b)) (drop (headLong layout) b) }
 
-unfoldable pub partIn : Part → List ℕ → PartHeld
-partIn part b = record { front = heldIn (first part) b; back = heldIn (second part) (behind part b) }
+unfoldable pub partHeldIn : Part → List ℕ → PartHeld
+partHeldIn part b = record { front = pieceHeldIn (first part) b; back = pieceHeldIn (second part) (behind part b) }
 
 -- so many parts, one after the other
 unfoldable pub partsIn : Part → ℕ → List ℕ → List PartHeld
 partsIn part zero b = []
-partsIn part (suc n) b = partIn part b ∷ partsIn part n (drop (partLong part b) b)
+partsIn part (suc n) b = partHeldIn part b ∷ partsIn part n (drop (partLong part b) b)
