@@ -1,9 +1,10 @@
 //! Carries commands out on the module that the console holds.
 
 use crate::line::{quoted, visible, Command, Records, Words, DOCUMENT_01};
-use crate::{draw, files, help};
+use crate::write::Written;
+use crate::{draw, files, formats, help, read};
 use slavotuk::entries::{self, RawClaim};
-use slavotuk::{Call, Listing, Module, REQUEST_LENGTH, STATE_LENGTH};
+use slavotuk::{Call, Listing, Module, WireCredential, REQUEST_LENGTH, STATE_LENGTH};
 use std::io::{self, Write};
 
 /// Why a command was not carried out.
@@ -89,7 +90,8 @@ impl Console {
             Command::Records(records) => self.records(records, line, out)?,
             Command::Show { whole } => draw::module(&self.module()?, whole, out)?,
             Command::Request(wanted) => request(wanted, out)?,
-            Command::Read(message) => read(&message, out)?,
+            Command::Read(message) => read::message(&message, out)?,
+            Command::Write(written) => write(&written, out)?,
             Command::Save(file) => {
                 files::save(&file, &self.state)?;
                 writeln!(out, "saved {STATE_LENGTH} bytes")?;
@@ -101,9 +103,12 @@ impl Console {
             }
             Command::History => self.history.draw(out)?,
             Command::Help(None) => help::overview(out)?,
-            Command::Help(Some(name)) => match help::topic(&name) {
-                Some(topic) => help::details(topic, out)?,
-                None => return Err(Trouble::Line(format!("help: no command {}", quoted(&name)))),
+            Command::Help(Some(name)) => match (help::topic(&name), formats::named(&name)) {
+                (Some(topic), _) => help::details(topic, out)?,
+                (None, Some(format)) => help::message(format, out)?,
+                (None, None) => {
+                    return Err(Trouble::Line(format!("help: no command {}", quoted(&name))))
+                }
             },
             Command::Quit => return Ok(Next::End),
         }
@@ -138,7 +143,7 @@ impl Console {
             } if number == 0 => {
                 let message = response.get(..length).unwrap_or_default();
                 draw::dump(message, out)?;
-                decoded(message, out)
+                listed(message, out)
             }
             _ => Ok(()),
         }
@@ -178,28 +183,23 @@ fn request(wanted: u16, out: &mut impl Write) -> io::Result<()> {
     let number = entries::write_request(&mut message, wanted);
     writeln!(out, "{}", draw::answer(number))?;
     draw::dump(&message, out)?;
-    decoded(&message, out)
+    draw::request(WireCredential(wanted), out)
 }
 
-fn read(message: &[u8], out: &mut impl Write) -> io::Result<()> {
-    let requested = slavotuk::read_request(message).map(drop);
-    let number = match requested.or(Listing::read(message).map(drop)) {
-        Ok(()) => 0,
-        Err(refusal) => refusal.number(),
-    };
-    writeln!(out, "{}", draw::answer(number))?;
-    decoded(message, out)
-}
-
-/// Draws a message that one of the two readers takes, or says what it is not.
-fn decoded(message: &[u8], out: &mut impl Write) -> io::Result<()> {
-    if let Ok(wanted) = slavotuk::read_request(message) {
-        return draw::request(wanted, out);
+fn write(written: &Written, out: &mut impl Write) -> io::Result<()> {
+    match written.message() {
+        Ok(message) => {
+            writeln!(out, "{}", draw::answer(0))?;
+            draw::dump(&message, out)
+        }
+        Err(number) => writeln!(out, "{}\n{}", draw::answer(number), written.asked()),
     }
-    match (Listing::read(message), message.first()) {
-        (Ok(listing), _) => draw::listing(&listing, out),
-        (_, Some(0x8e)) => writeln!(out, "code 8e, but no GET_AUTH_PROCESSES"),
-        (_, Some(0x0e)) => writeln!(out, "code 0e, but no AUTH_PROCESSES"),
-        _ => writeln!(out, "neither code 8e nor code 0e"),
+}
+
+/// Draws what the module has listed.
+fn listed(message: &[u8], out: &mut impl Write) -> io::Result<()> {
+    match Listing::read(message) {
+        Ok(listing) => draw::listing(&listing, out),
+        Err(_) => writeln!(out, "code 0e, but no AUTH_PROCESSES"),
     }
 }

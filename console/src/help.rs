@@ -1,5 +1,7 @@
 //! What `help` says.
 
+use crate::formats::{Format, Rest, FORMATS};
+use crate::tables::{self, Row};
 use std::io::{self, Write};
 
 /// A command, or a part of one that has an entry of its own.
@@ -15,7 +17,7 @@ pub struct Topic {
 }
 
 /// The commands, in the order of their listing.
-pub const COMMANDS: [Topic; 22] = [
+pub const COMMANDS: [Topic; 23] = [
     Topic {
         name: "fresh",
         form: "fresh [CREDENTIAL=WORD ..]",
@@ -142,8 +144,25 @@ pub const COMMANDS: [Topic; 22] = [
         form: "read HEX..",
         short: "decode the bytes of a message",
         more: &[
-            "AUTH_PROCESSES and GET_AUTH_PROCESSES are told apart by their codes. HEX is",
-            "bytes in a name's forms, with blanks between them or not.",
+            "The 31 messages of 004 clause 9.2 are told apart by their codes. Fields are",
+            "drawn with 004's names in the form in which 'write' takes them, and what a",
+            "value means behind two blanks; each part of a list has a line. HEX is bytes in",
+            "a name's forms, with blanks between them or not. Refused with 14.",
+        ],
+    },
+    Topic {
+        name: "write",
+        form: "write MESSAGE FIELD=VALUE ..",
+        short: "the bytes of a message",
+        more: &[
+            "The fields stand in any order, a value being a number or bytes in a name's",
+            "forms; VendorID= has none. A count or length may be left out: it is that of",
+            "what follows. The word 'part' comes before the fields of each part of a list.",
+            "For instance: write END_AUTH CredentialID=3 PersistMethod=1",
+            "or:           write AUTH_POLICY PolicyAttributes=1 CredentialID=3 part ID=0",
+            "              VendorID=2101 PolicyVersion=0x1000 Policy=01*4 part ID=3 ..",
+            "all in one line. Reserved bytes are written zero. Refused with 14.",
+            "'help END_AUTH' has the fields of END_AUTH, and 'help message' all messages.",
         ],
     },
     Topic {
@@ -182,7 +201,7 @@ pub const COMMANDS: [Topic; 22] = [
 ];
 
 /// The parts of commands.
-const PARTS: [Topic; 3] = [
+const PARTS: [Topic; 4] = [
     Topic {
         name: "number",
         form: "decimal, or hexadecimal after 0x",
@@ -210,6 +229,12 @@ const PARTS: [Topic; 3] = [
             "them repeated where * and a count follow: 00*16+11*32 is P. TEXT is padded",
             "with zero bytes. A name of another length is the module's to answer.",
         ],
+    },
+    Topic {
+        name: "message",
+        form: "END_AUTH, or another one of 004 clause 9.2",
+        short: "by its name; 'help END_AUTH' has its fields",
+        more: &[],
     },
 ];
 
@@ -241,7 +266,8 @@ pub fn overview(out: &mut impl Write) -> io::Result<()> {
     }
     writeln!(
         out,
-        "'help COMMAND' says more, and so do 'help number', 'help claim' and 'help name'.\n\
+        "'help COMMAND' says more, and so do 'help number', 'help claim', 'help name' and\n\
+         'help message'.\n\
          Blank lines and lines that begin with # are skipped. For line editing at a\n\
          terminal install rlwrap; 'make run' uses it where it is there."
     )
@@ -254,5 +280,43 @@ pub fn details(topic: &Topic, out: &mut impl Write) -> io::Result<()> {
     topic
         .more
         .iter()
-        .try_for_each(|line| writeln!(out, "  {line}"))
+        .try_for_each(|line| writeln!(out, "  {line}"))?;
+    if topic.name == "message" {
+        FORMATS
+            .iter()
+            .try_for_each(|format| writeln!(out, "  {:02x}  {}", format.code, format.name))?;
+    }
+    Ok(())
+}
+
+/// The fields of a message, and those of its parts.
+pub fn message(format: &'static Format, out: &mut impl Write) -> io::Result<()> {
+    writeln!(out, "{}", format.name)?;
+    for (first, layout) in format.layouts() {
+        if let Some(with) = tables::with_first(first, layout) {
+            writeln!(out, "with {with}")?;
+        }
+        table(tables::of_message(format, layout), out)?;
+        if let Rest::Parts(list, part) = &layout.rest {
+            writeln!(out, "each part of {list}, a {}", part.name)?;
+            table(tables::of_part(part), out)?;
+        }
+    }
+    Ok(())
+}
+
+/// The rows below the names of their columns, each column as wide as it has to be.
+fn table(rows: Vec<Row>, out: &mut impl Write) -> io::Result<()> {
+    let mut lines = vec![tables::COLUMNS.map(str::to_lowercase)];
+    lines.extend(rows);
+    let width = |at: usize| lines.iter().map(|line| line[at].len()).max().unwrap_or(0);
+    let widths = [0, 1, 2, 3, 4].map(width);
+    for line in &lines {
+        let cells = line.iter().zip(widths);
+        let cells: Vec<String> = cells
+            .map(|(cell, width)| format!("{cell:width$}"))
+            .collect();
+        writeln!(out, "  {}", cells.join("  ").trim_end())?;
+    }
+    Ok(())
 }

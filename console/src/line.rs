@@ -1,7 +1,7 @@
 //! Reads a line into a command.
 
-use crate::bytes;
-use crate::help;
+use crate::write::{Given, Written};
+use crate::{bytes, formats, help};
 use slavotuk::entries::RawClaim;
 use slavotuk::{Call, Credential, FULL_LISTING_LENGTH, NAME_LENGTH};
 use std::path::PathBuf;
@@ -30,6 +30,8 @@ pub enum Command {
     Request(u16),
     /// A message to be decoded.
     Read(Vec<u8>),
+    /// A message to be written.
+    Write(Written),
     /// The state into a file.
     Save(PathBuf),
     /// The state from a file.
@@ -99,6 +101,7 @@ fn command(name: &str, words: &mut Reader) -> Result<Command, String> {
         },
         "request" => Command::Request(words.wanted16()?),
         "read" => Command::Read(words.message()?),
+        "write" => Command::Write(words.written()?),
         "save" => Command::Save(words.file()?),
         "load" => Command::Load(words.file()?),
         "history" => Command::History,
@@ -197,8 +200,13 @@ fn first_word(text: &str) -> Result<(Word<'_>, &str), String> {
     Ok((Word { text, is_quoted }, after))
 }
 
-/// A number of 32 bits, decimal or hexadecimal after 0x.
+/// A number of 32 bits.
 fn number_of(text: &str) -> Result<u32, String> {
+    number_of_bits(text, 32).map(|number| number as u32)
+}
+
+/// A number of so many bits, at most 64, decimal or hexadecimal after 0x.
+pub fn number_of_bits(text: &str, bits: u32) -> Result<u64, String> {
     let (digits, radix) = match text.strip_prefix("0x") {
         Some(digits) => (digits, 16),
         None => (text, 10),
@@ -206,7 +214,10 @@ fn number_of(text: &str) -> Result<u32, String> {
     if digits.is_empty() || !digits.chars().all(|c| c.is_digit(radix)) {
         return Err(format!("{} is no number", quoted(text)));
     }
-    u32::from_str_radix(digits, radix).map_err(|_| format!("{} is over 32 bits", quoted(text)))
+    u64::from_str_radix(digits, radix)
+        .ok()
+        .filter(|number| number.leading_zeros() >= 64 - bits)
+        .ok_or_else(|| format!("{} is over {bits} bits", quoted(text)))
 }
 
 fn narrow(number: u32) -> Result<u16, String> {
@@ -346,6 +357,22 @@ impl<'a> Reader<'a> {
                 return Ok(message);
             }
         }
+    }
+
+    /// A message's name, its fields, and those of each part behind the word part.
+    fn written(&mut self) -> Result<Written, String> {
+        let name = self.plain("message")?;
+        let format = formats::named(name)
+            .ok_or_else(|| format!("no message {}; 'help message' has them", quoted(name)))?;
+        let mut head = Given::default();
+        let mut parts: Vec<Given> = Vec::new();
+        while !self.is_done() {
+            match self.plain("field")? {
+                "part" => parts.push(Given::default()),
+                field => parts.last_mut().unwrap_or(&mut head).add(field)?,
+            }
+        }
+        Written::of(format, &head, &parts)
     }
 
     fn topic(&mut self) -> Result<Option<String>, String> {

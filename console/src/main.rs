@@ -4,10 +4,16 @@
 
 mod bytes;
 mod console;
+#[cfg(test)]
+mod document;
 mod draw;
 mod files;
+mod formats;
 mod help;
 mod line;
+mod read;
+mod tables;
+mod write;
 
 use console::{Console, Next, Trouble};
 use std::ffi::OsString;

@@ -21,7 +21,7 @@ impl Chance {
     }
 }
 
-const WORDS: [&str; 61] = [
+const WORDS: [&str; 75] = [
     "open",
     "close",
     "select",
@@ -38,6 +38,20 @@ const WORDS: [&str; 61] = [
     "show",
     "request",
     "read",
+    "write",
+    "END_AUTH",
+    "AUTH_POLICY",
+    "AUTH_ERROR",
+    "part",
+    "CredentialID=3",
+    "PersistMethod=2",
+    "ErrorCode=0xff",
+    "ID=1",
+    "VendorID=",
+    "VendorIDLen=300",
+    "Policy=00*65535",
+    "PolicyVersion=",
+    "=",
     "history",
     "help",
     "fresh",
@@ -86,7 +100,7 @@ const WORDS: [&str; 61] = [
 ];
 
 /// The start of a line that could be a good one.
-const HEADS: [&str; 16] = [
+const HEADS: [&str; 20] = [
     "open 0",
     "open 1",
     "select 0 0x10",
@@ -103,6 +117,10 @@ const HEADS: [&str; 16] = [
     "continue 1 0 P",
     "drop",
     "close",
+    "write END_AUTH CredentialID=1",
+    "write AUTH_ERROR ErrorCode=255 ErrorData=0",
+    "write AUTH_POLICY PolicyAttributes=0 CredentialID=1 part ID=0",
+    "write SET_AUTH_POLICY SetAuthPolicyOp=1 CredentialID=1 part",
 ];
 
 fn some_words(chance: &mut Chance) -> String {
@@ -160,16 +178,55 @@ fn lines_of_random_words() {
     }
 }
 
-#[test]
-fn good_lines_with_a_changed_byte() {
-    let steps = include_bytes!("../../examples/worked-steps.txt");
+fn with_changed_bytes(example: &[u8]) {
     let mut chance = Chance(77);
     for _ in 0..40 {
-        let mut script = steps.to_vec();
+        let mut script = example.to_vec();
         for _ in 0..20 {
             let at = chance.below(script.len());
             script[at] = chance.below(256) as u8;
         }
         goes_through(script);
     }
+}
+
+#[test]
+fn good_lines_with_a_changed_byte() {
+    with_changed_bytes(include_bytes!("../../examples/worked-steps.txt"));
+    with_changed_bytes(include_bytes!("../../examples/messages.txt"));
+}
+
+/// Every message of the example, with some of its bytes changed, some left out and some added.
+#[test]
+fn messages_with_changed_bytes() {
+    let example = good(include_str!("../../examples/messages.txt"));
+    let messages = example.split("0 done\n").map(bytes_of);
+    let messages: Vec<Vec<u8>> = messages.filter(|message| !message.is_empty()).collect();
+    assert!(messages.len() > 31);
+    let mut chance = Chance(0xbeef);
+    let mut script = String::new();
+    for _ in 0..200 {
+        for message in &messages {
+            let mut bytes = message.clone();
+            for _ in 0..chance.below(4) {
+                let at = chance.below(bytes.len());
+                bytes[at] = chance.below(256) as u8;
+            }
+            if chance.below(4) == 0 {
+                bytes.resize(chance.below(bytes.len() + 4), 0);
+            }
+            let digits: String = bytes.iter().map(|byte| format!("{byte:02x}")).collect();
+            script.push_str(&format!("read {digits}\n"));
+        }
+    }
+    goes_through(script.into_bytes());
+}
+
+/// The bytes that the console has drawn in lines.
+fn bytes_of(drawn: &str) -> Vec<u8> {
+    let lines = drawn.lines().take_while(|line| line.starts_with("  "));
+    let digits = lines.flat_map(|line| line.split_whitespace().skip(1));
+    digits
+        .map_while(|digits| u8::from_str_radix(digits, 16).ok())
+        .collect()
 }

@@ -201,10 +201,10 @@ since fresh 3=0x10
     assert_eq!(&out[from..], told);
 }
 
-const COMMANDS: [&str; 22] = [
+const COMMANDS: [&str; 23] = [
     "fresh", "open", "close", "select", "start", "continue", "elevate", "drop", "end", "record",
-    "records", "list", "kill", "set-word", "show", "request", "read", "save", "load", "history",
-    "help", "quit",
+    "records", "list", "kill", "set-word", "show", "request", "read", "write", "save", "load",
+    "history", "help", "quit",
 ];
 
 #[test]
@@ -218,7 +218,10 @@ fn help_names_every_command() {
         .collect();
     assert_eq!(named, COMMANDS);
     assert!(overview.lines().all(|line| line.len() <= 80), "{overview}");
-    for name in COMMANDS.into_iter().chain(["number", "claim", "name"]) {
+    for name in COMMANDS
+        .into_iter()
+        .chain(["number", "claim", "name", "message"])
+    {
         let details = good(format!("help {name}\n"));
         assert!(details.lines().count() >= 2, "{details}");
         assert!(details.lines().all(|line| line.len() <= 80), "{details}");

@@ -170,21 +170,23 @@ GET_AUTH_PROCESSES, wanted 65535, all
      0  8e 00 02 01
 GET_AUTH_PROCESSES, wanted 258
 0 done
-GET_AUTH_PROCESSES, wanted 513
+GET_AUTH_PROCESSES
+  CredentialID=513
 14 message
 code 8e, but no GET_AUTH_PROCESSES
 0 done
-AUTH_PROCESSES, 2 rows
-  row 0: credential 65535, type 2 saved user, name 6162+00*46
-  row 1: credential 7, type 0 active user, name 01*48
+AUTH_PROCESSES
+  AuthProcInfoCount=2
+  part 0: CredentialID=65535 AuthProcessType=2 AuthProcID=6162+00*46  saved user
+  part 1: CredentialID=7 AuthProcessType=0 AuthProcID=01*48  active user
 14 message
 code 0e, but no AUTH_PROCESSES
 14 message
 code 0e, but no AUTH_PROCESSES
 14 message
-neither code 8e nor code 0e
+no message has no bytes
 14 message
-neither code 8e nor code 0e
+code 0f, but no PROCESS_KILLED
 ";
     assert_eq!(good(script), drawn);
 }
@@ -192,6 +194,6 @@ neither code 8e nor code 0e
 #[test]
 fn the_largest_message_is_read() {
     let out = good("read 0e00ffff 00*3342285\n");
-    assert_eq!(out.lines().nth(1), Some("AUTH_PROCESSES, 65535 rows"));
-    assert_eq!(out.lines().count(), 2 + 65535);
+    assert_eq!(out.lines().nth(2), Some("  AuthProcInfoCount=65535"));
+    assert_eq!(out.lines().count(), 3 + 65535);
 }

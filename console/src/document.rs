@@ -1,0 +1,165 @@
+//! The part of docs/WIRE.md that is computed: a table for each message and each part of a list, and examples with the bytes that the module writes.
+
+use crate::formats::{
+    Format, Part, Rest, AUTH_PROC_INFO, FORMATS, POLICY, POLICY_OWNER, RESET_ELEMENT,
+    VERSION_NUMBER_ENTRY,
+};
+use crate::line::{self, Command};
+use crate::tables::{self, Row};
+use crate::{draw, formats};
+use std::path::Path;
+
+/// The line of docs/WIRE.md behind which everything is computed.
+const MARK: &str =
+    "<!-- Computed from here on: RENEW_WIRE=1 cargo test --release --package slavotuk-console the_document -->\n";
+
+/// Set where the document is to be written anew.
+const RENEW: &str = "RENEW_WIRE";
+
+static PARTS: [&Part; 5] = [
+    &VERSION_NUMBER_ENTRY,
+    &AUTH_PROC_INFO,
+    &POLICY_OWNER,
+    &POLICY,
+    &RESET_ELEMENT,
+];
+
+fn path(name: &str) -> std::path::PathBuf {
+    Path::new(env!("CARGO_MANIFEST_DIR")).join("..").join(name)
+}
+
+/// The lines of the example that write a message, each with its bytes.
+fn examples() -> Vec<(&'static Format, String, Vec<u8>)> {
+    let script = std::fs::read_to_string(path("examples/messages.txt")).unwrap();
+    let mut examples = Vec::new();
+    for text in script.lines() {
+        if let Some(Command::Write(written)) = line::read(text).unwrap() {
+            if let Ok(message) = written.message() {
+                let format = formats::of_code(message[0]).unwrap();
+                examples.push((format, text.to_string(), message));
+            }
+        }
+    }
+    examples
+}
+
+fn table(rows: Vec<Row>) -> String {
+    let mut text = format!(
+        "| {} |\n|---|---|---|---|---|\n",
+        tables::COLUMNS.join(" | ")
+    );
+    for row in rows {
+        text.push_str(&format!("| {} |\n", row.join(" | ")));
+    }
+    text
+}
+
+fn code_block(line: &str, message: &[u8]) -> String {
+    let mut dump = Vec::new();
+    draw::dump(message, &mut dump).unwrap();
+    let mut text = format!("\n    {line}\n");
+    for bytes in String::from_utf8(dump).unwrap().lines() {
+        text.push_str(&format!("    {bytes}\n"));
+    }
+    text
+}
+
+fn computed() -> String {
+    let examples = examples();
+    let mut text = String::from("\n## The parts of lists\n");
+    for part in PARTS {
+        text.push_str(&format!("\n### A {}\n\n", part.name));
+        text.push_str(&table(tables::of_part(part)));
+    }
+    for (at, format) in FORMATS.iter().enumerate() {
+        match at {
+            0 => text.push_str("\n## Requests\n"),
+            15 => text.push_str("\n## Responses\n"),
+            _ => {}
+        }
+        text.push_str(&format!("\n### {}, `{:02x}`\n", format.name, format.code));
+        for (first, layout) in format.layouts() {
+            if let Some(with) = tables::with_first(first, layout) {
+                text.push_str(&format!("\nWith {with}:\n"));
+            }
+            text.push('\n');
+            text.push_str(&table(tables::of_message(format, layout)));
+        }
+        for (_, line, message) in examples.iter().filter(|(of, ..)| of.code == format.code) {
+            text.push_str(&code_block(line, message));
+        }
+    }
+    text
+}
+
+#[test]
+fn the_document_is_what_is_computed() {
+    let file = path("docs/WIRE.md");
+    let found = std::fs::read_to_string(&file).unwrap();
+    let (by_hand, _) = found.split_once(MARK).expect("docs/WIRE.md has the mark");
+    let wanted = format!("{by_hand}{MARK}{}", computed());
+    if std::env::var_os(RENEW).is_some() {
+        std::fs::write(&file, wanted).unwrap();
+        return;
+    }
+    for (at, (line, wanted)) in found.lines().zip(wanted.lines()).enumerate() {
+        assert_eq!(
+            line,
+            wanted,
+            "docs/WIRE.md, line {}; {RENEW}=1 renews it",
+            at + 1
+        );
+    }
+    assert_eq!(
+        found.len(),
+        wanted.len(),
+        "docs/WIRE.md; {RENEW}=1 renews it"
+    );
+}
+
+#[test]
+fn every_message_and_layout_has_an_example() {
+    for format in &FORMATS {
+        for (first, layout) in format.layouts() {
+            let has = examples().iter().any(|(of, _, message)| {
+                of.code == format.code && (first.is_empty() || first.contains(&message[2].into()))
+            });
+            assert!(
+                has,
+                "{} {:?}",
+                format.name,
+                tables::with_first(first, layout)
+            );
+        }
+    }
+}
+
+/// The offsets and lengths of the tables are those at which the module writes: each number of each example, where its table has it.
+#[test]
+fn numbers_stand_where_the_tables_have_them() {
+    for (format, line, message) in examples() {
+        let given: Vec<(&str, &str)> = line
+            .split(" part ")
+            .next()
+            .unwrap()
+            .split(' ')
+            .filter_map(|word| word.split_once('='))
+            .collect();
+        let layout = format.layout(message.get(2).copied().unwrap_or(0).into());
+        let mut offset = 2;
+        for field in layout.fields {
+            let mut bytes = message[offset..offset + field.bytes].to_vec();
+            bytes.resize(8, 0);
+            let found = u64::from_le_bytes(bytes.try_into().unwrap());
+            if let Some((_, text)) = given.iter().find(|(name, _)| *name == field.name) {
+                let value = line::number_of_bits(text, 64).unwrap();
+                assert_eq!(found, value, "{line}: {}", field.name);
+            }
+            offset += field.bytes;
+        }
+        match &layout.rest {
+            Rest::Bytes([]) => assert_eq!(offset, message.len(), "{line}"),
+            Rest::Bytes(_) | Rest::Parts(..) => assert!(offset <= message.len(), "{line}"),
+        }
+    }
+}
