@@ -1,7 +1,7 @@
 //! The part of docs/WIRE.md that is computed: a table for each message and each part of a list, and examples with the bytes that the module writes.
 
 use crate::formats::{
-    Format, Part, Rest, AUTH_PROC_INFO, FORMATS, POLICY, POLICY_OWNER, RESET_ELEMENT,
+    Drawn, Field, Format, Part, Rest, AUTH_PROC_INFO, FORMATS, POLICY, POLICY_OWNER, RESET_ELEMENT,
     VERSION_NUMBER_ENTRY,
 };
 use crate::line::{self, Command};
@@ -64,9 +64,69 @@ fn code_block(line: &str, message: &[u8]) -> String {
     text
 }
 
+/// Every field, with the message or part that it is in.
+fn fields() -> Vec<(&'static Field, String)> {
+    let mut fields = Vec::new();
+    for part in PARTS {
+        let of_part = part.pieces.iter().flat_map(|(_, layout)| layout.fields);
+        fields.extend(of_part.map(|field| (field, format!("a {}", part.name))));
+    }
+    for format in &FORMATS {
+        let of_format = format
+            .layouts()
+            .into_iter()
+            .flat_map(|(_, layout)| layout.fields);
+        fields.extend(of_format.map(|field| (field, format.name.to_string())));
+    }
+    fields
+}
+
+/// What the numbers of a field are called.
+fn called(field: &Field) -> Option<String> {
+    let called: Vec<String> = match field.drawn {
+        Drawn::Decimal | Drawn::Hexadecimal => return None,
+        Drawn::Bits(names) => {
+            let bits = names.iter().enumerate();
+            bits.map(|(bit, name)| format!("bit {bit} {name}"))
+                .collect()
+        }
+        Drawn::Named(names) => {
+            let numbers = names.iter();
+            numbers
+                .map(|(number, name)| format!("{number} {name}"))
+                .collect()
+        }
+    };
+    Some(called.join(", "))
+}
+
+/// The fields whose numbers have names, each once, with what it is in.
+fn names() -> String {
+    let mut rows: Vec<(&str, String, Vec<String>)> = Vec::new();
+    for (field, place) in fields() {
+        let Some(called) = called(field) else {
+            continue;
+        };
+        match rows
+            .iter_mut()
+            .find(|row| (row.0, &row.1) == (field.name, &called))
+        {
+            Some((_, _, places)) if places.contains(&place) => {}
+            Some((_, _, places)) => places.push(place),
+            None => rows.push((field.name, called, vec![place])),
+        }
+    }
+    let mut text = String::from("| Field | Numbers | In |\n|---|---|---|\n");
+    for (name, called, places) in rows {
+        text.push_str(&format!("| {name} | {called} | {} |\n", places.join(", ")));
+    }
+    text
+}
+
 fn computed() -> String {
     let examples = examples();
-    let mut text = String::from("\n## The parts of lists\n");
+    let mut text = format!("\n## What numbers are called\n\n{}", names());
+    text.push_str("\n## The parts of lists\n");
     for part in PARTS {
         text.push_str(&format!("\n### A {}\n\n", part.name));
         text.push_str(&table(tables::of_part(part)));
