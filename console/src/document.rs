@@ -1,12 +1,12 @@
 //! The part of docs/WIRE.md that is computed: a table for each message and each part of a list, and examples with the bytes that the module writes.
 
 use crate::formats::{
-    Drawn, Field, Format, Part, Rest, AUTH_PROC_INFO, FORMATS, POLICY, POLICY_OWNER, RESET_ELEMENT,
-    VERSION_NUMBER_ENTRY,
+    Drawn, Field, Format, Layout, Part, Rest, AUTH_PROC_INFO, FORMATS, POLICY, POLICY_OWNER,
+    RESET_ELEMENT, VERSION_NUMBER_ENTRY,
 };
 use crate::line::{self, Command};
 use crate::tables::{self, Row};
-use crate::{draw, formats};
+use crate::{bytes, draw, formats};
 use std::path::Path;
 
 /// The line of docs/WIRE.md behind which everything is computed.
@@ -194,32 +194,68 @@ fn every_message_and_layout_has_an_example() {
     }
 }
 
-/// The offsets and lengths of the tables are those at which the module writes: each number of each example, where its table has it.
+/// The value that a line gives a field.
+fn given<'a>(words: &'a str, name: &str) -> Option<&'a str> {
+    let mut pairs = words.split(' ').filter_map(|word| word.split_once('='));
+    pairs
+        .find(|(field, _)| *field == name)
+        .map(|(_, value)| value)
+}
+
+/// The bytes that a value is written with.
+fn bytes_of(value: &str) -> Vec<u8> {
+    if let Some(name) = bytes::of_letter(value) {
+        return name.to_vec();
+    }
+    let mut bytes = Vec::new();
+    if !value.is_empty() {
+        bytes::read(value, &mut bytes).unwrap();
+    }
+    bytes
+}
+
+/// Asks that the message has the given numbers and bytes one behind the other from an offset on, and gives where they end.
+fn end_of(layout: &Layout, words: &str, message: &[u8], mut at: usize) -> usize {
+    for field in layout.fields {
+        let mut number = [0; 8];
+        number[..field.bytes].copy_from_slice(&message[at..at + field.bytes]);
+        if let Some(value) = given(words, field.name) {
+            let value = line::number_of_bits(value, 64).unwrap();
+            assert_eq!(u64::from_le_bytes(number), value, "{words}: {}", field.name);
+        }
+        at += field.bytes;
+    }
+    let Rest::Bytes(rest) = &layout.rest else {
+        return at;
+    };
+    for field in *rest {
+        let value = bytes_of(given(words, field.name).unwrap());
+        assert_eq!(
+            message[at..at + value.len()],
+            value,
+            "{words}: {}",
+            field.name
+        );
+        at += value.len();
+    }
+    at
+}
+
+/// The offsets and lengths of the tables are those with which the module writes.
 #[test]
-fn numbers_stand_where_the_tables_have_them() {
+fn fields_stand_where_the_tables_have_them() {
     for (format, line, message) in examples() {
-        let given: Vec<(&str, &str)> = line
-            .split(" part ")
-            .next()
-            .unwrap()
-            .split(' ')
-            .filter_map(|word| word.split_once('='))
-            .collect();
+        let mut words = line.split(" part ");
         let layout = format.layout(message.get(2).copied().unwrap_or(0).into());
-        let mut offset = 2;
-        for field in layout.fields {
-            let mut bytes = message[offset..offset + field.bytes].to_vec();
-            bytes.resize(8, 0);
-            let found = u64::from_le_bytes(bytes.try_into().unwrap());
-            if let Some((_, text)) = given.iter().find(|(name, _)| *name == field.name) {
-                let value = line::number_of_bits(text, 64).unwrap();
-                assert_eq!(found, value, "{line}: {}", field.name);
+        let mut at = end_of(layout, words.next().unwrap(), &message, 2);
+        for words in words {
+            let Rest::Parts(_, part) = &layout.rest else {
+                panic!("{line}");
+            };
+            for (_, piece) in part.pieces {
+                at = end_of(piece, words, &message, at);
             }
-            offset += field.bytes;
         }
-        match &layout.rest {
-            Rest::Bytes([]) => assert_eq!(offset, message.len(), "{line}"),
-            Rest::Bytes(_) | Rest::Parts(..) => assert!(offset <= message.len(), "{line}"),
-        }
+        assert_eq!(at, message.len(), "{line}");
     }
 }
