@@ -29,9 +29,6 @@ layout-is message p q e = e ∙ rw (p, q)
 pub head-fits : (l : Layout) {long : ℕ} → long ≡ longOf (fields l) → Fits w64 (2 + long)
 head-fits l e = omega (arith, long-most l)
 
-pub fields-begin : (message : List ℕ) (long : ℕ) → 2 + long ≤ length message → 2 ≤ length message
-fields-begin message long h = omega arith
-
 module _ (message : List ℕ) {l : Layout} {long : ℕ} (e : l ≡ layoutIn message) (q : long ≡ longOf (fields l)) where
   head-is : 2 + long ≡ headOf (layoutIn message)
   unfolding headOf headLong
@@ -66,4 +63,4 @@ module _ (message : List ℕ) {l : Layout} {long : ℕ} (e : l ≡ layoutIn mess
         unfolding readMessage isMessage
         message-taken m = rw (← head-is, le-leb (2 + long) (length message) h, sym allowed-is ∙ not-false a n, sym fits-is ∙ not-false f m, values-are)
 
-pub ruleset rules = (needs, layout-is, head-fits, fields-begin, short-refused, values-refused, rest-refused, message-taken)
+pub ruleset rules = (needs, layout-is, head-fits, short-refused, values-refused, rest-refused, message-taken)
