@@ -205,7 +205,7 @@ const PARTS: [Topic; 4] = [
     Topic {
         name: "number",
         form: "decimal, or hexadecimal after 0x",
-        short: "of 32 bits; a claim's NUMBER has 16",
+        short: "of 32 bits; a claim's NUMBER has 16, a message's field those that 004 gives it",
         more: &[
             "A wrong value (open 4) is the module's to answer. A flag (yes, no, keep,",
             "remove) can be given as a number too.",
