@@ -2,6 +2,7 @@ pub mod Fields
 pub mod Bodies
 pub mod Messages
 pub mod Buffers
+pub mod Entries
 pub mod Parts
 pub mod Following
 pub mod Listing

@@ -11,7 +11,6 @@ use Rattle.lists.specs.Each.{Each, each-nil, each-cons}
 use Rattle.lists.specs.Lists.{join, padded}
 use Rattle.lists.proofs.Tests.{and-both}
 use Rattle.rows.specs.Bytes.{bytesOf}
-use Rattle.rows.specs.Rows.{rows, every}
 use Rattle.names.specs.Names.{typeNumber, rowBytes}
 use Rattle.names.specs.declared.Row.{Row}
 use Rattle.names.specs.declared.RowType.{RowType}
