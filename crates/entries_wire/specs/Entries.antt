@@ -8,14 +8,14 @@ use lib.ListN.{length}
 use Rattle.rows.specs.Bytes.{byteOf}
 use Rattle.claims.specs.Numbers as No
 use Rattle.claims.specs.Numbers.{_unless_, _▸_}
-use Rattle.fields.specs.Fields.{most}
+use Rattle.fields.specs.Fields.{valueCount}
 use Rattle.pieces.specs.Pieces.{isPiece}
 use Rattle.message_codes.specs.Codes.{pieceOf}
 use Rattle.messages.specs.Messages.{readMessage, writeNumber, writePieceNumber, writtenOver}
 
 -- ---- what is lent and handed in: seven values, and the kind of a piece
 unfoldable pub areSeven : List ℕ → Bool
-areSeven values = eqb (length values) most
+areSeven values = eqb (length values) valueCount
 
 abbrev pub kinds : ℕ
 kinds = 5

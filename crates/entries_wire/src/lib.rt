@@ -2,7 +2,7 @@
 ghost use mathlib.Core.Path.{_≡_};
 ghost use lib.ListN.{length};
 ghost use Rattle.rows.specs.Bytes.{byteOf};
-ghost use Rattle.fields.specs.Fields.{most};
+ghost use Rattle.fields.specs.Fields.{valueCount};
 ghost use Rattle.pieces.specs.Pieces.{headLong, valuesOf, pieceLong};
 ghost use Rattle.message_codes.specs.Codes.{pieceOf};
 ghost use Rattle.messages.specs.Messages.{readMessage, messageBytes, messageLong, bodyBytes, bodyLong};
@@ -17,25 +17,25 @@ const KINDS: u32 = 5;
 
 // ---- the values, lent by the caller
 
-fn seven(values: &[u64]) -> [u64; 7]
-    requires { ⌜ length (now values) ≡ most ⌝ }
+fn seven(values: &[u64]) -> [u64; VALUES]
+    requires { ⌜ length (now values) ≡ valueCount ⌝ }
     ensures { λ r. ⌜ r ≡ now (values .entry) ⌝ }
 {
-    let mut taken: [u64; 7] = [0; 7];
+    let mut taken: [u64; VALUES] = [0; VALUES];
     let mut at: usize = 0;
-    while at < 7 {
+    while at < VALUES {
         taken[at] = values[at];
         at += 1;
     }
     taken
 }
 
-fn hand_out(values: &mut [u64], said: [u64; 7])
-    requires { ⌜ length (now values) ≡ most ⌝ }
+fn hand_out(values: &mut [u64], said: [u64; VALUES])
+    requires { ⌜ length (now values) ≡ valueCount ⌝ }
     ensures { λ r. ⌜ now (values .exit) ≡ said ⌝ }
 {
     let mut at: usize = 0;
-    while at < 7 {
+    while at < VALUES {
         values[at] = said[at];
         at += 1;
     }

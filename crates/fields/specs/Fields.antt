@@ -21,11 +21,11 @@ unfoldable pub isAllowed : Form → ℕ → Bool
 isAllowed form value = leb (form .least) value && leb value (form .most)
 
 -- ---- the fields of a layout. Seven values stand for every layout, of which the unused ones are 0
-abbrev pub most : ℕ
-most = 7
+abbrev pub valueCount : ℕ
+valueCount = 7
 
 unfoldable pub fields : Layout → List Field
-fields layout = padded most Unused (fieldsOf layout)
+fields layout = padded valueCount Unused (fieldsOf layout)
 
 -- how many bytes they have
 unfoldable pub longOf : List Field → ℕ

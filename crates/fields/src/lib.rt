@@ -63,7 +63,7 @@ pub fn fields_length(layout: Layout) -> usize
 {
     let mut long: usize = 0;
     let mut at: usize = 0;
-    while at < 7 {
+    while at < VALUES {
         long += formats::form_of(formats::field_of(layout, at)).width;
         at += 1;
     }
@@ -71,13 +71,13 @@ pub fn fields_length(layout: Layout) -> usize
 }
 
 // What they say at the front of a slice. A byte past its end counts as 0.
-pub fn values_in(bytes: &[u8], layout: Layout) -> [u64; 7]
+pub fn values_in(bytes: &[u8], layout: Layout) -> [u64; VALUES]
     ensures { λ r. ⌜ r ≡ valuesIn (fields layout) (now (bytes .entry)) ⌝ }
 {
-    let mut values: [u64; 7] = [0; 7];
+    let mut values: [u64; VALUES] = [0; VALUES];
     let mut place: usize = 0;
     let mut at: usize = 0;
-    while at < 7 {
+    while at < VALUES {
         let field = formats::field_of(layout, at);
         values[at] = value_in(bytes, place, field);
         place += formats::form_of(field).width;
@@ -87,11 +87,11 @@ pub fn values_in(bytes: &[u8], layout: Layout) -> [u64; 7]
 }
 
 // Whether each value may stand in its field.
-pub fn are_allowed(layout: Layout, values: [u64; 7]) -> bool
+pub fn are_allowed(layout: Layout, values: [u64; VALUES]) -> bool
     ensures { λ r. ⌜ r ≡ areAllowed (fields layout) values ⌝ }
 {
     let mut tested: usize = 0;
-    while tested < 7 {
+    while tested < VALUES {
         let form = formats::form_of(formats::field_of(layout, tested));
         if !is_allowed(form, values[tested]) {
             return false;

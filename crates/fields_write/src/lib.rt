@@ -6,6 +6,7 @@ ghost use lib.ListN.{length};
 ghost use Rattle.rows.specs.Bytes.{bytesOf};
 ghost use Rattle.rows.specs.Rows.{over};
 ghost use Rattle.fields.specs.Fields.{fields, longOf, fieldBytes};
+use fields::VALUES;
 use formats::Layout;
 
 // A number in so many bytes, the lowest first, at a place that has room for them.
@@ -23,13 +24,13 @@ fn put_number(buffer: &mut [u8], at: usize, width: usize, number: u64)
 }
 
 // The fields of a layout, at the front of a buffer that has room for them.
-fn put_values(buffer: &mut [u8], layout: Layout, values: [u64; 7])
+fn put_values(buffer: &mut [u8], layout: Layout, values: [u64; VALUES])
     requires { ⌜ longOf (fields layout) ≤ length (now buffer) ⌝ }
     ensures { λ r. ⌜ now (buffer .exit) ≡ over 0 (longOf (fields layout)) (fieldBytes (fields layout) values) (now (buffer .entry)) ⌝ }
 {
     let mut place: usize = 0;
     let mut at: usize = 0;
-    while at < 7 {
+    while at < VALUES {
         let width = formats::form_of(formats::field_of(layout, at)).width;
         put_number(buffer, place, width, values[at]);
         place += width;
@@ -50,7 +51,7 @@ fn put_bytes(buffer: &mut [u8], at: usize, bytes: &[u8])
 }
 
 // Fields and the bytes that follow them, at the front of a buffer; one that is too short stays as it was.
-pub fn put_body(buffer: &mut [u8], layout: Layout, values: [u64; 7], rest: &[u8])
+pub fn put_body(buffer: &mut [u8], layout: Layout, values: [u64; VALUES], rest: &[u8])
     ensures { λ r. ⌜ now (buffer .exit) ≡ over 0 (longOf (fields layout) + length (now (rest .entry))) (fieldBytes (fields layout) values ++ now (rest .entry)) (now (buffer .entry)) ⌝ }
 {
     let head = fields::fields_length(layout);

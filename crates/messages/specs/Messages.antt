@@ -9,7 +9,7 @@ use Rattle.claims.specs.Numbers as No
 use Rattle.claims.specs.Numbers.{_when_, _unless_, _▸_}
 use Rattle.formats.specs.declared.Layout.{Layout}
 use Rattle.formats.specs.Formats.{restOf}
-use Rattle.fields.specs.Fields.{most, fields, areAllowed, fieldBytes}
+use Rattle.fields.specs.Fields.{valueCount, fields, areAllowed, fieldBytes}
 use Rattle.pieces.specs.Pieces.{headLong, valuesOf, restLong, fitsRest}
 use Rattle.message_codes.specs.Codes.{layoutOf}
 use Rattle.messages.specs.declared.MessageRead.{MessageRead}
@@ -35,7 +35,7 @@ isMessage message =
 
 -- where it is refused, zeros are answered
 abbrev pub refused : MessageRead
-refused = record { number = No.message; values = replicate most 0; rest = 0 }
+refused = record { number = No.message; values = replicate valueCount 0; rest = 0 }
 
 -- what its fields say, and where the bytes or parts that follow them begin
 unfoldable pub readMessage : List ℕ → MessageRead

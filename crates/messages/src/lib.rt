@@ -3,12 +3,13 @@ ghost use mathlib.Core.Path.{_≡_};
 ghost use Rattle.messages.specs.Messages.{layoutIn, refused, readMessage};
 use claims::DONE;
 use claims::MESSAGE;
+use fields::VALUES;
 use formats::Layout;
 
 // What a message says: the values of its fields, and where what follows them begins. Where it is refused, all but the number is 0.
 pub struct MessageRead {
     pub number: u8,
-    pub values: [u64; 7],
+    pub values: [u64; VALUES],
     pub rest: usize,
 }
 
@@ -17,7 +18,7 @@ fn refusal() -> MessageRead
 {
     MessageRead {
         number: MESSAGE,
-        values: [0; 7],
+        values: [0; VALUES],
         rest: 0,
     }
 }

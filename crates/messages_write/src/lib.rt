@@ -13,6 +13,7 @@ ghost use Rattle.messages_write.specs.Written.{written};
 use claims::DONE;
 use claims::MESSAGE;
 use claims::ROOM;
+use fields::VALUES;
 use formats::Layout;
 
 // How many bytes were written; none where it is refused.
@@ -33,7 +34,7 @@ fn has_room(room: usize, head: usize, long: usize) -> bool
 
 // ---- a message
 
-fn message_number(room: usize, code: u8, values: [u64; 7], rest: &[u8]) -> u8
+fn message_number(room: usize, code: u8, values: [u64; VALUES], rest: &[u8]) -> u8
     ensures { λ r. ⌜ r ≡ No.room when ltb room (messageLong code values (now (rest .entry))) ▸ No.message unless carries code values (now (rest .entry)) ⌝ }
 {
     let layout = message_codes::layout_of(code, values[0]);
@@ -50,7 +51,7 @@ fn message_number(room: usize, code: u8, values: [u64; 7], rest: &[u8]) -> u8
 }
 
 // A code, the reserved byte, the fields of a layout and what follows them, at the front of a buffer that has room for them.
-fn put_by_layout(buffer: &mut [u8], code: u8, layout: Layout, values: [u64; 7], rest: &[u8])
+fn put_by_layout(buffer: &mut [u8], code: u8, layout: Layout, values: [u64; VALUES], rest: &[u8])
     requires { ⌜ headOf layout + length (now rest) ≤ length (now buffer) ⌝ }
     ensures { λ r. ⌜ now (buffer .exit) ≡ over 0 (headOf layout + length (now (rest .entry))) (code ∷ 0 ∷ bodyBytes layout values (now (rest .entry))) (now (buffer .entry)) ⌝ }
 {
@@ -61,7 +62,7 @@ fn put_by_layout(buffer: &mut [u8], code: u8, layout: Layout, values: [u64; 7], 
 }
 
 // Its bytes, at the front of a buffer that has room for them. Their length; 0 where there is no room.
-fn put_message(buffer: &mut [u8], code: u8, values: [u64; 7], rest: &[u8]) -> usize
+fn put_message(buffer: &mut [u8], code: u8, values: [u64; VALUES], rest: &[u8]) -> usize
     ensures { λ r. ⌜ (r ≡ cond (leb (messageLong code values (now (rest .entry))) (length (now (buffer .entry)))) (messageLong code values (now (rest .entry))) 0) × (now (buffer .exit) ≡ over 0 (messageLong code values (now (rest .entry))) (messageBytes code values (now (rest .entry))) (now (buffer .entry))) ⌝ }
 {
     let layout = message_codes::layout_of(code, values[0]);
@@ -75,7 +76,7 @@ fn put_message(buffer: &mut [u8], code: u8, values: [u64; 7], rest: &[u8]) -> us
 }
 
 // A message, at the front of a buffer that has room for it. Nothing is written before everything is tested.
-pub fn write_message(buffer: &mut [u8], code: u8, values: [u64; 7], rest: &[u8]) -> Written
+pub fn write_message(buffer: &mut [u8], code: u8, values: [u64; VALUES], rest: &[u8]) -> Written
     ensures { λ r. ⌜ (r ≡ written (writeNumber code values (now (rest .entry)) (now (buffer .entry))) (messageLong code values (now (rest .entry)))) × (now (buffer .exit) ≡ writtenOver (writeNumber code values (now (rest .entry)) (now (buffer .entry))) (messageLong code values (now (rest .entry))) (messageBytes code values (now (rest .entry))) (now (buffer .entry))) ⌝ }
 {
     let number = message_number(buffer.len(), code, values, rest);
@@ -94,7 +95,7 @@ pub fn write_message(buffer: &mut [u8], code: u8, values: [u64; 7], rest: &[u8])
 
 // ---- a piece of a list
 
-fn piece_number(room: usize, layout: Layout, values: [u64; 7], rest: &[u8]) -> u8
+fn piece_number(room: usize, layout: Layout, values: [u64; VALUES], rest: &[u8]) -> u8
     ensures { λ r. ⌜ r ≡ No.room when ltb room (bodyLong layout (now (rest .entry))) ▸ No.message unless carriesPiece layout values (now (rest .entry)) ⌝ }
 {
     if !has_room(room, fields::fields_length(layout), rest.len()) {
@@ -110,7 +111,7 @@ fn piece_number(room: usize, layout: Layout, values: [u64; 7], rest: &[u8]) -> u
 }
 
 // A piece, at the front of a buffer that has room for it.
-pub fn write_piece(buffer: &mut [u8], layout: Layout, values: [u64; 7], rest: &[u8]) -> Written
+pub fn write_piece(buffer: &mut [u8], layout: Layout, values: [u64; VALUES], rest: &[u8]) -> Written
     ensures { λ r. ⌜ (r ≡ written (writePieceNumber layout values (now (rest .entry)) (now (buffer .entry))) (bodyLong layout (now (rest .entry)))) × (now (buffer .exit) ≡ writtenOver (writePieceNumber layout values (now (rest .entry)) (now (buffer .entry))) (bodyLong layout (now (rest .entry))) (bodyBytes layout values (now (rest .entry))) (now (buffer .entry))) ⌝ }
 {
     let number = piece_number(buffer.len(), layout, values, rest);

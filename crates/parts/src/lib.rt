@@ -2,6 +2,7 @@
 ghost use mathlib.Core.Path.{_≡_};
 ghost use Rattle.pieces.specs.Pieces.{first, second, areParts, fitsRest};
 ghost use Rattle.parts.specs.Parts.{partIn};
+use fields::VALUES;
 use formats::Layout;
 use formats::Part;
 use formats::Rest;
@@ -84,7 +85,7 @@ fn are_parts(bytes: &[u8], part: Part, count: u64) -> bool
 
 // ---- what follows the fields of a message
 
-pub fn fits_rest(bytes: &[u8], rest: Rest, values: [u64; 7]) -> bool
+pub fn fits_rest(bytes: &[u8], rest: Rest, values: [u64; VALUES]) -> bool
     ensures { λ r. ⌜ r ≡ fitsRest rest values (now (bytes .entry)) ⌝ }
 {
     match rest {

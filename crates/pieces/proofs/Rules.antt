@@ -13,13 +13,13 @@ use Rattle.formats.specs.declared.Layout.{Layout}
 use Rattle.formats.specs.declared.Rest.{Rest}
 use Rattle.formats.specs.declared.Rest.the-variants.{Said}
 use Rattle.formats.specs.Formats.{restOf}
-use Rattle.fields.specs.Fields.{most, fields, longOf, valuesIn, areAllowed}
+use Rattle.fields.specs.Fields.{valueCount, fields, longOf, valuesIn, areAllowed}
 use Rattle.lists.proofs.Tests.{split}
 use Rattle.pieces.specs.Pieces.{valuesOf, headLong, restLong, pieceLong, isPiece, noPiece, pieceIn}
 use Rattle.pieces.specs.declared.Piece.{Piece}
 
 -- ---- a value
-pub value-past : (values : List ℕ) (at : ℕ) → length values ≡ most → most ≤ at → 0 ≡ getD values at 0
+pub value-past : (values : List ℕ) (at : ℕ) → length values ≡ valueCount → valueCount ≤ at → 0 ≡ getD values at 0
 value-past values at l h = sym (List·getD-eq-default values 0 (omega arith))
 
 pub value-said : (values : List ℕ) {rest : Rest} {at n : ℕ} → rest ≡ Said at → n ≡ getD values at 0 → n ≡ restLong rest values

@@ -11,7 +11,7 @@ use Rattle.formats.specs.declared.Part.the-variants.{VersionEntry, ProcessInfo,
 use Rattle.formats.specs.declared.Rest.{Rest}
 use Rattle.formats.specs.declared.Rest.the-variants.{Exactly, Said, SaidTo, Parts, Never}
 use Rattle.formats.specs.Formats.{restOf}
-use Rattle.fields.specs.Fields.{most, fields, longOf, valuesIn, areAllowed}
+use Rattle.fields.specs.Fields.{valueCount, fields, longOf, valuesIn, areAllowed}
 use Rattle.pieces.specs.declared.Piece.{Piece}
 
 -- ---- a piece at the front of bytes
@@ -40,7 +40,7 @@ isPiece layout b = leb (pieceLong layout b) (length b) && areAllowed (fields lay
 
 -- where no piece stands, zeros are answered
 abbrev pub noPiece : Piece
-noPiece = record { fits = false; values = replicate most 0; rest = 0; long = 0 }
+noPiece = record { fits = false; values = replicate valueCount 0; rest = 0; long = 0 }
 
 unfoldable pub pieceIn : Layout → List ℕ → Piece
 pieceIn layout b =

@@ -9,7 +9,7 @@ use formats::Rest;
 // A piece at the front of a slice: what its fields say, where the bytes behind them begin, and where it ends. Where none stands there, all is 0.
 pub struct Piece {
     pub fits: bool,
-    pub values: [u64; 7],
+    pub values: [u64; VALUES],
     pub rest: usize,
     pub long: usize,
 }
@@ -17,14 +17,14 @@ pub struct Piece {
 // ---- a piece
 
 // The value at a place; 0 where there is none.
-pub fn value_at(values: [u64; 7], at: usize) -> u64
+pub fn value_at(values: [u64; VALUES], at: usize) -> u64
     ensures { λ r. ⌜ r ≡ getD values at 0 ⌝ }
 {
     if at < VALUES { values[at] } else { 0 }
 }
 
 // How many bytes follow the fields of a piece.
-pub fn rest_length(rest: Rest, values: [u64; 7]) -> u64
+pub fn rest_length(rest: Rest, values: [u64; VALUES]) -> u64
     ensures { λ r. ⌜ r ≡ restLong rest values ⌝ }
 {
     match rest {
@@ -41,7 +41,7 @@ fn no_piece() -> Piece
 {
     Piece {
         fits: false,
-        values: [0; 7],
+        values: [0; VALUES],
         rest: 0,
         long: 0,
     }
