@@ -72,15 +72,15 @@ formOf NoErrorData = between 1 0 0
 
 -- ---- the fields of a message behind its code and reserved byte, in their order; those of a piece of a list
 -- the credential structure: Table 2
-abbrev pub credential : List Field
-credential = CredentialID ∷ CredentialType ∷ BaseAsymAlgo ∷ BaseHashAlgo ∷ Reserved ∷ CredentialDataSize ∷ []
+abbrev pub credentialStructure : List Field
+credentialStructure = CredentialID ∷ CredentialType ∷ BaseAsymAlgo ∷ BaseHashAlgo ∷ Reserved ∷ CredentialDataSize ∷ []
 
 unfoldable pub fieldsOf : Layout → List Field
 fieldsOf NoMessage = []
 fieldsOf Plain = []
 fieldsOf VersionNumber = AuthVersion ∷ []
 fieldsOf OneCredential = CredentialID ∷ []
-fieldsOf ChangeCredential = Change ∷ credential
+fieldsOf ChangeCredential = Change ∷ credentialStructure
 fieldsOf ChangePolicies = Change ∷ CredentialID ∷ NumPolicies ∷ []
 fieldsOf LockOrUnlocking = LockOrUnlock ∷ CredentialID ∷ []
 fieldsOf StartAuth = CredentialID ∷ StartAttributes ∷ NonceLen ∷ []
@@ -88,7 +88,7 @@ fieldsOf EndAuth = CredentialID ∷ EndAttributes ∷ []
 fieldsOf Reset = DataType ∷ CredentialID ∷ SVResetDataTypeCount ∷ []
 fieldsOf CredentialAndName = CredentialID ∷ []
 fieldsOf VersionList = VersionNumberEntryCount ∷ []
-fieldsOf CredentialParameters = CredAttributes ∷ credential
+fieldsOf CredentialParameters = CredAttributes ∷ credentialStructure
 fieldsOf PolicyAnswer = CredAttributes ∷ CredentialID ∷ NumPolicies ∷ []
 fieldsOf StartAuthResponse = CredentialID ∷ NonceLen ∷ []
 fieldsOf Capabilities = MessageCaps ∷ AuthProcessCaps ∷ DeviceProvisioningState ∷ AuthRecordProcessTime ∷ BaseAsymAlgo ∷ BaseHashAlgo ∷ SupportedPolicyOwnerIDCount ∷ []

@@ -5,7 +5,7 @@ ghost use lib.ListN.{getD};
 ghost use Rattle.formats.specs.declared.Field.the-variants.{Unused};
 ghost use Rattle.formats.specs.declared.Layout.the-variants.{Capabilities};
 ghost use Rattle.formats.specs.Formats as Formats;
-ghost use Rattle.formats.specs.Formats.{formOf, credential, fieldsOf, restOf};
+ghost use Rattle.formats.specs.Formats.{formOf, credentialStructure, fieldsOf, restOf};
 
 // A field, by its name in 004. `Change` is the operation that changes parameters or policies, `LockOrUnlock` the other two; `NoErrorData` is the error's
 // data where Table 21 says 0.
@@ -231,7 +231,7 @@ fn three(at: usize, a: Field, b: Field, c: Field) -> Field
 
 // A field, and the credential structure behind it.
 fn before_credential(at: usize, a: Field) -> Field
-    ensures { λ r. ⌜ r ≡ getD (a ∷ credential) at Unused ⌝ }
+    ensures { λ r. ⌜ r ≡ getD (a ∷ credentialStructure) at Unused ⌝ }
 {
     match at {
         0 => a,
