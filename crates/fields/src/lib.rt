@@ -64,7 +64,7 @@ pub fn fields_length(layout: Layout) -> usize
     let mut long: usize = 0;
     let mut at: usize = 0;
     while at < VALUES {
-        long += formats::form_of(formats::field_of(layout, at)).width;
+        long += formats::form_of(field_places::field_of(layout, at)).width;
         at += 1;
     }
     long
@@ -78,7 +78,7 @@ pub fn values_in(bytes: &[u8], layout: Layout) -> [u64; VALUES]
     let mut place: usize = 0;
     let mut at: usize = 0;
     while at < VALUES {
-        let field = formats::field_of(layout, at);
+        let field = field_places::field_of(layout, at);
         values[at] = value_in(bytes, place, field);
         place += formats::form_of(field).width;
         at += 1;
@@ -92,7 +92,7 @@ pub fn are_allowed(layout: Layout, values: [u64; VALUES]) -> bool
 {
     let mut tested: usize = 0;
     while tested < VALUES {
-        let form = formats::form_of(formats::field_of(layout, tested));
+        let form = formats::form_of(field_places::field_of(layout, tested));
         if !is_allowed(form, values[tested]) {
             return false;
         }

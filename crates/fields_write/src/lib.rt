@@ -31,7 +31,7 @@ fn put_values(buffer: &mut [u8], layout: Layout, values: [u64; VALUES])
     let mut place: usize = 0;
     let mut at: usize = 0;
     while at < VALUES {
-        let width = formats::form_of(formats::field_of(layout, at)).width;
+        let width = formats::form_of(field_places::field_of(layout, at)).width;
         put_number(buffer, place, width, values[at]);
         place += width;
         at += 1;

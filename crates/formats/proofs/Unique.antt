@@ -5,14 +5,9 @@ use Rattle.formats.proofs.form_of.Kinds as form-of-kinds
 use Rattle.formats.proofs.form_of.Reads as form-of
 use Rattle.formats.proofs.rest_of.Kinds as rest-of-kinds
 use Rattle.formats.proofs.rest_of.Reads as rest-of
-use Rattle.formats.proofs.field_of.Kinds as field-of-kinds
-use Rattle.formats.proofs.field_of.Reads as field-of
 
 pub form-of-once : OneAnswer 0 form-of-kinds.ps form-of-kinds.r form-of.Post
 form-of-once κs a x y s t p q = p ∙ sym q
 
 pub rest-of-once : OneAnswer 0 rest-of-kinds.ps rest-of-kinds.r rest-of.Post
 rest-of-once κs a x y s t p q = p ∙ sym q
-
-pub field-of-once : OneAnswer 0 field-of-kinds.ps field-of-kinds.r field-of.Post
-field-of-once κs a x y s t p q = p ∙ sym q

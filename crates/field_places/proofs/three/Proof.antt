@@ -1,6 +1,6 @@
-use Rattle.formats.proofs.Rules.{rules}
-use Rattle.formats.proofs.three.Statement.{statement}
-use Rattle.formats.proofs.three.Tie as tie
+use Rattle.field_places.proofs.Rules.{rules}
+use Rattle.field_places.proofs.three.Statement.{statement}
+use Rattle.field_places.proofs.three.Tie as tie
 
 returns : tie.Need-returns
 returns c = search rules

@@ -1,7 +1,7 @@
-use Rattle.formats.proofs.Rules.{rules}
-use Rattle.formats.proofs.field_of.Statement.{statement}
-use Rattle.formats.proofs.field_of.Tie as tie
+use Rattle.field_places.proofs.Rules.{rules}
+use Rattle.field_places.proofs.field_of.Statement.{statement}
+use Rattle.field_places.proofs.field_of.Tie as tie
 use Rattle.formats.specs.Formats.{fieldsOf}
 
 enum-told : tie.Need-enum-told
 enum-told c = search rules
