@@ -26,8 +26,8 @@ const REPLAYED_PLAN: Plan = Plan {
 /// What is to come up comes up at least once in so many calls.
 const CALLS_FOR_ONE: u64 = 20_000;
 
-/// Messages of 004 clause 9.2 that are drawn.
-const MESSAGES: usize = 2_000_000;
+/// Messages of 004 clause 9.2 that are drawn; two in three can be written.
+const MESSAGES: usize = 3_100_000;
 
 /// Every test, with about so many calls in random sequences.
 pub fn test(calls: usize, seed: u64) -> ExitCode {
