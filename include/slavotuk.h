@@ -10,10 +10,10 @@
  *   length 0 it may be null. What a call writes to overlaps with nothing else that it is lent. A pointer through which a number
  *   is handed out is not null.
  * - A refusal leaves the state and every buffer as they were. What is handed out through a pointer is written where the
- *   answer is SLAVOTUK_DONE, and stays as it was otherwise. The one exception is the length of slavotuk_list, which a refusal
- *   sets to 0.
- * - state is a slice of SLAVOTUK_STATE_SIZE bytes that slavotuk_fresh has filled and that only these functions write;
- *   docs/STATE.md draws it.
+ *   answer is SLAVOTUK_DONE, and stays as it was otherwise. The one exception is the length of slavotuk_list and of
+ *   slavotuk_image, which a refusal sets to 0.
+ * - state is a slice of SLAVOTUK_STATE_SIZE bytes that slavotuk_fresh or slavotuk_restore has filled and that only these
+ *   functions write; docs/STATE.md draws it.
  * - Nothing is kept between calls but what stands there, nothing is locked, and nothing is allocated: threads, and a signal
  *   handler, may call at the same time on states of their own; a state that they share, or that lies in memory shared between
  *   programs, takes one call at a time, which is for the host to see to.
@@ -54,7 +54,7 @@ extern "C" {
 
 /* The library's version. Where a call or the state's bytes change, the major number does, and with it the soname. */
 #define SLAVOTUK_VERSION_MAJOR 1
-#define SLAVOTUK_VERSION_MINOR 1
+#define SLAVOTUK_VERSION_MINOR 2
 #define SLAVOTUK_VERSION_PATCH 0
 
 /* The same as one number, in which a later version is larger. */
@@ -76,7 +76,7 @@ enum slavotuk_number {
     SLAVOTUK_REFUSED_FULL = 11,          /* SLAVOTUK_PROCESSES processes stand */
     SLAVOTUK_REFUSED_NAME_TAKEN = 12,    /* equals a name in the table */
     SLAVOTUK_REFUSED_SPENT = 13,         /* the next number is 65535 */
-    SLAVOTUK_REFUSED_MESSAGE = 14,       /* the bytes don't fit the message's layout */
+    SLAVOTUK_REFUSED_MESSAGE = 14,       /* the bytes don't fit the message's layout, or are no image */
     SLAVOTUK_REFUSED_ROOM = 15           /* the buffer is too short */
 };
 
@@ -118,6 +118,13 @@ static inline const char *slavotuk_number_name(uint32_t number)
 
 /* Bytes of the longest listing: a response of this size always has the room. */
 #define SLAVOTUK_LISTING_SIZE (SLAVOTUK_HEADER_SIZE + SLAVOTUK_ROW_SIZE * SLAVOTUK_PROCESSES)
+
+/* Bytes of an image: before its rows, and of a row. */
+#define SLAVOTUK_IMAGE_HEADER_SIZE 42
+#define SLAVOTUK_IMAGE_ROW_SIZE 52
+
+/* Bytes of the longest image: a buffer of this size always has the room. */
+#define SLAVOTUK_IMAGE_SIZE (SLAVOTUK_IMAGE_HEADER_SIZE + SLAVOTUK_IMAGE_ROW_SIZE * SLAVOTUK_PROCESSES)
 
 /* Version 1.0 of the protocol as its byte, the only one that a session can select. */
 #define SLAVOTUK_VERSION_1_0 0x10
@@ -337,6 +344,41 @@ uint32_t slavotuk_kill(uint8_t *SLAVOTUK_RESTRICT state, size_t state_length, ui
  */
 uint32_t slavotuk_set_word(uint8_t *state, size_t state_length, uint32_t session, uint32_t kind, uint32_t credential,
                            uint16_t number, uint32_t verdict, uint32_t target, uint32_t word);
+
+/*
+ * ---- through a power cycle
+ *
+ * An image is what a module keeps while it is without power: its credentials, their words, and its saved processes with their
+ * next numbers; docs/IMAGE.md draws it. Sessions and active processes are not in it and are lost, also a process that was saved
+ * and continued.
+ *
+ * It changes where slavotuk_end keeps a process, slavotuk_continue takes one up, slavotuk_kill removes a saved one, and
+ * slavotuk_set_word sets a word: write it again after each of these that is done, before the answer goes out and before the
+ * next call. The memory that keeps it has to hand back the newest. From an older one, numbers that were accepted since are
+ * accepted again, processes that were killed since stand again, and words are the old ones.
+ */
+
+/*
+ * Writes the image of a module to the front of a buffer. Later bytes of the buffer are not touched. The state is only read, so
+ * read-only memory serves.
+ *
+ *   image   the buffer; SLAVOTUK_IMAGE_SIZE bytes are always enough
+ *   length  handed out: the image's length, 0 on a refusal
+ *
+ * Refused: ARGUMENT, for a slice that holds no state and for nothing else; ROOM.
+ */
+uint32_t slavotuk_image(const uint8_t *state, size_t state_length, uint8_t *SLAVOTUK_RESTRICT image, size_t image_length,
+                        size_t *SLAVOTUK_RESTRICT length);
+
+/*
+ * Makes a module from an image: its credentials and words, every session closed, and its processes, saved, in their order and
+ * with their next numbers. The state's old bytes don't matter.
+ *
+ *   image  the whole image and no byte more
+ *
+ * Refused: ARGUMENT, for a slice of another length and for nothing else; MESSAGE for bytes that are no image.
+ */
+uint32_t slavotuk_restore(uint8_t *SLAVOTUK_RESTRICT state, size_t state_length, const uint8_t *image, size_t image_length);
 
 /* ---- the listing messages. These take no state */
 

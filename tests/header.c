@@ -148,6 +148,14 @@ static void check_nulls(void)
     EXPECT(slavotuk_kill(NULL, 0, 0, USER(0, 0), NAMED(0)), SLAVOTUK_REFUSED_ARGUMENT);
     EXPECT(slavotuk_kill(MODULE, 0, USER(0, 0), NULL, 0), SLAVOTUK_REFUSED_ARGUMENT);
     EXPECT(slavotuk_set_word(NULL, 0, 0, USER(0, 0), 0, 0), SLAVOTUK_REFUSED_ARGUMENT);
+    length = 1;
+    EXPECT(slavotuk_image(NULL, 0, listing, SLAVOTUK_LISTING_SIZE, &length), SLAVOTUK_REFUSED_ARGUMENT);
+    EXPECT(length, 0);
+    length = 1;
+    EXPECT(slavotuk_image(MODULE, NULL, 0, &length), SLAVOTUK_REFUSED_ROOM);
+    EXPECT(length, 0);
+    EXPECT(slavotuk_restore(NULL, 0, one_row, sizeof one_row), SLAVOTUK_REFUSED_ARGUMENT);
+    EXPECT(slavotuk_restore(MODULE, NULL, 0), SLAVOTUK_REFUSED_MESSAGE);
     EXPECT(slavotuk_read_request(NULL, 0, &number), SLAVOTUK_REFUSED_MESSAGE);
     EXPECT(slavotuk_write_request(NULL, 0, 0), SLAVOTUK_REFUSED_ROOM);
     EXPECT(slavotuk_read_count(NULL, 0, &number), SLAVOTUK_REFUSED_MESSAGE);
@@ -416,6 +424,74 @@ static void check_pieces(void)
     }
 }
 
+/* An image of so many rows, which all are credential 0's, differ in their names and have next number 1. */
+static uint8_t *image_of(unsigned rows, size_t *length)
+{
+    const uint8_t head[] = {1, 0, SLAVOTUK_CREDENTIALS, 0, 10, 0, (uint8_t)rows, 0, SLAVOTUK_IMAGE_HEADER_SIZE, 0};
+    uint8_t *image;
+    *length = SLAVOTUK_IMAGE_HEADER_SIZE + SLAVOTUK_IMAGE_ROW_SIZE * rows;
+    image = allocate(*length);
+    memset(image, 0, *length);
+    memcpy(image, head, sizeof head);
+    for (unsigned at = 0; at < rows; at++) {
+        uint8_t *row = image + SLAVOTUK_IMAGE_HEADER_SIZE + SLAVOTUK_IMAGE_ROW_SIZE * at;
+        row[2] = 1;
+        memcpy(row + SLAVOTUK_IMAGE_ROW_SIZE - SLAVOTUK_NAME_SIZE, named(at), SLAVOTUK_NAME_SIZE);
+    }
+    return image;
+}
+
+/* Images of no row to one more than there are places: restored, and written again into just the room that they take. */
+static void check_images(void)
+{
+    for (unsigned rows = 0; rows <= SLAVOTUK_PROCESSES + 1; rows++) {
+        size_t room, length = 9;
+        uint8_t *image = image_of(rows, &room), *restored = allocate(SLAVOTUK_STATE_SIZE + 1), *written = allocate(room);
+        memset(restored, 0xee, SLAVOTUK_STATE_SIZE + 1);
+        EXPECT(slavotuk_restore(restored, SLAVOTUK_STATE_SIZE - 1, image, room), SLAVOTUK_REFUSED_ARGUMENT);
+        EXPECT(slavotuk_restore(restored, SLAVOTUK_STATE_SIZE + 1, image, room), SLAVOTUK_REFUSED_ARGUMENT);
+        EXPECT(slavotuk_restore(restored, SLAVOTUK_STATE_SIZE, image, room - 1), SLAVOTUK_REFUSED_MESSAGE);
+        EXPECT(restored[0] == 0xee && restored[SLAVOTUK_STATE_SIZE - 1] == 0xee, 1);
+        EXPECT(slavotuk_restore(restored, SLAVOTUK_STATE_SIZE, image, room),
+               rows <= SLAVOTUK_PROCESSES ? SLAVOTUK_DONE : SLAVOTUK_REFUSED_MESSAGE);
+        EXPECT(restored[SLAVOTUK_STATE_SIZE], 0xee);
+        if (rows <= SLAVOTUK_PROCESSES) {
+            EXPECT(slavotuk_image(restored, SLAVOTUK_STATE_SIZE, written, room - 1, &length), SLAVOTUK_REFUSED_ROOM);
+            EXPECT(length, 0);
+            EXPECT(slavotuk_image(restored, SLAVOTUK_STATE_SIZE, written, room, &length), SLAVOTUK_DONE);
+            EXPECT(length, room);
+            EXPECT(memcmp(written, image, room), 0);
+        }
+        free(image);
+        free(restored);
+        free(written);
+    }
+}
+
+/* The module's own image has the one saved process. The longest image has SLAVOTUK_IMAGE_SIZE bytes. */
+static void check_image(void)
+{
+    size_t length = 9, longest;
+    uint8_t *image = allocate(SLAVOTUK_IMAGE_SIZE), *restored = allocate(SLAVOTUK_STATE_SIZE);
+    free(image_of(SLAVOTUK_PROCESSES, &longest));
+    EXPECT(longest, SLAVOTUK_IMAGE_SIZE);
+    EXPECT(slavotuk_image(read_only, SLAVOTUK_STATE_SIZE - 1, image, SLAVOTUK_IMAGE_SIZE, &length), SLAVOTUK_REFUSED_ARGUMENT);
+    EXPECT(length, 0);
+    EXPECT(slavotuk_image(read_only, SLAVOTUK_STATE_SIZE, image, SLAVOTUK_IMAGE_SIZE, &length), SLAVOTUK_DONE);
+    EXPECT(length, SLAVOTUK_IMAGE_HEADER_SIZE);
+    EXPECT(slavotuk_image(MODULE, image, SLAVOTUK_IMAGE_SIZE, &length), SLAVOTUK_DONE);
+    EXPECT(length, SLAVOTUK_IMAGE_HEADER_SIZE + SLAVOTUK_IMAGE_ROW_SIZE);
+    EXPECT(slavotuk_restore(restored, SLAVOTUK_STATE_SIZE, image, length), SLAVOTUK_DONE);
+    EXPECT(slavotuk_open(restored, SLAVOTUK_STATE_SIZE, 0), SLAVOTUK_DONE);
+    EXPECT(slavotuk_select(restored, SLAVOTUK_STATE_SIZE, 0, SLAVOTUK_VERSION_1_0), SLAVOTUK_DONE);
+    EXPECT(slavotuk_continue(restored, SLAVOTUK_STATE_SIZE, 0, 1, NAMED(1)), SLAVOTUK_REFUSED_NO_PROCESS);
+    EXPECT(slavotuk_continue(restored, SLAVOTUK_STATE_SIZE, 0, 2, NAMED(2)), SLAVOTUK_DONE);
+    EXPECT(slavotuk_end(restored, SLAVOTUK_STATE_SIZE, 0, 2, 0, 1, 1), SLAVOTUK_REFUSED_OUT_OF_TURN);
+    EXPECT(slavotuk_end(restored, SLAVOTUK_STATE_SIZE, 0, 2, 1, 1, 1), SLAVOTUK_DONE);
+    free(image);
+    free(restored);
+}
+
 /* The next number of the first process, written where docs/STATE.md has it, as 65535 records would leave it. */
 static void check_spent(void)
 {
@@ -445,6 +521,8 @@ int main(void)
     check_messages();
     check_no_messages();
     check_pieces();
+    check_images();
+    check_image();
     check_spent();
     free(state);
     free(name);

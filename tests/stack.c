@@ -25,6 +25,7 @@ static void (*called)(void);
 static uint8_t state[SLAVOTUK_STATE_SIZE];
 static uint8_t name[SLAVOTUK_NAME_SIZE];
 static uint8_t listing[SLAVOTUK_LISTING_SIZE];
+static uint8_t image[SLAVOTUK_IMAGE_SIZE];
 static uint8_t request[SLAVOTUK_REQUEST_SIZE];
 static size_t length;
 static uint16_t number;
@@ -78,6 +79,8 @@ static void record0(void) { slavotuk_record(MODULE, 0, USER(0, 0), SLAVOTUK_CLAS
 static void list0(void) { slavotuk_list(MODULE, 0, USER(0, 0), SLAVOTUK_WANTED_ALL, listing, sizeof listing, &length); }
 static void kill0(void) { slavotuk_kill(MODULE, 0, USER(0, 0), name, sizeof name); }
 static void set_word0(void) { slavotuk_set_word(MODULE, 0, USER(0, 0), 1, 0); }
+static void image0(void) { slavotuk_image(MODULE, image, sizeof image, &length); }
+static void restore0(void) { slavotuk_restore(MODULE, image, sizeof image); }
 static void write_request0(void) { slavotuk_write_request(request, sizeof request, SLAVOTUK_WANTED_ALL); }
 static void read_request0(void) { slavotuk_read_request(request, sizeof request, &number); }
 static void read_count0(void) { slavotuk_read_count(listing, length, &number); }
@@ -123,7 +126,18 @@ static void killable(void) { full(); named(0); }
 static void elevated(void) { nearly_full(); elevate0(); }
 static void ending(void) { nearly_full(); start0(); }
 static void saved(void) { ending(); end0(); }
+static void all_saved(void) { saved(); slavotuk_end(MODULE, 0, 0, 0, 1, 1); }
+static void no_image(void) { memset(image, 0, sizeof image); }
+static void imaged(void) { all_saved(); image0(); }
 static void listed(void) { full(); list0(); write_request0(); }
+
+/* The last name is then the first: of all that the image is asked, no more than this fails. */
+static void damaged(void)
+{
+    imaged();
+    memcpy(image + sizeof image - SLAVOTUK_NAME_SIZE,
+           image + SLAVOTUK_IMAGE_HEADER_SIZE + SLAVOTUK_IMAGE_ROW_SIZE - SLAVOTUK_NAME_SIZE, SLAVOTUK_NAME_SIZE);
+}
 
 static void set_values(uint64_t first, uint64_t second, uint64_t third)
 {
@@ -168,6 +182,8 @@ static const struct {
     {"slavotuk_list", list0, {nothing, opened, one, full}},
     {"slavotuk_kill", kill0, {nothing, opened, full, killable}},
     {"slavotuk_set_word", set_word0, {nothing, opened, one, full}},
+    {"slavotuk_image", image0, {nothing, fresh, full, all_saved}},
+    {"slavotuk_restore", restore0, {no_image, imaged, damaged}},
     {"slavotuk_read_request", read_request0, {nothing, listed}},
     {"slavotuk_write_request", write_request0, {nothing}},
     {"slavotuk_read_count", read_count0, {nothing, listed}},

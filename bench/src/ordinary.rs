@@ -84,7 +84,7 @@ fn is_process(process: &[u8]) -> bool {
         && match process[TYPE_AT] {
             USER => true,
             ELEVATION => next_number(process) == 0,
-            SAVED => process[SESSION_AT] == 0,
+            SAVED => process[SESSION_AT] == 0 && next_number(process) != 0,
             _ => false,
         }
 }

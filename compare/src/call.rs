@@ -11,7 +11,7 @@ pub type Call = slavotuk::Call<Guarded>;
 pub const ENTRIES: usize = Call::ENTRIES.len();
 
 /// The state's entries come first; the rest take none.
-pub const STATE_ENTRIES: usize = 14;
+pub const STATE_ENTRIES: usize = 16;
 
 const GUARD: [u8; 16] = [0xc3; 16];
 
@@ -75,6 +75,9 @@ impl fmt::Display for Answer {
                 ", length {length}, response {}",
                 Bytes(response.as_ref())
             ),
+            Call::Image { image, length } => {
+                write!(out, ", length {length}, image {}", Bytes(image.as_ref()))
+            }
             Call::WriteRequest { buffer, .. } => {
                 write!(out, ", buffer {}", Bytes(buffer.as_ref()))
             }
@@ -194,6 +197,6 @@ mod tests {
     #[test]
     fn the_states_entries_come_first() {
         let [last, next] = [STATE_ENTRIES - 1, STATE_ENTRIES].map(|at| Call::ENTRIES[at]);
-        assert_eq!([last, next], ["set_word", "read_request"]);
+        assert_eq!([last, next], ["restore", "read_request"]);
     }
 }

@@ -30,6 +30,7 @@ pub fn test(seed: u64, report: &mut Report) {
     for (name, state) in &states {
         report.judge(every_byte(name, state, &mut random));
     }
+    report.judge(saved_numbers(&states, &mut random));
     report.judge(every_length(&states, &mut random));
     report.judge(pairs_of_bytes(&states, 200_000, &mut random));
     report.judge(random_bytes(&states, &mut random));
@@ -146,6 +147,44 @@ fn every_byte(name: &str, state: &[u8], random: &mut Random) -> Result<String, S
         "every byte of '{name}' at every value: {held} of {} slices hold a state, {calls} calls",
         256 * state.len()
     ))
+}
+
+/// A user process of each place made a saved one, at number 0 and some others, the first at all: at 0 there is no state, since a save has counted one.
+fn saved_numbers(states: &[(String, Vec<u8>)], random: &mut Random) -> Result<String, String> {
+    let (mut places, mut slices, mut held) = (0, 0, 0);
+    for (name, state) in states {
+        let mut tried = Tried::of(state, random);
+        for begin in user_places(state) {
+            let mut saved = state.clone();
+            saved[begin + 1..begin + 3].copy_from_slice(&[2, 0]);
+            let most = if places == 0 { u16::MAX } else { 256 };
+            for number in 0..=most {
+                saved[begin + 3..begin + 5].copy_from_slice(&number.to_le_bytes());
+                let outcome = tried.slice(&saved);
+                outcome.map_err(|what| {
+                    format!("a saved process of '{name}' at number {number}: {what}")
+                })?;
+                slices += 1;
+            }
+            places += 1;
+        }
+        held += tried.held;
+    }
+    let line = format!(
+        "saved processes of {places} places at numbers from 0: {held} of {slices} slices hold a state"
+    );
+    match slices - held == places && places > 0 {
+        true => Ok(line),
+        false => Err(format!("{line}; each place at 0 holds none")),
+    }
+}
+
+/// Where the places of user processes begin.
+fn user_places(state: &[u8]) -> Vec<usize> {
+    (0..usize::from(state[layout::COUNT_AT]))
+        .map(|place| layout::PLACES_AT + layout::PLACE_LENGTH * place)
+        .filter(|begin| state[begin + 1] != 1)
+        .collect()
 }
 
 fn every_length(states: &[(String, Vec<u8>)], random: &mut Random) -> Result<String, String> {

@@ -1,14 +1,14 @@
 //! How deep the sequences went.
 
-use crate::call::{Call, ENTRIES};
+use crate::call::{user_claim, Answer, Call, ENTRIES};
 use slavotuk_model::module::{Kind, Name, PLACES, SPENT};
 use slavotuk_model::Module;
-use std::collections::HashMap;
+use std::collections::{HashMap, HashSet};
 
 /// How many numbers there are.
 const NUMBERS: usize = 16;
 
-/// The numbers that document 01 lets each entry answer.
+/// The numbers that documents 01 and 02 let each entry answer.
 #[rustfmt::skip]
 const POSSIBLE: [&[usize]; ENTRIES] = [
     /* fresh         */ &[0, 1],
@@ -25,6 +25,8 @@ const POSSIBLE: [&[usize]; ENTRIES] = [
     /* list          */ &[0, 1, 2, 3, 5, 6, 8, 9, 10, 13, 15],
     /* kill          */ &[0, 1, 2, 3, 5, 6, 8, 9, 13],
     /* set_word      */ &[0, 1, 2, 3, 5, 6, 8, 9, 10, 13],
+    /* image         */ &[0, 15],
+    /* restore       */ &[0, 14],
     /* read_request  */ &[0, 14],
     /* write_request */ &[0, 15],
     /* read_count    */ &[0, 14],
@@ -51,6 +53,15 @@ pub struct Depth {
     continued: u64,
     continued_elsewhere: u64,
     elevated: u64,
+    /// Images written.
+    images: u64,
+    /// Images restored: the newest that was written, an older one, some other.
+    restored: [u64; 3],
+    /// Their rows.
+    restored_rows: u64,
+    /// Those of the processes from an image that were continued, and the records accepted under them.
+    restored_continued: u64,
+    restored_records: u64,
 }
 
 /// What has to be remembered within one sequence.
@@ -60,20 +71,33 @@ pub struct Trail {
     used: usize,
     /// The session that a saved process was saved in.
     saved_in: HashMap<Name, u32>,
+    /// The images that were written, the newest at the end.
+    images: Vec<Vec<u8>>,
+    /// The processes that came from an image.
+    restored: HashSet<Name>,
 }
 
 impl Depth {
     /// Takes note of a call, with the modules before and after it.
-    pub fn note(&mut self, trail: &mut Trail, call: &Call, number: u32, states: [&Module; 2]) {
+    pub fn note(&mut self, trail: &mut Trail, answer: &Answer, states: [&Module; 2]) {
+        let call = &answer.made;
         self.calls += 1;
-        self.answered[call.entry()][number as usize] += 1;
-        if number != 0 {
+        self.answered[call.entry()][answer.number as usize] += 1;
+        if answer.number != 0 {
             return;
         }
         let [before, after] = states;
+        if let Call::Restore { image } = call {
+            return self.note_restore(trail, image, after);
+        }
         self.note_places(trail, before, after);
+        self.note_record(trail, call, before);
         match call {
             Call::Fresh { .. } => *trail = Trail::default(),
+            Call::Image { image, length } => {
+                self.images += 1;
+                trail.images.push(image.as_ref()[..*length].to_vec());
+            }
             Call::End {
                 session, keep: 1, ..
             } => self.note_save(trail, *session, before, after),
@@ -108,6 +132,7 @@ impl Depth {
             self.filled += u64::from(place == PLACES - 1);
         }
         trail.used = trail.used.max(after.processes.len());
+        trail.restored.retain(stands);
     }
 
     fn note_save(&mut self, trail: &mut Trail, session: u32, before: &Module, after: &Module) {
@@ -118,8 +143,38 @@ impl Depth {
         }
     }
 
+    /// The processes of the image stand, and no others.
+    fn note_restore(&mut self, trail: &mut Trail, image: &[u8], after: &Module) {
+        let written = trail
+            .images
+            .iter()
+            .rev()
+            .position(|written| written == image);
+        let whose = match written {
+            Some(0) => 0,
+            Some(_) => 1,
+            None => 2,
+        };
+        self.restored[whose] += 1;
+        self.restored_rows += after.processes.len() as u64;
+        trail.used = after.processes.len();
+        trail.saved_in.clear();
+        trail.restored = after.processes.iter().map(|process| process.name).collect();
+    }
+
+    fn note_record(&mut self, trail: &mut Trail, call: &Call, before: &Module) {
+        let of = user_claim(call).and_then(|(session, credential, _)| {
+            before.find_active_user(session as usize, credential as usize)
+        });
+        if let Some((place, _)) = of {
+            let name = &before.processes[place].name;
+            self.restored_records += u64::from(trail.restored.contains(name));
+        }
+    }
+
     fn note_continue(&mut self, trail: &mut Trail, session: u32, name: &[u8]) {
         self.continued += 1;
+        self.restored_continued += u64::from(trail.restored.contains(name));
         let saved_in = trail.saved_in.get(name);
         self.continued_elsewhere += u64::from(saved_in.is_some_and(|saved| *saved != session));
     }
@@ -141,6 +196,16 @@ impl Depth {
         self.continued += other.continued;
         self.continued_elsewhere += other.continued_elsewhere;
         self.elevated += other.elevated;
+        self.images += other.images;
+        add_each(&mut self.restored, &other.restored);
+        self.restored_rows += other.restored_rows;
+        self.restored_continued += other.restored_continued;
+        self.restored_records += other.restored_records;
+    }
+
+    /// How many images were restored.
+    pub fn power_cycles(&self) -> u64 {
+        self.restored.iter().sum()
     }
 
     /// The table of entries and numbers, a line for each entry.
@@ -178,6 +243,9 @@ impl Depth {
         let (filled, spent) = (self.filled, self.spent);
         let (saved, continued) = (self.saved, self.continued);
         let elsewhere = self.continued_elsewhere;
+        let [newest, older, others] = self.restored;
+        let (images, rows) = (self.images, self.restored_rows);
+        let (back, records) = (self.restored_continued, self.restored_records);
         vec![
             self.judge_possible(least),
             self.judge_impossible(),
@@ -194,6 +262,19 @@ impl Depth {
             reached(
                 self.elevated,
                 format!("{} calls accepted under an elevated claim", self.elevated),
+            ),
+            reached(
+                newest.min(older).min(others),
+                format!(
+                    "{} power cycles: the newest of {images} images {newest} times, an older one {older}, some other {others}",
+                    self.power_cycles()
+                ),
+            ),
+            reached(
+                back.min(records),
+                format!(
+                    "{rows} processes came from an image, {back} were continued, {records} records accepted under them"
+                ),
             ),
         ]
     }
@@ -215,7 +296,7 @@ impl Depth {
         }
         match missing.is_empty() {
             true => Ok(format!(
-                "each of the {pairs} answers of an entry that document 01 allows came up; the rarest, {}, {} times",
+                "each of the {pairs} answers of an entry that documents 01 and 02 allow came up; the rarest, {}, {} times",
                 fewest.1, fewest.0
             )),
             false => Err(format!(

@@ -1,12 +1,13 @@
 //! Draws the calls of a sequence, with an eye on the state so that deep ones are reached.
 
 use crate::call::{Answer, Call, ENTRIES};
+use crate::images;
 use crate::random::Random;
 use slavotuk::entries::RawClaim;
 use slavotuk_model::layout::{self, STATE_LENGTH};
 use slavotuk_model::module::{Credential, Kind, Name, Process, Session, Wanted};
 use slavotuk_model::module::{CREDENTIALS, NAME_LENGTH, PLACES, SESSIONS, SPENT};
-use slavotuk_model::{messages, Module};
+use slavotuk_model::{image, messages, Module};
 
 /// Handles, credentials, classes and flags on both sides of each width.
 const BOUNDS: [u32; 12] = [
@@ -42,10 +43,10 @@ enum Style {
 #[rustfmt::skip]
 fn weights(style: Style) -> [usize; ENTRIES] {
     match style {
-        //                    fresh holds open close drop select start cont. elev. end rec. list kill word requests listings
-        Style::Mixed =>       [2,   2,    30,  15,   12,  30,    100,  60,   40,   60, 120, 50,  40,  40,  5, 5,    10, 15],
-        Style::Crowded =>     [0,   2,    30,  2,    4,   40,    160,  30,   60,   80, 50,  40,  6,   20,  5, 5,    10, 15],
-        Style::NearlySpent => [0,   2,    10,  2,    5,   10,    30,   50,   20,   40, 120, 60,  50,  40,  5, 5,    10, 15],
+        //                    fresh holds open close drop select start cont. elev. end rec. list kill word image rest. requests listings
+        Style::Mixed =>       [2,   2,    30,  15,   12,  30,    100,  60,   40,   60, 120, 50,  40,  40,  6,    4,    5, 5,    10, 15],
+        Style::Crowded =>     [0,   2,    30,  2,    4,   40,    160,  30,   60,   80, 50,  40,  6,   20,  3,    3,    5, 5,    10, 15],
+        Style::NearlySpent => [0,   2,    10,  2,    5,   10,    30,   50,   20,   40, 120, 60,  50,  40,  3,    3,    5, 5,    10, 15],
     }
 }
 
@@ -56,7 +57,14 @@ pub struct Generator {
     names: Vec<Name>,
     /// The last listing that was answered, for the readers.
     listing: Vec<u8>,
+    /// The last images that were answered, the newest at the end.
+    images: Vec<Vec<u8>>,
+    /// Whether the power goes off after the newest of them.
+    power_off: bool,
 }
+
+/// How many images are kept.
+const KEPT_IMAGES: usize = 6;
 
 impl Generator {
     /// The source that the seed makes.
@@ -69,6 +77,8 @@ impl Generator {
             style,
             names,
             listing: messages::listing(&[]),
+            images: Vec::new(),
+            power_off: false,
         }
     }
 
@@ -80,11 +90,22 @@ impl Generator {
         }
     }
 
-    /// The next call. A slice that holds no state gets a fresh module.
+    /// The next call. A slice that holds no state gets a fresh module, or one from an image.
     pub fn next(&mut self, module: Option<&Module>) -> Call {
         let Some(module) = module else {
-            return self.fresh();
+            return match self.random.percent(80) {
+                true => self.fresh(),
+                false => {
+                    let image = self.drawn_image();
+                    Call::Restore { image }
+                }
+            };
         };
+        if let (true, Some(newest)) = (self.power_off, self.images.last()) {
+            self.power_off = false;
+            let image = newest.clone();
+            return Call::Restore { image };
+        }
         if !module.sessions.contains(&Session::OpenWithVersion) && self.random.percent(60) {
             return self.entering(module);
         }
@@ -112,6 +133,8 @@ impl Generator {
             "list" => self.list(module),
             "kill" => self.kill(module),
             "set_word" => self.set_word(module),
+            "image" => self.image(module),
+            "restore" => self.restore(),
             "read_request" => self.read_request(),
             "write_request" => self.write_request(),
             "read_count" => self.read_count(),
@@ -121,14 +144,20 @@ impl Generator {
 
     /// Takes note of an answer.
     pub fn observe(&mut self, answer: &Answer) {
-        if let (
-            0,
+        if answer.number != 0 {
+            return;
+        }
+        match &answer.made {
             Call::List {
                 response, length, ..
-            },
-        ) = (answer.number, &answer.made)
-        {
-            self.listing = response.as_ref()[..*length].to_vec();
+            } => self.listing = response.as_ref()[..*length].to_vec(),
+            Call::Image { image, length } => {
+                self.images.push(image.as_ref()[..*length].to_vec());
+                let old = self.images.len().saturating_sub(KEPT_IMAGES);
+                self.images.drain(..old);
+                self.power_off = self.random.percent(30);
+            }
+            _ => {}
         }
     }
 
@@ -320,13 +349,17 @@ impl Generator {
             _ => module.rows(Wanted::All),
         };
         let exact = messages::listing(&rows).len();
+        self.room_about(exact, &[0, 3, 4, 5, 54, 55, 615, 616, 617])
+    }
+
+    fn room_about(&mut self, exact: usize, others: &[usize]) -> usize {
         match self.random.below(10) {
             0..=3 => exact,
             4 => exact - 1,
             5 => exact + 1,
             6..=7 => exact + self.random.below(60),
             8 => self.random.below(exact),
-            _ => self.random.pick(&[0, 3, 4, 5, 54, 55, 615, 616, 617]),
+            _ => self.random.pick(others),
         }
     }
 
@@ -356,6 +389,35 @@ impl Generator {
             target,
             word,
         }
+    }
+
+    fn image(&mut self, module: &Module) -> Call {
+        let exact = image::write(module).len();
+        let room = self.room_about(exact, &[0, 10, 41, 42, 93, 94, 665, 666, 667]);
+        Call::Image {
+            image: self.random.bytes(room).into(),
+            length: self.random.next() as usize,
+        }
+    }
+
+    /// An image that was written, the newest or an older one, or one of another module; mostly damaged, so that the state lives on.
+    fn restore(&mut self) -> Call {
+        let mut image = match self.images.is_empty() || self.random.percent(15) {
+            true => self.drawn_image(),
+            false => self.images[self.random.below(self.images.len())].clone(),
+        };
+        if self.random.percent(85) {
+            let fields = 1 + self.random.below(4);
+            images::damage(&mut image, fields, &mut self.random);
+        }
+        Call::Restore { image }
+    }
+
+    fn drawn_image(&mut self) -> Vec<u8> {
+        let mask = (self.random.word() | self.random.word() | self.random.word()) as u8;
+        let most = if mask == 0 { 0 } else { PLACES };
+        let rows = self.random.below(most + 1);
+        images::draw(mask, &self.names[..rows], &mut self.random)
     }
 
     fn read_request(&mut self) -> Call {

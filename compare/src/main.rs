@@ -1,10 +1,12 @@
-//! Runs the compiled archive beside the model of document 01, and tells where they differ.
+//! Runs the compiled archive beside the model of documents 01 and 02, and tells where they differ.
 #![forbid(unsafe_code)]
 
 mod call;
 mod damage;
 mod depth;
 mod generate;
+mod image_test;
+mod images;
 mod messages;
 mod random;
 mod report;
@@ -23,17 +25,17 @@ use std::process::ExitCode;
 use std::time::{Duration, SystemTime, UNIX_EPOCH};
 
 const HELP: &str = "\
-Runs the compiled archive beside the model of document 01, and tells where they differ.
+Runs the compiled archive beside the model of documents 01 and 02, and tells where they differ.
 
 usage: slavotuk-compare test [--calls N] [--seed S]
        slavotuk-compare soak [--seconds N | --forever] [--seed S]
        slavotuk-compare replay SEED
 
-test    all tests: N calls in random sequences over the 17 entries (5000000 unless given, at least 200000), accepted records
-        sent again, damaged states, fresh modules, the listing messages, and all messages of 004 clause 9.2. The same seed makes
-        the same calls; it is 1 unless given.
-soak    random sequences and damaged states for N seconds (60 unless given), with a line now and then. The seed is taken
-        from the clock unless given, and printed.
+test    all tests: N calls in random sequences over 20 entries (5000000 unless given, at least 200000), with power cycles between
+        them, accepted records sent again, damaged states, fresh modules, images, the listing messages, and all messages of 004
+        clause 9.2. The same seed makes the same calls; it is 1 unless given.
+soak    random sequences, damaged states and damaged images for N seconds (60 unless given), with a line now and then. The seed
+        is taken from the clock unless given, and printed.
 replay  one sequence again, by the seed that a failure printed. The failure is printed with its sequence shrunk.
 
 A test prints 'ok: ..' or 'FAILED: ..', and the last line is 'N passed, M failed'.

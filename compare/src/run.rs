@@ -2,6 +2,7 @@
 
 use crate::damage;
 use crate::depth::Depth;
+use crate::image_test;
 use crate::messages;
 use crate::random::Random;
 use crate::report::Report;
@@ -39,6 +40,7 @@ pub fn test(calls: usize, seed: u64) -> ExitCode {
     report.judge(sequence::run_to_spent());
     damage::test(seed, &mut report);
     damage::test_fresh(seed, &mut report);
+    image_test::test(seed, &mut report);
     messages::test(seed, &mut report);
     for outcome in wire_test::test(&wire::Archive, MESSAGES, seed) {
         report.judge(outcome);
@@ -66,7 +68,8 @@ fn test_replays(seed: u64, report: &mut Report) {
     let (depth, failure) = run_all(&seeds(!seed, REPLAYED), REPLAYED_PLAN);
     let (calls, replays, others) = (depth.calls, depth.replays, depth.replays_of_others);
     let title = format!(
-        "accepted records sent again: {replays} times after {calls} calls, none good again; {others} were another process's turn"
+        "accepted records sent again: {replays} times after {calls} calls with {} power cycles, none good again; {others} were another process's turn",
+        depth.power_cycles()
     );
     match failure {
         Some(failure) => report.judge(Err(explain(&title, failure))),
@@ -157,7 +160,7 @@ pub fn soak(time: Option<Duration>, seed: u64) -> ExitCode {
 
 fn progress(begun: Instant, depth: &Depth, damaged: u64) -> String {
     format!(
-        "{:.0} s: {} calls in {} sequences, {} records sent again, {damaged} calls on damaged states",
+        "{:.0} s: {} calls in {} sequences, {} records sent again, {damaged} calls on damaged states and with damaged images",
         begun.elapsed().as_secs_f64(),
         depth.calls,
         depth.sequences,
@@ -165,7 +168,7 @@ fn progress(begun: Instant, depth: &Depth, damaged: u64) -> String {
     )
 }
 
-/// Sequences on every core, two of them with replays, and damage to the state that one of them ends in.
+/// Sequences on every core, two of them with replays, and damage to the state that one of them ends in and to its image.
 fn soak_round(
     seed: u64,
     sequences: usize,
@@ -189,6 +192,9 @@ fn soak_round(
     let reached = sequence::run(seed, plan, depth);
     let pair = reached.map_err(|failure| explain("random sequences", (seed, *failure)))?;
     *damaged += damage::soak(pair.archive.state(), &mut Random::new(seed))?;
+    if let Some(module) = pair.module() {
+        *damaged += image_test::soak(module, seed)?;
+    }
     Ok(())
 }
 

@@ -7,7 +7,7 @@ use crate::random::Random;
 use crate::sides::Pair;
 use slavotuk::entries::RawClaim;
 use slavotuk_model::layout::STATE_LENGTH;
-use slavotuk_model::module::{Name, CREDENTIALS, NAME_LENGTH, SPENT};
+use slavotuk_model::module::{Kind, Name, Process, CREDENTIALS, NAME_LENGTH, SPENT};
 use slavotuk_model::Module;
 
 /// The bytes that are lent, and the calls on them.
@@ -78,7 +78,7 @@ pub fn run(seed: u64, plan: Plan, depth: &mut Depth) -> Result<Pair, Box<Failure
             .module()
             .expect("a sequence begins with a state or a fresh");
         let before = before.as_ref().unwrap_or(after);
-        depth.note(&mut trail, call, answer.number, [before, after]);
+        depth.note(&mut trail, &answer, [before, after]);
         if plan.replays {
             records.note(call, answer.number, before, after);
             let chosen = records.choose(&mut random);
@@ -230,6 +230,9 @@ impl Records {
         if number != 0 {
             return;
         }
+        if let Call::Restore { .. } = call {
+            return self.note_restore(after);
+        }
         let stands = |name: &Name| after.processes.iter().any(|process| process.name == *name);
         self.accepted.retain(|record| stands(&record.name));
         if let Some((session, credential, number)) = user_claim(call) {
@@ -241,6 +244,40 @@ impl Records {
                     call: call.clone(),
                     name,
                     credential,
+                    number,
+                });
+            }
+        }
+    }
+
+    /// None below the image's number is accepted at all: beside the records that were accepted, the first and the last of those numbers are sent, in a kill that
+    /// is refused for its claim alone. From the image's number on, records are good again where the image is an older one; that flash returns the newest is
+    /// assumed.
+    fn note_restore(&mut self, after: &Module) {
+        let saved: Vec<(&Process, u16)> = after
+            .processes
+            .iter()
+            .filter_map(|process| match process.kind {
+                Kind::SavedUser { next } => Some((process, next)),
+                _ => None,
+            })
+            .collect();
+        self.accepted.retain(|record| {
+            let below = |(process, next): &(&Process, u16)| {
+                process.name == record.name && record.number < *next
+            };
+            saved.iter().any(below)
+        });
+        for (process, next) in saved {
+            for number in [0, next - 1] {
+                self.accepted.push(Record {
+                    call: Call::Kill {
+                        session: 0,
+                        claim: RawClaim::user(process.credential as u32, number),
+                        name: process.name.to_vec(),
+                    },
+                    name: process.name,
+                    credential: process.credential,
                     number,
                 });
             }

@@ -1,11 +1,12 @@
 //! Makes a sequence that shows an error as short and as plain as it gets, while it still shows one.
 
 use crate::call::{name_mut, number_mut, session_mut, user_claim, Bytes, Call};
+use crate::images;
 use crate::sequence::{Failure, Sequence};
 use crate::sides::Pair;
 use slavotuk::entries::RawClaim;
 use slavotuk_model::layout::{self, STATE_LENGTH};
-use slavotuk_model::module::{Module, SESSIONS};
+use slavotuk_model::module::{Module, NAME_LENGTH, SESSIONS};
 
 /// The failure with its sequence made short and plain.
 pub fn shrink(mut failure: Failure) -> Failure {
@@ -136,6 +137,11 @@ fn with_name(sequence: &Sequence, from: &[u8], to: &[u8]) -> Sequence {
     for name in names.filter(|name| *name == from) {
         *name = to.to_vec();
     }
+    for call in &mut changed.calls {
+        if let (Call::Restore { image }, NAME_LENGTH) = (call, to.len()) {
+            images::rename(image, from, to);
+        }
+    }
     changed
 }
 
@@ -187,11 +193,20 @@ fn plainer_calls(call: &Call) -> Vec<Call> {
             }
         }
         Call::Record { .. } => plainer.push(change(&|call| set_class(call, 4))),
-        Call::List { response, .. } => {
-            let room = response.as_ref().len();
-            let rooms = [0, 4, room / 2, room.saturating_sub(1), room];
+        Call::List {
+            response: buffer, ..
+        }
+        | Call::Image { image: buffer, .. } => {
+            let room = buffer.as_ref().len();
+            let rooms = [0, 4, 42, room / 2, room.saturating_sub(1), room];
             for room in rooms.into_iter().filter(|tried| *tried <= room) {
                 plainer.push(change(&|call| set_room(call, room)));
+            }
+        }
+        Call::Restore { image } => {
+            for row in 0..images::rows(image) {
+                let shorter = images::without_row(image, row);
+                plainer.extend(shorter.map(|image| Call::Restore { image }));
             }
         }
         Call::SetWord { word, .. } => {
@@ -233,10 +248,16 @@ fn set_class(call: &mut Call, plain: u32) {
 
 fn set_room(call: &mut Call, room: usize) {
     if let Call::List {
-        response, length, ..
+        response: buffer,
+        length,
+        ..
+    }
+    | Call::Image {
+        image: buffer,
+        length,
     } = call
     {
-        *response = vec![0xee; room].into();
+        *buffer = vec![0xee; room].into();
         *length = 0;
     }
 }

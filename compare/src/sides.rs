@@ -29,6 +29,8 @@ fn modelled(lent: &mut Lent, call: &mut Call) -> u32 {
         Call::List { session, claim, wanted, response, length } => entries::list(lent, *session, claim_of(claim), *wanted, response.as_mut(), length),
         Call::Kill { session, claim, name } => entries::kill(lent, *session, claim_of(claim), name),
         Call::SetWord { session, claim, target, word } => entries::set_word(lent, *session, claim_of(claim), *target, *word),
+        Call::Image { image, length } => entries::image(lent, image.as_mut(), length),
+        Call::Restore { image } => entries::restore(lent, image),
         Call::ReadRequest { message, credential } => entries::read_request(message, credential),
         Call::WriteRequest { buffer, credential } => entries::write_request(buffer.as_mut(), *credential),
         Call::ReadCount { message, count } => entries::read_count(message, count),

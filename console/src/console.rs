@@ -4,8 +4,11 @@ use crate::line::{quoted, visible, Command, Records, Words, DOCUMENT_01};
 use crate::write::Written;
 use crate::{draw, files, formats, help, read};
 use slavotuk::entries::{self, RawClaim};
-use slavotuk::{Call, Listing, Module, WireCredential, REQUEST_LENGTH, STATE_LENGTH};
+use slavotuk::{
+    Call, Listing, Module, WireCredential, FULL_IMAGE_LENGTH, REQUEST_LENGTH, STATE_LENGTH,
+};
 use std::io::{self, Write};
+use std::path::Path;
 
 /// Why a command was not carried out.
 pub enum Trouble {
@@ -101,6 +104,8 @@ impl Console {
                 writeln!(out, "loaded {STATE_LENGTH} bytes")?;
                 self.begin_history(line, out)?;
             }
+            Command::Image(file) => self.image(&file, line, out)?,
+            Command::Restore(file) => self.restore(&file, line, out)?,
             Command::History => self.history.draw(out)?,
             Command::Help(None) => help::overview(out)?,
             Command::Help(Some(name)) => match (help::topic(&name), formats::named(&name)) {
@@ -129,6 +134,38 @@ impl Console {
     fn fresh(&mut self, words: Words, line: &str, out: &mut impl Write) -> io::Result<()> {
         writeln!(out, "{}", draw::answer(make_fresh(&mut self.state, words)))?;
         self.begin_history(line, out)
+    }
+
+    /// Writes the image to a file, and answers when the disk has it.
+    fn image(&mut self, file: &Path, line: &str, out: &mut impl Write) -> Result<(), Trouble> {
+        let mut image = [0; FULL_IMAGE_LENGTH];
+        let mut length = 0;
+        let number = entries::image(&self.state, &mut image, &mut length);
+        let answer = draw::answer(number);
+        if number != 0 {
+            writeln!(out, "{answer}")?;
+        } else {
+            files::write_image(file, image.get(..length).unwrap_or_default())?;
+            writeln!(out, "{answer}\nwritten {length} bytes")?;
+        }
+        self.history.add(line, answer);
+        Ok(())
+    }
+
+    /// Makes the module from the image in a file.
+    fn restore(&mut self, file: &Path, line: &str, out: &mut impl Write) -> Result<(), Trouble> {
+        let image = files::read_image(file)?;
+        let number = entries::restore(&mut self.state, &image);
+        let answer = draw::answer(number);
+        writeln!(out, "{answer}")?;
+        if number != 0 {
+            writeln!(out, "{}", files::no_image(image.len()))?;
+            self.history.add(line, answer);
+            return Ok(());
+        }
+        writeln!(out, "restored from {} bytes", image.len())?;
+        self.begin_history(line, out)?;
+        Ok(())
     }
 
     /// Makes a call; a listing is drawn.

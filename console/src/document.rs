@@ -7,7 +7,7 @@ use crate::formats::{
 use crate::line::{self, Command};
 use crate::tables::{self, Row};
 use crate::{bytes, draw, formats};
-use std::path::Path;
+use std::path::{Path, PathBuf};
 
 /// The line of docs/WIRE.md behind which everything is computed.
 const MARK: &str =
@@ -24,8 +24,25 @@ static PARTS: [&Part; 5] = [
     &RESET_ELEMENT,
 ];
 
-fn path(name: &str) -> std::path::PathBuf {
+/// A file of the repository.
+pub fn path(name: &str) -> PathBuf {
     Path::new(env!("CARGO_MANIFEST_DIR")).join("..").join(name)
+}
+
+/// Asks that a document has this text behind its mark; where the variable `renew` is set, writes it there instead.
+pub fn is_computed(name: &str, mark: &str, renew: &str, computed: &str) {
+    let file = path(name);
+    let found = std::fs::read_to_string(&file).unwrap();
+    let (by_hand, _) = found.split_once(mark).expect("the document has the mark");
+    let wanted = format!("{by_hand}{mark}{computed}");
+    if std::env::var_os(renew).is_some() {
+        std::fs::write(&file, wanted).unwrap();
+        return;
+    }
+    for (at, (line, wanted)) in found.lines().zip(wanted.lines()).enumerate() {
+        assert_eq!(line, wanted, "{name}, line {}; {renew}=1 renews it", at + 1);
+    }
+    assert_eq!(found.len(), wanted.len(), "{name}; {renew}=1 renews it");
 }
 
 /// The lines of the example that write a message, each with its bytes.
@@ -154,27 +171,7 @@ fn computed() -> String {
 
 #[test]
 fn the_document_is_what_is_computed() {
-    let file = path("docs/WIRE.md");
-    let found = std::fs::read_to_string(&file).unwrap();
-    let (by_hand, _) = found.split_once(MARK).expect("docs/WIRE.md has the mark");
-    let wanted = format!("{by_hand}{MARK}{}", computed());
-    if std::env::var_os(RENEW).is_some() {
-        std::fs::write(&file, wanted).unwrap();
-        return;
-    }
-    for (at, (line, wanted)) in found.lines().zip(wanted.lines()).enumerate() {
-        assert_eq!(
-            line,
-            wanted,
-            "docs/WIRE.md, line {}; {RENEW}=1 renews it",
-            at + 1
-        );
-    }
-    assert_eq!(
-        found.len(),
-        wanted.len(),
-        "docs/WIRE.md; {RENEW}=1 renews it"
-    );
+    is_computed("docs/WIRE.md", MARK, RENEW, &computed());
 }
 
 #[test]

@@ -1,57 +1,37 @@
-//! A state in a file.
+//! A state and an image in files.
 
 use crate::line::visible;
-use slavotuk::{Module, STATE_LENGTH};
-use std::ffi::OsString;
-use std::fs::{self, File};
-use std::io::{self, Read, Write};
-use std::path::{Path, PathBuf};
+use crate::replace::replace;
+use slavotuk::{Module, FULL_IMAGE_LENGTH, STATE_LENGTH};
+use std::fs::File;
+use std::io::{self, Read};
+use std::path::Path;
 
-/// Writes a state beside the file and then gives it the file's name, so that the file is whole at every moment.
+/// Writes a state to a file.
 pub fn save(file: &Path, state: &[u8; STATE_LENGTH]) -> Result<(), String> {
-    let wrong = |why: String| format!("{} is not saved: {why}", shown(file));
-    let part = part_of(file).ok_or_else(|| wrong("it names no file".into()))?;
-    if file.metadata().is_ok_and(|found| !found.is_file()) {
-        return Err(wrong("there is something else than a file".into()));
-    }
-    write_beside(&part, file, state).map_err(|error| wrong(error.to_string()))
+    replace(file, state).map_err(|why| wrong(file, "saved", &why))
 }
 
-fn shown(file: &Path) -> String {
-    visible(&file.display().to_string())
+/// Writes an image to a file.
+pub fn write_image(file: &Path, image: &[u8]) -> Result<(), String> {
+    replace(file, image).map_err(|why| wrong(file, "written", &why))
 }
 
-fn write_beside(part: &Path, file: &Path, state: &[u8]) -> io::Result<()> {
-    let new = File::options().write(true).create_new(true).open(part)?;
-    let written = write_whole(new, state).and_then(|()| fs::rename(part, file));
-    if written.is_err() {
-        // the first error is the one to tell
-        let _ = fs::remove_file(part);
-    }
-    written
-}
-
-fn write_whole(mut file: File, bytes: &[u8]) -> io::Result<()> {
-    file.write_all(bytes)?;
-    file.sync_all()
-}
-
-/// A name in the same folder that no one else uses.
-fn part_of(file: &Path) -> Option<PathBuf> {
-    let mut part = OsString::from(".");
-    part.push(file.file_name()?);
-    part.push(format!(".{}.part", std::process::id()));
-    Some(file.with_file_name(part))
+fn wrong(file: &Path, done: &str, why: &str) -> String {
+    format!(
+        "{} is not {done}: {why}",
+        visible(&file.display().to_string())
+    )
 }
 
 /// The state that a file holds.
 pub fn load(file: &Path) -> Result<[u8; STATE_LENGTH], String> {
-    let wrong = |why: String| format!("{} is not loaded: {why}", shown(file));
-    let bytes = read_start(file).map_err(|error| wrong(error.to_string()))?;
+    let wrong = |why: String| wrong(file, "loaded", &why);
+    let bytes = read_start(file, STATE_LENGTH).map_err(|error| wrong(error.to_string()))?;
     let state: [u8; STATE_LENGTH] = bytes
         .as_slice()
         .try_into()
-        .map_err(|_| wrong(length(bytes.len())))?;
+        .map_err(|_| wrong(state_length(bytes.len())))?;
     match Module::from_bytes(state) {
         Ok(module) => Ok(module.into_bytes()),
         Err(refusal) => Err(wrong(format!(
@@ -61,18 +41,33 @@ pub fn load(file: &Path) -> Result<[u8; STATE_LENGTH], String> {
     }
 }
 
-/// As many bytes as tell a state's length from a longer one: the file may be of any size.
-fn read_start(file: &Path) -> io::Result<Vec<u8>> {
+/// The bytes of a file that may be an image: all of them, or of a longer file one more than an image has.
+pub fn read_image(file: &Path) -> Result<Vec<u8>, String> {
+    read_start(file, FULL_IMAGE_LENGTH).map_err(|error| wrong(file, "read", &error.to_string()))
+}
+
+/// As many bytes as tell a file of this length from a longer one: it may be of any size.
+fn read_start(file: &Path, length: usize) -> io::Result<Vec<u8>> {
     let mut bytes = Vec::new();
     File::open(file)?
-        .take(STATE_LENGTH as u64 + 1)
+        .take(length as u64 + 1)
         .read_to_end(&mut bytes)?;
     Ok(bytes)
 }
 
-fn length(found: usize) -> String {
+fn state_length(found: usize) -> String {
     if found > STATE_LENGTH {
         return format!("it has more than the {STATE_LENGTH} bytes of a state");
     }
     format!("it has {found} bytes, and a state {STATE_LENGTH}")
+}
+
+/// What is said of a file that is no image, by how many of its bytes were read.
+pub fn no_image(read: usize) -> String {
+    if read > FULL_IMAGE_LENGTH {
+        return format!(
+            "the file has more than the {FULL_IMAGE_LENGTH} bytes of the longest image"
+        );
+    }
+    format!("the file's {read} bytes are no image")
 }

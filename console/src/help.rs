@@ -17,7 +17,7 @@ pub struct Topic {
 }
 
 /// The commands, in the order of their listing.
-pub const COMMANDS: [Topic; 23] = [
+pub const COMMANDS: [Topic; 25] = [
     Topic {
         name: "fresh",
         form: "fresh [CREDENTIAL=WORD ..]",
@@ -170,8 +170,10 @@ pub const COMMANDS: [Topic; 23] = [
         form: "save FILE",
         short: "write the 681 bytes of the state to a file",
         more: &[
-            "A file name with blanks stands between quotation marks. An old file is",
-            "replaced at once when the new one is whole.",
+            "A file name with blanks stands between quotation marks. A file is replaced",
+            "whole or not at all, and is on the disk before it is called saved: a new one",
+            "is written beside it and synced, gets its name, and the folder is synced.",
+            "A symbolic link stays, and the file that it leads to is replaced.",
         ],
     },
     Topic {
@@ -181,10 +183,33 @@ pub const COMMANDS: [Topic; 23] = [
         more: &["A file that holds no state changes nothing. Else a new history begins."],
     },
     Topic {
+        name: "image",
+        form: "image FILE",
+        short: "write what outlasts a power cycle to a file",
+        more: &[
+            "The credentials, their words and the saved processes with their next numbers,",
+            "as docs/IMAGE.md draws them. The file is replaced whole or not at all, and is",
+            "on the disk before it is called written, as with 'save'.",
+            "Refused with, in this order: 1, 15; the console gives it neither reason.",
+        ],
+    },
+    Topic {
+        name: "restore",
+        form: "restore FILE",
+        short: "make the module from such a file",
+        more: &[
+            "Its sessions are closed, and its processes saved ones, in the file's order and",
+            "with its numbers. Active processes are lost. It has to be the newest image:",
+            "after an older one, numbers that were accepted since are accepted again.",
+            "Refused with 14 where the file is no image; the module stays as it was.",
+            "Else a new history begins.",
+        ],
+    },
+    Topic {
         name: "history",
         form: "history",
         short: "every call so far with its answer",
-        more: &["It begins anew with fresh and load. Bad lines are not in it."],
+        more: &["It begins anew with fresh, load and restore. Bad lines are not in it."],
     },
     Topic {
         name: "help",

@@ -36,6 +36,10 @@ pub enum Command {
     Save(PathBuf),
     /// The state from a file.
     Load(PathBuf),
+    /// The image into a file.
+    Image(PathBuf),
+    /// The module from the image in a file.
+    Restore(PathBuf),
     /// The calls so far.
     History,
     /// Everything in short, or one topic.
@@ -104,6 +108,8 @@ fn command(name: &str, words: &mut Reader) -> Result<Command, String> {
         "write" => Command::Write(words.written()?),
         "save" => Command::Save(words.file()?),
         "load" => Command::Load(words.file()?),
+        "image" => Command::Image(words.file()?),
+        "restore" => Command::Restore(words.file()?),
         "history" => Command::History,
         "help" => Command::Help(words.topic()?),
         "quit" => Command::Quit,

@@ -6,12 +6,18 @@ mod bytes;
 mod console;
 #[cfg(test)]
 mod document;
+#[cfg(test)]
+mod document_image;
 mod draw;
 mod files;
+#[cfg(test)]
+#[path = "../tests/common/folder.rs"]
+mod folder;
 mod formats;
 mod help;
 mod line;
 mod read;
+mod replace;
 mod tables;
 mod write;
 

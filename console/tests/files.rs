@@ -1,4 +1,4 @@
-//! States saved and loaded.
+//! States saved and loaded, and files that can't be written.
 
 mod common;
 
@@ -72,6 +72,8 @@ fn damaged_files_change_nothing() {
         (44, 2),
         (44, 13),
         (45, 2),
+        // a saved process that has counted nothing
+        (48, 0),
         (680, 1),
     ] {
         let mut damaged = whole.clone();
@@ -97,18 +99,19 @@ fn unreadable_files_change_nothing() {
     not_loaded(&folder.file("missing/state"), "No such file");
 }
 
-/// Saves where nothing can be saved: the message, and that nothing is left behind.
+/// Saves where nothing can be saved, and writes an image there: the message, and that nothing is left behind.
 #[track_caller]
 fn not_saved(folder: &Folder, file: &str) {
-    let before = folder.names();
-    let run = run(format!("{SETUP}save {file}\nopen 1\n"));
-    let message = format!("line 7: {file} is not saved: ");
-    assert!(run.err.starts_with(&message), "{}", run.err);
-    assert_eq!(run.err.lines().count(), 1);
-    assert!(run.out.ends_with("0 done\n"));
-    assert!(!run.out.contains("saved"));
-    assert_eq!(run.code, Some(1));
-    assert_eq!(folder.names(), before);
+    for (command, done) in [("save", "saved"), ("image", "written")] {
+        let before = folder.names();
+        let run = run(format!("{SETUP}{command} {file}\nopen 1\n"));
+        let message = format!("line 7: {file} is not {done}: ");
+        assert!(run.err.starts_with(&message), "{}", run.err);
+        assert_eq!(run.err.lines().count(), 1);
+        assert_eq!(run.out, "0 done\n".repeat(7));
+        assert_eq!(run.code, Some(1));
+        assert_eq!(folder.names(), before);
+    }
 }
 
 #[test]
@@ -121,14 +124,80 @@ fn unwritable_places_get_a_message() {
     not_saved(&folder, &folder.file("folder"));
     fs::write(folder.0.join("file"), b"kept").unwrap();
     not_saved(&folder, &folder.file("file/state"));
-    not_saved(&folder, &folder.file(&"n".repeat(300)));
+    not_saved(&folder, &folder.file(&"n".repeat(256)));
     assert_eq!(fs::read(folder.0.join("file")).unwrap(), b"kept");
+}
+
+/// The longest name that a file can have leaves no room for a longer one beside it.
+#[test]
+fn a_long_name_is_written() {
+    let folder = Folder::new("long");
+    let name = "n".repeat(255);
+    let file = folder.file(&name);
+    good(format!("save {file}\nimage {file}\nrestore {file}\n"));
+    assert_eq!(folder.names(), [name]);
+}
+
+/// A folder of the kernel's, for whom not even root makes a file, and one of ours without the right, where that stops us.
+#[cfg(unix)]
+#[test]
+fn a_folder_that_is_not_to_be_written_gets_a_message() {
+    use std::os::unix::fs::PermissionsExt;
+    let folder = Folder::new("forbidden");
+    if fs::metadata("/proc/self").is_ok() {
+        not_saved(&folder, "/proc/slavotuk-image");
+    }
+    let file = folder.file("file");
+    fs::write(&file, b"kept").unwrap();
+    let rights = |mode| fs::set_permissions(&folder.0, fs::Permissions::from_mode(mode)).unwrap();
+    rights(0o500);
+    let is_root = fs::write(folder.0.join("probe"), b"").is_ok();
+    if !is_root {
+        not_saved(&folder, &file);
+        assert_eq!(fs::read(&file).unwrap(), b"kept");
+    }
+    rights(0o700);
+}
+
+#[cfg(unix)]
+#[test]
+fn a_symbolic_link_stays_and_its_file_is_replaced() {
+    use std::os::unix::fs::symlink;
+    let folder = Folder::new("link");
+    let (near, far) = (folder.file("near"), folder.file("far"));
+    fs::create_dir(&near).unwrap();
+    fs::create_dir(&far).unwrap();
+    let (link, file) = (format!("{near}/link"), format!("{far}/file"));
+    fs::write(&file, b"old").unwrap();
+    symlink("../far/file", &link).unwrap();
+    for (command, length) in [("save", 681), ("image", 94)] {
+        good(format!("{SETUP}{command} {link}\n"));
+        assert_eq!(fs::read_link(&link).unwrap().to_str(), Some("../far/file"));
+        assert!(fs::symlink_metadata(&file).unwrap().is_file());
+        assert_eq!(fs::read(&file).unwrap().len(), length);
+        assert_eq!(fs::read_dir(&near).unwrap().count(), 1);
+        assert_eq!(fs::read_dir(&far).unwrap().count(), 1);
+    }
+    good(format!("restore {link}\n"));
+
+    fs::remove_file(&file).unwrap();
+    not_saved(&folder, &link);
+    assert!(fs::metadata(&file).is_err());
+    fs::create_dir(&file).unwrap();
+    not_saved(&folder, &link);
+    fs::remove_file(&link).unwrap();
+    symlink("link", &link).unwrap();
+    not_saved(&folder, &link);
+    assert_eq!(fs::read_link(&link).unwrap().to_str(), Some("link"));
 }
 
 #[cfg(unix)]
 #[test]
 fn what_is_no_file_is_not_replaced() {
     let folder = Folder::new("special");
+    if fs::metadata("/dev/null").is_ok() {
+        not_saved(&folder, "/dev/null");
+    }
     let socket = folder.file("socket");
     let _listener = std::os::unix::net::UnixListener::bind(&socket).unwrap();
     not_saved(&folder, &socket);
@@ -137,10 +206,18 @@ fn what_is_no_file_is_not_replaced() {
 
 #[test]
 fn a_missing_file_name_is_a_bad_line() {
-    for command in ["save", "load"] {
+    for command in ["save", "load", "image", "restore"] {
         let run = run(format!("{command}\n{command} a b\n"));
         let lines: Vec<&str> = run.err.lines().collect();
         assert!(lines[0].contains("file is missing"), "{}", run.err);
         assert!(lines[1].contains("'b' is too much"), "{}", run.err);
+    }
+}
+
+#[test]
+fn an_empty_file_name_names_no_file() {
+    for command in ["save", "image"] {
+        let run = run(format!("{command} \"\"\n"));
+        assert!(run.err.ends_with(": it names no file\n"), "{}", run.err);
     }
 }

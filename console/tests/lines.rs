@@ -201,10 +201,10 @@ since fresh 3=0x10
     assert_eq!(&out[from..], told);
 }
 
-const COMMANDS: [&str; 23] = [
+const COMMANDS: [&str; 25] = [
     "fresh", "open", "close", "select", "start", "continue", "elevate", "drop", "end", "record",
     "records", "list", "kill", "set-word", "show", "request", "read", "write", "save", "load",
-    "history", "help", "quit",
+    "image", "restore", "history", "help", "quit",
 ];
 
 #[test]

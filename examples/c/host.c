@@ -1,6 +1,7 @@
 /*
  * A small host of the module: it makes a fresh one, starts two processes, sends a record and its replay, and prints the
- * list of processes as a console would get it. Every answer is printed as its number and name.
+ * list of processes as a console would get it. Then it saves a process and goes through a power cycle. Every answer is
+ * printed as its number and name.
  */
 #include <stdint.h>
 #include <stdio.h>
@@ -119,6 +120,46 @@ static void print_list(uint8_t state[SLAVOTUK_STATE_SIZE])
     }
 }
 
+/* Returns the length of the image. A host puts it into flash after each call that changes it, before it goes on. */
+static size_t write_image(const uint8_t state[SLAVOTUK_STATE_SIZE], uint8_t flash[SLAVOTUK_IMAGE_SIZE])
+{
+    size_t length = 0;
+    expect("write the image", slavotuk_image(state, SLAVOTUK_STATE_SIZE, flash, SLAVOTUK_IMAGE_SIZE, &length),
+           SLAVOTUK_DONE);
+    printf("    %u bytes\n", (unsigned)length);
+    return length;
+}
+
+/* The memory comes back with anything in it. Sessions and active processes are lost. */
+static void restore_module(uint8_t state[SLAVOTUK_STATE_SIZE], const uint8_t *flash, size_t length)
+{
+    memset(state, 0xff, SLAVOTUK_STATE_SIZE);
+    expect("restore the module", slavotuk_restore(state, SLAVOTUK_STATE_SIZE, flash, length), SLAVOTUK_DONE);
+    open_session(state);
+    expect("record, credential 1, number 1",
+           slavotuk_record(state, SLAVOTUK_STATE_SIZE, SESSION, SLAVOTUK_CLAIM_USER, 1, 1, VERDICT_YES,
+                           SLAVOTUK_CLASS_DEVICE_FIRST),
+           SLAVOTUK_REFUSED_NO_PROCESS);
+}
+
+/* Credential 0 saves its process under its number 1. After a power cycle it goes on with number 2. */
+static void cycle_power(uint8_t state[SLAVOTUK_STATE_SIZE])
+{
+    uint8_t flash[SLAVOTUK_IMAGE_SIZE];
+    uint8_t name[SLAVOTUK_NAME_SIZE];
+    expect("end, credential 0, number 1, keep", slavotuk_end(state, SLAVOTUK_STATE_SIZE, SESSION, 0, 1, VERDICT_YES, 1),
+           SLAVOTUK_DONE);
+    restore_module(state, flash, write_image(state, flash));
+    make_name(name, 0x11);
+    expect("continue, credential 0", slavotuk_continue(state, SLAVOTUK_STATE_SIZE, SESSION, 0, name, sizeof name),
+           SLAVOTUK_DONE);
+    write_image(state, flash);
+    expect("the same end again", slavotuk_end(state, SLAVOTUK_STATE_SIZE, SESSION, 0, 1, VERDICT_YES, 1),
+           SLAVOTUK_REFUSED_OUT_OF_TURN);
+    expect("end, credential 0, number 2", slavotuk_end(state, SLAVOTUK_STATE_SIZE, SESSION, 0, 2, VERDICT_YES, 0),
+           SLAVOTUK_DONE);
+}
+
 static void run(void)
 {
     uint8_t state[SLAVOTUK_STATE_SIZE];
@@ -127,12 +168,13 @@ static void run(void)
     start_processes(state);
     send_records(state);
     print_list(state);
+    cycle_power(state);
 }
 
 int main(int argc, char **argv)
 {
     static const char usage[] = "usage: host [--help]\n"
-                                "Runs the module through a short session and prints every answer.\n"
+                                "Runs the module through a short session and a power cycle and prints every answer.\n"
                                 "Exit code: 0 all as expected, 1 another answer, 2 bad usage.\n";
     int wants_help = argc == 2 && strcmp(argv[1], "--help") == 0;
     if (argc > 1 && !wants_help) {

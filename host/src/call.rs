@@ -61,6 +61,10 @@ pub enum Call<B = Vec<u8>> {
     Kill { session: u32, claim: RawClaim, name: Vec<u8> },
     /// [`entries::set_word`].
     SetWord { session: u32, claim: RawClaim, target: u32, word: u32 },
+    /// [`entries::image`].
+    Image { image: B, length: usize },
+    /// [`entries::restore`].
+    Restore { image: Vec<u8> },
     /// [`entries::read_request`].
     ReadRequest { message: Vec<u8>, credential: u16 },
     /// [`entries::write_request`].
@@ -90,6 +94,8 @@ impl<B: AsMut<[u8]>> Call<B> {
             Call::List { session, claim, wanted, response, length } => entries::list(state, *session, *claim, *wanted, response.as_mut(), length),
             Call::Kill { session, claim, name } => entries::kill(state, *session, *claim, name),
             Call::SetWord { session, claim, target, word } => entries::set_word(state, *session, *claim, *target, *word),
+            Call::Image { image, length } => entries::image(state, image.as_mut(), length),
+            Call::Restore { image } => entries::restore(state, image),
             Call::ReadRequest { message, credential } => entries::read_request(message, credential),
             Call::WriteRequest { buffer, credential } => entries::write_request(buffer.as_mut(), *credential),
             Call::ReadCount { message, count } => entries::read_count(message, count),
@@ -100,7 +106,7 @@ impl<B: AsMut<[u8]>> Call<B> {
 
 impl<B> Call<B> {
     /// The entries' names, in the order of docs/ENTRIES.md: first those that take a state.
-    pub const ENTRIES: [&'static str; 18] = [
+    pub const ENTRIES: [&'static str; 20] = [
         "fresh",
         "holds",
         "open",
@@ -115,6 +121,8 @@ impl<B> Call<B> {
         "list",
         "kill",
         "set_word",
+        "image",
+        "restore",
         "read_request",
         "write_request",
         "read_count",
@@ -138,10 +146,12 @@ impl<B> Call<B> {
             Call::List { .. } => 11,
             Call::Kill { .. } => 12,
             Call::SetWord { .. } => 13,
-            Call::ReadRequest { .. } => 14,
-            Call::WriteRequest { .. } => 15,
-            Call::ReadCount { .. } => 16,
-            Call::ReadRow { .. } => 17,
+            Call::Image { .. } => 14,
+            Call::Restore { .. } => 15,
+            Call::ReadRequest { .. } => 16,
+            Call::WriteRequest { .. } => 17,
+            Call::ReadCount { .. } => 18,
+            Call::ReadRow { .. } => 19,
         }
     }
 }
@@ -167,6 +177,8 @@ impl<B: AsRef<[u8]>> fmt::Display for Call<B> {
                 write!(f, " session {session} {claim} wanted {wanted} room {} length {length:#x}", response.as_ref().len()),
             Call::Kill { session, claim, name } => write!(f, " session {session} {claim} name {}", Bytes(name)),
             Call::SetWord { session, claim, target, word } => write!(f, " session {session} {claim} target {target} word {word:#x}"),
+            Call::Image { image, length } => write!(f, " room {} length {length:#x}", image.as_ref().len()),
+            Call::Restore { image } => write!(f, " image {}", Bytes(image)),
             Call::ReadRequest { message, credential } => write!(f, " message {} credential {credential:#x}", Bytes(message)),
             Call::WriteRequest { buffer, credential } => write!(f, " buffer {} credential {credential:#x}", Bytes(buffer.as_ref())),
             Call::ReadCount { message, count } => write!(f, " message {} count {count:#x}", Bytes(message)),

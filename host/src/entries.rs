@@ -103,6 +103,19 @@ mod declared {
             target: u32,
             word: u32,
         ) -> u32;
+        pub fn slavotuk_image(
+            state: *const u8,
+            state_length: usize,
+            image: *mut u8,
+            image_length: usize,
+            length: *mut usize,
+        ) -> u32;
+        pub fn slavotuk_restore(
+            state: *mut u8,
+            state_length: usize,
+            image: *const u8,
+            image_length: usize,
+        ) -> u32;
         pub fn slavotuk_read_request(
             message: *const u8,
             message_length: usize,
@@ -385,6 +398,26 @@ pub fn set_word(state: &mut [u8], session: u32, claim: RawClaim, target: u32, wo
             target,
             word,
         )
+    }
+}
+
+/// Writes the image of the module to the front of the buffer. `length` becomes the image's length, 0 on a refusal.
+pub fn image(state: &[u8], image: &mut [u8], length: &mut usize) -> u32 {
+    unsafe {
+        declared::slavotuk_image(
+            state.as_ptr(),
+            state.len(),
+            image.as_mut_ptr(),
+            image.len(),
+            length,
+        )
+    }
+}
+
+/// Makes a module from an image; the state's old bytes don't matter.
+pub fn restore(state: &mut [u8], image: &[u8]) -> u32 {
+    unsafe {
+        declared::slavotuk_restore(state.as_mut_ptr(), state.len(), image.as_ptr(), image.len())
     }
 }
 

@@ -53,6 +53,7 @@
 //! | [`Module`] | the calls, and what the state holds: [`Phase`], [`Grants`], [`Process`] |
 //! | [`Session`], [`Credential`], [`Class`], [`Name`], [`Claim`], [`Wanted`] | what a call is handed |
 //! | [`Refusal`], [`answered`] | document 01's numbers 1 to 15, and those of later archives |
+//! | [`Image`] | what a module keeps while it is without power, what it loses, and what the flash has to do |
 //! | [`Listing`], [`read_request`], [`write_request`] | the listing messages, for consoles too |
 //! | [`message`] | all messages of 004 clause 9.2 |
 //! | [`entries`] | the archive's entries as they are, with numbers and byte slices |
@@ -64,6 +65,7 @@
 mod call;
 #[allow(unsafe_code)]
 pub mod entries;
+mod image;
 mod listing;
 pub mod message;
 mod module;
@@ -72,6 +74,7 @@ mod values;
 mod view;
 
 pub use call::{Bytes, Call};
+pub use image::{Image, FULL_IMAGE_LENGTH};
 pub use listing::{
     read_request, write_request, Listing, Row, Rows, WireCredential, FULL_LISTING_LENGTH,
     REQUEST_LENGTH,

@@ -2,8 +2,8 @@
 
 use crate::entries::{self, RawClaim};
 use crate::{
-    answered, Claim, Class, Credential, Grants, Listing, Name, Refusal, Session, UserClaim, Wanted,
-    WireCredential,
+    answered, Claim, Class, Credential, Grants, Image, Listing, Name, Refusal, Session, UserClaim,
+    Wanted, WireCredential, FULL_IMAGE_LENGTH,
 };
 
 /// How many bytes a state has.
@@ -14,7 +14,7 @@ pub const VERSION_1_0: u8 = 0x10;
 
 /// The module, around the bytes of its state: its own, or lent ones, or such as are only looked at.
 ///
-/// It always holds a state: it is made fresh, or of bytes that were tested. Each call returns what document 01 says, and a refusal changes nothing.
+/// It always holds a state: it is made fresh, from an image, or of bytes that were tested. Each call returns what document 01 says, and a refusal changes nothing.
 ///
 /// ```
 /// use slavotuk::{Credential, Grants, Module, Name, Refusal, Session, VERSION_1_0};
@@ -42,6 +42,27 @@ impl Module {
     pub fn fresh(grants: &[Grants; Credential::COUNT]) -> Result<Module, Refusal> {
         let mut state = [0; STATE_LENGTH];
         make_fresh(&mut state, grants)?;
+        Ok(Module { state })
+    }
+
+    /// The module that an image makes: its credentials and words, every session closed, and its processes, saved, in their order and with their next numbers.
+    /// [`Refusal::Message`] where the bytes are no image. [`Image`] says what was lost with the power.
+    ///
+    /// ```
+    /// use slavotuk::{Grants, Module, Refusal};
+    ///
+    /// let module = Module::fresh(&[Grants::of_word(15); 8])?;
+    /// let mut image = module.image()?.to_vec();
+    /// assert_eq!(Module::restore(&image), Ok(module));
+    ///
+    /// image.push(0); // a byte too many
+    /// let refusal = Module::restore(&image).unwrap_err();
+    /// assert_eq!((refusal, refusal.number()), (Refusal::Message, 14));
+    /// # Ok::<(), Refusal>(())
+    /// ```
+    pub fn restore(image: &[u8]) -> Result<Module, Refusal> {
+        let mut state = [0; STATE_LENGTH];
+        answered(entries::restore(&mut state, image))?;
         Ok(Module { state })
     }
 
@@ -123,6 +144,26 @@ impl<'a> Module<&'a mut [u8]> {
         make_fresh(state, grants)?;
         Ok(Module { state })
     }
+
+    /// Makes the module of an image in a lent slice, whatever it held; [`Refusal::Argument`] where its length is not a state's, then [`Refusal::Message`] where
+    /// the bytes are no image. The slice is then left as it was.
+    ///
+    /// ```
+    /// use slavotuk::{Grants, Module, Refusal};
+    ///
+    /// let image = Module::fresh(&[Grants::of_word(15); 8])?.image()?;
+    /// let mut memory = [0xff; slavotuk::STATE_LENGTH];
+    /// assert_eq!(Module::restore_in(&mut memory, &image[1..]).unwrap_err(), Refusal::Message);
+    /// assert_eq!(memory, [0xff; slavotuk::STATE_LENGTH]);
+    ///
+    /// let module = Module::restore_in(&mut memory, &image)?;
+    /// assert_eq!(module.image()?, image);
+    /// # Ok::<(), Refusal>(())
+    /// ```
+    pub fn restore_in(state: &'a mut [u8], image: &[u8]) -> Result<Self, Refusal> {
+        answered(entries::restore(state, image))?;
+        Ok(Module { state })
+    }
 }
 
 fn make_fresh(state: &mut [u8], grants: &[Grants; Credential::COUNT]) -> Result<(), Refusal> {
@@ -135,6 +176,38 @@ impl<S: AsRef<[u8]>> Module<S> {
     /// The bytes of its state, as docs/STATE.md draws them.
     pub fn bytes(&self) -> &[u8] {
         self.state.as_ref()
+    }
+
+    /// The image of the module, to be kept while it is without power. It is never refused by an archive whose images have at most [`FULL_IMAGE_LENGTH`] bytes.
+    pub fn image(&self) -> Result<Image, Refusal> {
+        let mut bytes = [0; FULL_IMAGE_LENGTH];
+        let length = self.write_image(&mut bytes)?;
+        Ok(Image { bytes, length })
+    }
+
+    /// Writes the image of the module to the front of the buffer, and gives its length; later bytes stay as they were. Refusals: room.
+    ///
+    /// ```
+    /// use slavotuk::{Grants, Module, Refusal};
+    ///
+    /// let mut grants = [Grants::UNPROVISIONED; 8];
+    /// grants[1] = Grants::of_word(16);
+    /// let module = Module::fresh(&grants)?;
+    ///
+    /// let mut buffer = [0xaa; 44];
+    /// assert_eq!(module.write_image(&mut buffer[..41]), Err(Refusal::Room));
+    /// assert_eq!(buffer, [0xaa; 44]);
+    /// assert_eq!(module.write_image(&mut buffer)?, 42);
+    /// assert_eq!(buffer[..10], [2, 0, 8, 0, 10, 0, 0, 0, 42, 0]);
+    /// assert_eq!(buffer[10..18], [0, 0, 0, 0, 16, 0, 0, 0]);
+    /// assert_eq!(buffer[18..42], [0; 24]);
+    /// assert_eq!(buffer[42..], [0xaa; 2]);
+    /// # Ok::<(), Refusal>(())
+    /// ```
+    pub fn write_image(&self, buffer: &mut [u8]) -> Result<usize, Refusal> {
+        let mut length = 0;
+        answered(entries::image(self.bytes(), buffer, &mut length))?;
+        Ok(length)
     }
 }
 

@@ -89,9 +89,9 @@ refusals! {
     NameTaken = 12, "name taken";
     /// The next number is 65,535.
     Spent = 13, "spent";
-    /// The bytes don't fit the layout.
+    /// The bytes don't fit the layout, or are no image.
     Message = 14, "message";
-    /// The response buffer is too short.
+    /// The buffer is too short.
     Room = 15, "room";
 }
 

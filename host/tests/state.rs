@@ -25,21 +25,22 @@ fn example() -> [u8; STATE_LENGTH] {
     bytes
 }
 
-/// The changes that docs/STATE.md names, each of which makes the example hold no state: the offset and the new byte.
-const DAMAGE: [(usize, u8); 13] = [
-    (3, 3),
-    (4, 2),
-    (18, 1),
-    (44, 2),
-    (44, 4),
-    (44, 13),
-    (45, 2),
-    (47, 1),
-    (47, 2),
-    (100, 1),
-    (155, 1),
-    (203, 0x11),
-    (680, 1),
+/// The changes that docs/STATE.md names, each of which makes the example hold no state: the offset and the new bytes.
+const DAMAGE: [(usize, &[u8]); 14] = [
+    (3, &[3]),
+    (4, &[2]),
+    (18, &[1]),
+    (44, &[2]),
+    (44, &[4]),
+    (44, &[13]),
+    (45, &[2]),
+    (47, &[1]),
+    (47, &[2]),
+    (100, &[1]),
+    (101, &[0, 0]),
+    (155, &[1]),
+    (203, &[0x11]),
+    (680, &[1]),
 ];
 
 #[test]
@@ -86,13 +87,24 @@ fn the_example_is_seen_as_drawn() {
 
 #[test]
 fn damaged_bytes_are_refused_and_left() {
-    for (at, byte) in DAMAGE {
+    for (at, bytes) in DAMAGE {
         let mut damaged = example();
-        damaged[at] = byte;
+        damaged[at..at + bytes.len()].copy_from_slice(bytes);
         let before = damaged;
         assert_eq!(Module::from_bytes(damaged), Err(Refusal::Argument), "{at}");
         assert_eq!(Module::lent(&mut damaged).unwrap_err(), Refusal::Argument);
         assert_eq!(damaged, before);
+    }
+}
+
+#[test]
+fn a_saved_process_has_counted_one() {
+    for next in [[1, 0], [0, 1]] {
+        let mut bytes = example();
+        bytes[101..103].copy_from_slice(&next);
+        let module = Module::from_bytes(bytes).unwrap();
+        let saved = module.processes().nth(1).unwrap();
+        assert_eq!(saved.next_number(), Some(u16::from_le_bytes(next)));
     }
 }
 

@@ -1,5 +1,6 @@
 //! The entries on a state or a message as docs/ENTRIES.md has them: numbers and byte slices of any kind in, one of the numbers out.
 
+use crate::image;
 use crate::layout::{self, STATE_LENGTH};
 use crate::messages;
 use crate::module::{Claim, Module, Name, UserClaim, Wanted, CREDENTIALS, SESSIONS};
@@ -195,6 +196,27 @@ pub fn set_word(lent: &mut Lent, session: u32, claim: RawClaim, target: u32, wor
     number_of(|| {
         lent.module()?
             .set_word(handle(session)?, claimed(claim)?, owner(target)?, word)
+    })
+}
+
+/// Writes the image: 15 for a buffer too short. The length handed out is the image's; 0 on a refusal.
+pub fn image(lent: &mut Lent, buffer: &mut [u8], length: &mut usize) -> u32 {
+    *length = 0;
+    number_of(|| {
+        let written = image::write(lent.module()?);
+        let room = buffer.get_mut(..written.len()).ok_or(Number::Room)?;
+        room.copy_from_slice(&written);
+        *length = written.len();
+        Ok(())
+    })
+}
+
+/// Makes a fresh module from an image; of the state only the length is tested.
+pub fn restore(lent: &mut Lent, image: &[u8]) -> u32 {
+    number_of(|| {
+        refuse_unless(lent.length() == STATE_LENGTH, Number::Argument)?;
+        *lent = Lent::State(image::read(image)?);
+        Ok(())
     })
 }
 

@@ -122,7 +122,8 @@ fn read_process(place: &[u8]) -> Option<Process> {
     let kind = match (place[1], session, next) {
         (0, session, next) => Kind::ActiveUser { session, next },
         (1, session, 0) => Kind::ActiveElevation { session },
-        (2, 0, next) => Kind::SavedUser { next },
+        // a save has counted one
+        (2, 0, next) if next > 0 => Kind::SavedUser { next },
         _ => return None,
     };
     Some(Process {
@@ -230,6 +231,15 @@ mod tests {
             assert_eq!(bytes[at], from, "at {at}");
             bytes[at] = to;
             assert_eq!(read(&bytes), None, "at {at}");
+        }
+    }
+
+    #[test]
+    fn a_saved_process_has_counted_one() {
+        let mut bytes = example();
+        for (next, holds) in [([0, 0], false), ([1, 0], true), ([0, 1], true)] {
+            bytes[101..103].copy_from_slice(&next);
+            assert_eq!(read(&bytes).is_some(), holds, "{next:?}");
         }
     }
 

@@ -31,7 +31,7 @@ pub enum Number {
     NameTaken = 12,
     /// The next number is 65,535.
     Spent = 13,
-    /// The bytes don't fit the message's layout.
+    /// The bytes don't fit the message's layout, or are no image.
     Message = 14,
     /// The buffer is too short.
     Room = 15,

@@ -91,18 +91,39 @@ impl Steps {
         steps
     }
 
-    fn after_step_11() -> Steps {
+    /// Step 11 up to its end, which saves P.
+    fn after_the_save() -> Steps {
         let mut steps = Steps::after_step_8();
         assert_eq!(steps.kill(user(0, 0), r()), 0);
         assert_eq!(steps.record(user(1, 2), 4), 6);
         assert_eq!(steps.list(user(0, 1), 65_535, &mut [0; 54]), (15, 0));
         assert_eq!(steps.list(user(0, 1), 65_535, &mut [0; 55]), (0, 55));
         assert_eq!(steps.end(user(0, 2), 1), 0);
-        assert_eq!(steps.open(1), 0);
-        assert_eq!(entries::select(&mut steps.lent, 1, 0x10), 0);
-        assert_eq!(entries::continue_saved(&mut steps.lent, 1, 0, &q()), 6);
-        assert_eq!(entries::continue_saved(&mut steps.lent, 1, 0, &p()), 0);
         steps
+    }
+
+    fn after_step_11() -> Steps {
+        let mut steps = Steps::after_the_save();
+        steps.continue_p();
+        steps
+    }
+
+    /// Step 11 from there on.
+    fn continue_p(&mut self) {
+        assert_eq!(self.open(1), 0);
+        assert_eq!(entries::select(&mut self.lent, 1, 0x10), 0);
+        assert_eq!(entries::continue_saved(&mut self.lent, 1, 0, &q()), 6);
+        assert_eq!(entries::continue_saved(&mut self.lent, 1, 0, &p()), 0);
+    }
+
+    /// Writes an image and restores it into a slice that holds no state.
+    fn power_cycle(&mut self) -> Vec<u8> {
+        let (mut buffer, mut length) = (vec![0xee; 700], 999);
+        assert_eq!(entries::image(&mut self.lent, &mut buffer, &mut length), 0);
+        buffer.truncate(length);
+        self.lent = Lent::Other(vec![0xa5; STATE_LENGTH]);
+        assert_eq!(entries::restore(&mut self.lent, &buffer), 0);
+        buffer
     }
 
     fn module(&self) -> &Module {
@@ -202,6 +223,26 @@ fn step_11() {
             next: 3
         }
     );
+}
+
+/// Saved P is continued at 3 as if nothing had been; active P is lost.
+#[test]
+fn step_11_with_power_cycles() {
+    let mut steps = Steps::after_the_save();
+    let image = steps.power_cycle();
+    assert_eq!(image.len(), 42 + 52);
+    assert_eq!(image[..10], [3, 0, 8, 0, 10, 0, 1, 0, 42, 0]);
+    assert_eq!(image[10..18], [15, 0, 0, 0, 16, 0, 0, 0]);
+    assert_eq!(image[18..42], [0; 24]);
+    assert_eq!(image[42..46], [0, 0, 3, 0]);
+    assert_eq!(image[46..], p());
+    assert_eq!(steps.start(0, r()), 2);
+    steps.continue_p();
+    let mut uninterrupted = Steps::after_step_11();
+    assert_eq!(entries::close(&mut uninterrupted.lent, 0), 0);
+    assert_eq!(steps.module(), uninterrupted.module());
+    assert_eq!(steps.power_cycle().len(), 42);
+    assert!(steps.module().processes.is_empty());
 }
 
 #[test]

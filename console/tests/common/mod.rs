@@ -1,8 +1,10 @@
 //! Runs the built console on a script.
-#![allow(dead_code)]
+#![allow(dead_code, unused_imports)]
 
+mod folder;
+
+pub use folder::Folder;
 use std::io::Write;
-use std::path::PathBuf;
 use std::process::{Child, Command, Stdio};
 
 /// What a run has written, and its exit code.
@@ -51,33 +53,4 @@ pub fn good(script: impl AsRef<[u8]>) -> String {
 /// The lines that a good script is answered with.
 pub fn answers(script: &str) -> Vec<String> {
     good(script).lines().map(String::from).collect()
-}
-
-/// An empty folder for one test, removed at its end.
-pub struct Folder(pub PathBuf);
-
-impl Folder {
-    pub fn new(test: &str) -> Folder {
-        let name = format!("slavotuk-console-{}-{test}", std::process::id());
-        let path = std::env::temp_dir().join(name);
-        std::fs::create_dir(&path).unwrap();
-        Folder(path)
-    }
-
-    pub fn file(&self, name: &str) -> String {
-        self.0.join(name).to_str().unwrap().into()
-    }
-
-    /// The names in the folder.
-    pub fn names(&self) -> Vec<String> {
-        let entries = std::fs::read_dir(&self.0).unwrap();
-        let name = |entry: std::fs::DirEntry| entry.file_name().into_string().unwrap();
-        entries.map(|entry| name(entry.unwrap())).collect()
-    }
-}
-
-impl Drop for Folder {
-    fn drop(&mut self) {
-        let _ = std::fs::remove_dir_all(&self.0);
-    }
 }

@@ -78,6 +78,8 @@ pub record FormedProcess (p : Process) : Type 0 where
   -- "An elevation's next number, a saved process's session .. mean nothing and are kept zero."
   pub saved : p .kind ≡ Saved → p .session .0 ≡ 0
   pub elevation : p .kind ≡ Elevation → p .next ≡ 0
+  -- "a save has counted one"
+  pub counted : p .kind ≡ Saved → 1 ≤ p .next
 
 pub record Formed (st : State) : Type 0 where
   -- "Four sessions", "Eight credentials", "A table of at most 12 processes"

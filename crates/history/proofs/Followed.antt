@@ -36,12 +36,12 @@ use Rattle.calls.proofs.Laws.{answer-number}
 use Rattle.lists.specs.Each.{Each}
 use Rattle.history.specs.History.{Event, history}
 use Rattle.history.specs.Lives.{Life, Gone, Live, Kept, counts, ends, shuts, drops, resumes, after, onward, follow, down}
-use Rattle.history.specs.Demand.{life, lifeOf}
+use Rattle.history.specs.Demand.{life, lifeOf, look}
 use Rattle.facts.specs.Facts.{processes, Rules}
 use Rattle.lists.proofs.Each.{Stands, each-imp, each-all, pairs-imp}
 use Rattle.history.proofs.Facts.{Added, Continued, ActiveStands, Admitted, Facts, facts}
 use Rattle.history.proofs.Keeping.{active-more, named-more, unnamed, rest-apart, kept-counted, stands-counted, step-accepted, step-refused, rules-step}
-use Rattle.history.proofs.Looked.{Distinct, look, Fixed, is-name, other-name, look-set, look-remove, look-reject, look-append}
+use Rattle.history.proofs.Looked.{Distinct, Fixed, is-name, other-name, look-set, look-remove, look-reject, look-append}
 
 -- ---- what an automaton's step does to a process's life, at the process that is meant and at another
 module _ (s : Session) (u : UserClaim) (t : Session) (d : Credential) (i : ℕ) where

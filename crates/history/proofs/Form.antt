@@ -210,9 +210,9 @@ module _ (st : State) (v : IsState st) where
   formed-lasts : Lasts FormedProcess st
   formed-lasts =
       record {
-        more = λ p k u f. record { credential = f .credential; session = f .session; next = omega (arith, f .next, u); name = f .name; saved = f .saved; elevation = λ e. cc };
-        put = λ p k f. record { credential = f .credential; session = omega arith; next = f .next; name = f .name; saved = λ e. refl; elevation = λ e. cc };
-        on = λ s p seat k f. record { credential = f .credential; session = chosen-low st s (v .formed .sessions) seat; next = f .next; name = f .name; saved = λ e. cc; elevation = λ e. cc };
+        more = λ p k u f. record { credential = f .credential; session = f .session; next = omega (arith, f .next, u); name = f .name; saved = f .saved; elevation = λ e. cc; counted = λ e. omega arith };
+        put = λ p k f. record { credential = f .credential; session = omega arith; next = f .next; name = f .name; saved = λ e. refl; elevation = λ e. cc; counted = λ e. omega arith };
+        on = λ s p seat k f. record { credential = f .credential; session = chosen-low st s (v .formed .sessions) seat; next = f .next; name = f .name; saved = λ e. cc; elevation = λ e. cc; counted = λ e. f .counted k };
       }
 
   formed-begins : (call : Call) → Facts st call → Fits call → Begins FormedProcess st call
@@ -220,10 +220,10 @@ module _ (st : State) (v : IsState st) where
   formed-begins (Close s) f w = tt
   formed-begins (Select s byte) f w = tt
   formed-begins (Start s c name) f w =
-      record { credential = provisioned-low st c (v .formed .credentials) (f .owner); session = chosen-low st s (v .formed .sessions) (f .seat); next = omega arith; name = w; saved = λ e. cc; elevation = λ e. cc }
+      record { credential = provisioned-low st c (v .formed .credentials) (f .owner); session = chosen-low st s (v .formed .sessions) (f .seat); next = omega arith; name = w; saved = λ e. cc; elevation = λ e. cc; counted = λ e. let z : _≡_ {A = ℕ} 0 1 = cc in absurd (omega arith) }
   formed-begins (Continue s c name) f w = tt
   formed-begins (Elevate s c name verdict) f w =
-      record { credential = provisioned-low st c (v .formed .credentials) (f .owner); session = chosen-low st s (v .formed .sessions) (f .seat); next = omega arith; name = w; saved = λ e. cc; elevation = λ e. refl }
+      record { credential = provisioned-low st c (v .formed .credentials) (f .owner); session = chosen-low st s (v .formed .sessions) (f .seat); next = omega arith; name = w; saved = λ e. cc; elevation = λ e. refl; counted = λ e. let z : _≡_ {A = ℕ} 0 1 = cc in absurd (omega arith) }
   formed-begins (Drop s) f w = tt
   formed-begins (End s u keep) f w = tt
   formed-begins (Record s claim class) f w = tt

@@ -15,16 +15,12 @@ use Rattle.names.proofs.Laws.{same-iff, differ-iff}
 use Rattle.table.specs.declared.Process.{Process}
 use Rattle.lists.specs.Each.{Each, each-nil, each-cons, Pairs, pairs-cons}
 use Rattle.history.specs.Lives.{Life, Gone}
-use Rattle.history.specs.Demand.{lifeOf}
+use Rattle.history.specs.Demand.{lifeOf, look}
 use Rattle.lists.proofs.Each.{each-imp, each-reject}
 
 -- two processes' names are not equal in all 48 bytes
 abbrev pub Distinct : Process → Process → Type 0
 Distinct p q = p .name .bytes ≢ q .name .bytes
-
-abbrev pub look : Name → List Process → Life
-look n [] = Gone
-look n (p ∷ l) = cond (sameName (p .name) n) (lifeOf p) (look n l)
 
 -- a process of the name n, of which g leaves the life as it is
 abbrev pub Fixed : Name → (Life → Life) → Process → Type 0

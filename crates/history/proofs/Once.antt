@@ -29,10 +29,10 @@ use Rattle.calls.proofs.Laws.{answer-number}
 use Rattle.facts.specs.Facts.{processes, Rules}
 use Rattle.history.specs.History.{Event, history}
 use Rattle.history.specs.Lives.{Life, Gone, Live, Raised, Kept, accepted, count, isUserOf, sameSession, counts, ends, shuts, drops, resumes, after, onward, follow, told}
-use Rattle.history.specs.Demand.{Carries, by-end, by-record, by-list, by-kill, by-set-word, IsRecordOf, Stays, TwoRecords, Tells}
+use Rattle.history.specs.Demand.{Carries, by-end, by-record, by-list, by-kill, by-set-word, IsRecordOf, Stays, TwoRecords, look, Tells}
 use Rattle.history.proofs.Facts.{Added, facts}
 use Rattle.history.proofs.Keeping.{rules-step, rules-run}
-use Rattle.history.proofs.Looked.{look, look-none}
+use Rattle.history.proofs.Looked.{look-none}
 use Rattle.history.proofs.Followed.{event, follows-step, followed}
 use Rattle.history.proofs.Told.{tells-look, turn-told}
 
@@ -256,3 +256,14 @@ once first rules tell tells calls n v same =
     let stays₃ : Stays n (event st (f .call) ∷ history next (c₂ .calls)) (look n (processes st)) = subst (λ o. Stays n (event st (f .call) ∷ history next (c₂ .calls)) o) life stays₂ in
     let less = took-two n st w (v .one .session) (v .two .session) (v .one .claim) (v .two .claim) (f .call) (f₂ .call) (c₂ .calls) t stays₃ t₂ in
     omega (arith, less, same)
+
+-- the number of an accepted record is the count of those before it
+pub record-number : (first : State) → Rules first → (tell : Name → Life) → Tells tell first → (calls : List Call) (n : Name) (before rest : List Event) (e : Event) → history first calls ≡ before ++ (e ∷ rest) → (r : IsRecordOf (told tell before n) e) → r .claim .number ≡ count (told tell before n)
+record-number first rules tell tells calls n before rest e are r =
+    let c = cut first calls before _ are in
+    let st : State = run first (c .calls) in
+    let f = first-of st (c .then) e rest (c .is-rest) in
+    let life : told tell before n ≡ look n (processes st) =
+    ap (λ o. follow n before o) (tells-look tell first tells n) ∙ ap (λ l. follow n l (look n (processes first))) (c .is-before) ∙ followed n first (c .calls) rules
+    in
+    took-number n st (rules-run first (c .calls) rules) (r .session) (r .claim) (f .call) (took-of n st (f .call) _ e (f .is) life r) ∙ ap count (sym life)

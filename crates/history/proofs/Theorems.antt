@@ -29,7 +29,7 @@ use Rattle.claims.specs.declared.Claim.{Claim}
 use Rattle.claims.specs.declared.Grants.{Grants}
 use Rattle.claims.specs.declared.State.{State}
 use Rattle.claims.specs.declared.UserClaim.{UserClaim}
-use Rattle.calls.specs.Calls.{Call, List′, Start, number, outcome, listed, fresh}
+use Rattle.calls.specs.Calls.{Call, List′, Start, number, listed, fresh}
 use Rattle.calls.specs.Listing.{amongOf, rowOf, rowsOf, messageLength}
 use Rattle.calls.specs.Run.{step, run, numbers}
 use Rattle.calls.specs.declared.Wanted.{Wanted}
@@ -38,11 +38,10 @@ use Rattle.facts.specs.Facts.{processes, Rules, at}
 use Rattle.facts.proofs.Laws as Facts
 use Rattle.history.specs.History.{Event, history, callsIn}
 use Rattle.history.specs.Lives.{Life, Live, after, onward, follow, told, nobody, accepted, count, down}
-use Rattle.history.specs.Demand.{Carries, Demand3, ByPlaces, Tells, IsClaimOf, SameOwners}
+use Rattle.history.specs.Demand.{Carries, Demand3, ByPlaces, look, Tells, IsClaimOf, SameOwners}
 use Rattle.history.proofs.Tables.{rules-fresh}
-use Rattle.history.proofs.Keeping.{rules-run, step-refused}
+use Rattle.history.proofs.Keeping.{rules-run}
 use Rattle.history.proofs.Form.{owners-step}
-use Rattle.history.proofs.Looked.{look}
 use Rattle.history.proofs.Followed.{event, followed}
 use Rattle.history.proofs.Told.{down-below, tells-look, look-tells, numbers-told, claim-told}
 use Rattle.history.proofs.Told as Told

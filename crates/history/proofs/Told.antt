@@ -30,9 +30,9 @@ use Rattle.calls.specs.Calls.{Call, number}
 use Rattle.facts.specs.Facts.{processes, Rules}
 use Rattle.facts.proofs.Laws.{apart-turn}
 use Rattle.history.specs.Lives.{Life, Gone, Live, accepted, count, down}
-use Rattle.history.specs.Demand.{Carries, by-end, by-record, by-list, by-kill, by-set-word, life, lifeOf, Tells, IsClaimOf}
+use Rattle.history.specs.Demand.{Carries, by-end, by-record, by-list, by-kill, by-set-word, life, lifeOf, look, Tells, IsClaimOf}
 use Rattle.history.proofs.Facts.{Claimed, facts}
-use Rattle.history.proofs.Looked.{Distinct, look, look-none}
+use Rattle.history.proofs.Looked.{Distinct, look-none}
 
 pub live-not-gone : {s : Session} {c : Credential} {ns : List ℕ} → Live s c ns ≡ Gone → ⊥
 live-not-gone e = let z : _≡_ {A = ℕ} 0 1 = cc in absurd (omega arith)

@@ -3,10 +3,11 @@
 use Prim.Native.Nat.{ℕ, _≤_}
 use mathlib.Core.Path.{_≡_}
 use mathlib.Core.Logic.{_≢_}
-use mathlib.Core.Bool.{Bool, false}
+use mathlib.Core.Bool.{Bool, false, cond}
 use mathlib.Core.List.{List, [], _∷_, _++_}
 use lib.ListN.{length}
 use Rattle.lists.specs.Each.{Each}
+use Rattle.names.specs.Names.{sameName}
 use Rattle.names.specs.declared.Credential.{Credential}
 use Rattle.names.specs.declared.Kind.{Kind}
 use Rattle.names.specs.declared.Kind.the-variants.{User, Elevation, Saved}
@@ -90,6 +91,11 @@ life Saved s c next = Kept c (down next)
 
 abbrev pub lifeOf : Process → Life
 lifeOf p = life (p .kind) (p .session) (p .credential) (p .next)
+
+-- and what processes tell of a name
+abbrev pub look : Name → List Process → Life
+look name [] = Gone
+look name (p ∷ l) = cond (sameName (p .name) name) (lifeOf p) (look name l)
 
 -- of each process's name what the process is, and that any other name is gone. A state that histories start from is told so, and the one that they
 -- come to

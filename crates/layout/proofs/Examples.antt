@@ -16,7 +16,7 @@ use Rattle.table.specs.declared.Process.{Process}
 use Rattle.claims.specs.Module.{closedSession, unprovisioned, provisioned, phaseOf, isChosen}
 use Rattle.claims.specs.declared.Phase.the-variants.{Opened, Chosen}
 use Rattle.claims.specs.declared.State.{State}
-use Rattle.layout.specs.Layout.{sessionBytes, sessionFrom, sessionFits, grantsBytes, grantsFrom, grantsFit, processBytes, processFrom, processFits, countIn, placesIn, stateBytes, nothingHeld, stateOf, isOwned, areRivals, areApart, sound, shaped, holdsState}
+use Rattle.layout.specs.Layout.{sessionBytes, sessionFrom, sessionFits, grantsBytes, grantsFrom, grantsFit, processBytes, processFrom, processFits, countIn, placesIn, stateBytes, nothingHeld, stateOf, isOwned, areRivals, areApart, sound, ownersFit, restIsFree, shaped, holdsState}
 
 -- document 01: "P is 16 zero bytes then 32 of 0x11; Q is 16 zero bytes then 32 of 0x22; R is P with its last byte 0x12."
 abbrev P : List ℕ
@@ -67,7 +67,7 @@ pub record Drawn : Type 0 where
   pub nothing-written : stateBytes nothingHeld ≡ replicate 681 0
 
 pub drawn-is : Drawn
-unfolding join padded bytesOf numberOf numberAt rows every pairwise sameBytes sameName standing tableOf isActive isActiveIn provisioned phaseOf isChosen byteOf sessionBytes sessionFrom sessionFits grantsBytes grantsFrom grantsFit processBytes processFrom processFits countIn placesIn stateBytes stateOf isOwned areRivals areApart sound shaped holdsState
+unfolding join padded bytesOf numberOf numberAt rows every pairwise sameBytes sameName standing tableOf isActive isActiveIn provisioned phaseOf isChosen byteOf sessionBytes sessionFrom sessionFits grantsBytes grantsFrom grantsFit processBytes processFrom processFits countIn placesIn stateBytes stateOf isOwned areRivals areApart sound ownersFit restIsFree shaped holdsState
 drawn-is = record { written = refl; read = refl; long = refl; held = refl; nothing-held = refl; nothing-written = refl }
 
 -- a byte changed: the place, and what it holds then
@@ -91,6 +91,8 @@ pub record Refused : Type 0 where
   pub elevation-next : changed 155 1 ≡ false
   pub free-place : changed 680 1 ≡ false
   pub count-too-low : changed 44 2 ≡ false
+  -- "a slice with a saved process at next number 0"
+  pub saved-uncounted : holdsState (set (set (set bytes 44 4) 205 2) 256 7) ≡ false
   -- "or demand 3's rules .. are broken": an owner; a session; a name; two user processes; two elevations
   pub owner : changed 45 2 ≡ false
   pub session-without-version : changed 47 1 ≡ false
@@ -103,12 +105,12 @@ pub record Refused : Type 0 where
 -- what breaks none: another credential's user process in that session; a fourth process, of a name of its own
 pub record Held : Type 0 where
   pub user-of-another : changed 99 0 ≡ true
-  pub fourth-named : holdsState (set (set (set bytes 44 4) 205 2) 256 7) ≡ true
+  pub fourth-named : holdsState (set (set (set (set bytes 44 4) 205 2) 207 1) 256 7) ≡ true
 
 pub refused : Refused
-unfolding join padded bytesOf numberOf numberAt rows every pairwise sameBytes sameName standing tableOf isActive isActiveIn provisioned phaseOf isChosen byteOf sessionBytes sessionFrom sessionFits grantsBytes grantsFrom grantsFit processBytes processFrom processFits countIn placesIn stateBytes stateOf isOwned areRivals areApart sound shaped holdsState
-refused = record { short = refl; long = refl; phase-3 = refl; flag-2 = refl; count-13 = refl; credential-8 = refl; type-3 = refl; session-4 = refl; word-unprovisioned = refl; saved-session = refl; elevation-next = refl; free-place = refl; count-too-low = refl; owner = refl; session-without-version = refl; session-closed = refl; name-twice = refl; user-twice = refl; count-too-high = refl; elevation-twice = refl }
+unfolding join padded bytesOf numberOf numberAt rows every pairwise sameBytes sameName standing tableOf isActive isActiveIn provisioned phaseOf isChosen byteOf sessionBytes sessionFrom sessionFits grantsBytes grantsFrom grantsFit processBytes processFrom processFits countIn placesIn stateBytes stateOf isOwned areRivals areApart sound ownersFit restIsFree shaped holdsState
+refused = record { short = refl; long = refl; phase-3 = refl; flag-2 = refl; count-13 = refl; credential-8 = refl; type-3 = refl; session-4 = refl; word-unprovisioned = refl; saved-session = refl; elevation-next = refl; free-place = refl; count-too-low = refl; saved-uncounted = refl; owner = refl; session-without-version = refl; session-closed = refl; name-twice = refl; user-twice = refl; count-too-high = refl; elevation-twice = refl }
 
 pub held : Held
-unfolding join padded bytesOf numberOf numberAt rows every pairwise sameBytes sameName standing tableOf isActive isActiveIn provisioned phaseOf isChosen byteOf sessionBytes sessionFrom sessionFits grantsBytes grantsFrom grantsFit processBytes processFrom processFits countIn placesIn stateBytes stateOf isOwned areRivals areApart sound shaped holdsState
+unfolding join padded bytesOf numberOf numberAt rows every pairwise sameBytes sameName standing tableOf isActive isActiveIn provisioned phaseOf isChosen byteOf sessionBytes sessionFrom sessionFits grantsBytes grantsFrom grantsFit processBytes processFrom processFits countIn placesIn stateBytes stateOf isOwned areRivals areApart sound ownersFit restIsFree shaped holdsState
 held = record { user-of-another = refl; fourth-named = refl }

@@ -10,7 +10,7 @@ use lib.ListN.{length, drop, getD, replicate, length-append, length-drop}
 use borrow.Author.Tests.{eqb-true, leb-true, le-leb, eq-eqb}
 use Rattle.rows.specs.Bytes.{Bytes, isZero, bytesOf, numberOf, numberAt, byteOf}
 use Rattle.rows.proofs.Bytes.{byte-small, byte-only, length-bytes, number-in, number-low, number-taken, byte-front, part-front, part-last}
-use Rattle.lists.proofs.Tests.{and-left, and-right}
+use Rattle.lists.proofs.Tests.{and-left, and-right, and-both}
 use Rattle.rows.specs.Rows.{every}
 use Rattle.rows.proofs.Rows.{Codec, number-clear}
 use Rattle.names.specs.declared.Kind.{Kind}
@@ -20,7 +20,7 @@ use Rattle.table.specs.declared.Process.{Process}
 use Rattle.claims.specs.declared.Grants.{Grants}
 use Rattle.claims.specs.declared.Phase.{Phase}
 use Rattle.claims.specs.declared.Phase.the-variants.{Closed, Opened, Chosen}
-use Rattle.layout.specs.Layout.{flagAt, credentialSize, ownerAt, kindAt, sessionAt, wordAt, nextAt, placeSize, phaseByte, phaseFrom, sessionBytes, sessionFrom, sessionFits, flagNumber, grantsBytes, grantsFrom, grantsFit, processBytes, processFrom, keptZero, processFits, kindByte, kindFrom}
+use Rattle.layout.specs.Layout.{flagAt, credentialSize, ownerAt, kindAt, sessionAt, wordAt, nextAt, placeSize, phaseByte, phaseFrom, sessionBytes, sessionFrom, sessionFits, flagNumber, grantsBytes, grantsFrom, grantsFit, processBytes, processFrom, kindFits, processFits, kindByte, kindFrom}
 use Rattle.facts.specs.Facts.{WideGrants, WideProcess, FormedGrants, FormedProcess}
 use Rattle.claims.specs.Module.{lastHandle, lastCredential}
 
@@ -127,15 +127,18 @@ kind-fits User = refl
 kind-fits Elevation = refl
 kind-fits Saved = refl
 
-kept-test : (k : Kind) (s n : ℕ) → (k ≡ Saved → s ≡ 0) → (k ≡ Elevation → n ≡ 0) → keptZero k s n ≡ true
-kept-test User s n a b = refl
-kept-test Elevation s n a b = eq-eqb n 0 (b refl)
-kept-test Saved s n a b = eq-eqb s 0 (a refl)
+kind-test : (k : Kind) (s n : ℕ) → (k ≡ Saved → s ≡ 0) → (k ≡ Elevation → n ≡ 0) → (k ≡ Saved → 1 ≤ n) → kindFits k s n ≡ true
+kind-test User s n a b c = refl
+kind-test Elevation s n a b c = eq-eqb n 0 (b refl)
+kind-test Saved s n a b c = and-both (eq-eqb s 0 (a refl)) (le-leb 1 n (c refl))
 
-kept-saved : {k : Kind} (s n : ℕ) → keptZero k s n ≡ true → k ≡ Saved → s ≡ 0
-kept-saved s n e q = eqb-true s 0 (rw q at e)
+kept-saved : {k : Kind} (s n : ℕ) → kindFits k s n ≡ true → k ≡ Saved → s ≡ 0
+kept-saved s n e q = eqb-true s 0 (and-left (eqb s 0) (leb 1 n) (rw q at e))
 
-kept-elevation : {k : Kind} (s n : ℕ) → keptZero k s n ≡ true → k ≡ Elevation → n ≡ 0
+kept-counted : {k : Kind} (s n : ℕ) → kindFits k s n ≡ true → k ≡ Saved → 1 ≤ n
+kept-counted s n e q = leb-true 1 n (and-right (eqb s 0) (leb 1 n) (rw q at e))
+
+kept-elevation : {k : Kind} (s n : ℕ) → kindFits k s n ≡ true → k ≡ Elevation → n ≡ 0
 kept-elevation s n e q = eqb-true n 0 (rw q at e)
 
 -- what the test of a place tells, by its five fields
@@ -143,7 +146,7 @@ pub record PlaceFits (c k s n : ℕ) : Type 0 where
   pub credential : c ≤ lastCredential
   pub type : k ≤ 2
   pub session : s ≤ lastHandle
-  pub kept : keptZero (kindFrom k) s n ≡ true
+  pub kept : kindFits (kindFrom k) s n ≡ true
 
 place-fits : (row : List ℕ) → processFits row ≡ true → PlaceFits (getD row ownerAt 0) (getD row kindAt 0) (getD row sessionAt 0) (numberAt 2 nextAt row)
 unfolding processFits
@@ -184,7 +187,7 @@ process-codec =
     only : (p : Process) → WideProcess p → processFits (processBytes p) ≡ true → FormedProcess p
     only p v e =
         let t = place-fits (processBytes p) e in
-        let q : keptZero (p .kind) (p .session .0) (p .next) ≡ true = rw (kind-back (p .kind), process-next p (v .next)) at (t .kept) in
+        let q : kindFits (p .kind) (p .session .0) (p .next) ≡ true = rw (kind-back (p .kind), process-next p (v .next)) at (t .kept) in
         record {
           credential = byte-only (p .credential .0) lastCredential (omega arith) (t .credential);
           session = t .session;
@@ -192,6 +195,7 @@ process-codec =
           name = v .name;
           saved = kept-saved (p .session .0) (p .next) q;
           elevation = kept-elevation (p .session .0) (p .next) q;
+          counted = kept-counted (p .session .0) (p .next) q;
         }
 
     back : (p : Process) → FormedProcess p → processFrom (processBytes p) ≡ p
@@ -203,7 +207,7 @@ process-codec =
     fits p v =
         let c : byteOf (p .credential .0) ≡ p .credential .0 = byte-small (p .credential .0) (omega (arith, v .credential)) in
         rw (process-next p (v .next), c, le-leb (p .credential .0) lastCredential (v .credential), kind-fits (p .kind), le-leb (p .session .0) lastHandle (v .session), kind-back (p .kind))
-        (kept-test (p .kind) (p .session .0) (p .next) (v .saved) (v .elevation))
+        (kind-test (p .kind) (p .session .0) (p .next) (v .saved) (v .elevation) (v .counted))
 
     good : (b : List ℕ) → length b ≡ placeSize → Bytes b → processFits b ≡ true → FormedProcess (processFrom b)
     good b n h e =
@@ -215,6 +219,7 @@ process-codec =
           name = simp length-drop (omega arith);
           saved = kept-saved (getD b sessionAt 0) (numberAt 2 nextAt b) (t .kept);
           elevation = kept-elevation (getD b sessionAt 0) (numberAt 2 nextAt b) (t .kept);
+          counted = kept-counted (getD b sessionAt 0) (numberAt 2 nextAt b) (t .kept);
         }
 
 -- ---- a free place is zeros, and the other way round
@@ -227,4 +232,4 @@ unfolding processFrom numberAt numberOf
 free-of = refl
 
 pub free-formed : FormedProcess freePlace
-free-formed = record { credential = omega arith; session = omega arith; next = omega arith; name = refl; saved = λ e. refl; elevation = λ e. refl }
+free-formed = record { credential = omega arith; session = omega arith; next = omega arith; name = refl; saved = λ e. refl; elevation = λ e. refl; counted = λ e. let z : _≡_ {A = ℕ} 0 1 = cc in absurd (omega arith) }

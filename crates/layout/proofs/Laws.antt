@@ -23,7 +23,7 @@ use Rattle.table.specs.Table.{standing, tableOf, freePlace, places}
 use Rattle.table.specs.declared.Process.{Process}
 use Rattle.table.specs.declared.Table.{Table}
 use Rattle.claims.specs.declared.State.{State}
-use Rattle.layout.specs.Layout.{credentialSize, placeSize, sessionSize, credentialsAt, countAt, placesAt, stateLength, sessionBytes, sessionFrom, sessionFits, grantsBytes, grantsFrom, grantsFit, processBytes, processFrom, processFits, countIn, placesIn, stateBytes, stateIn, nothingHeld, stateOf, stateWritten, shaped, sound, holdsState}
+use Rattle.layout.specs.Layout.{credentialSize, placeSize, sessionSize, credentialsAt, countAt, placesAt, stateLength, sessionBytes, sessionFrom, sessionFits, grantsBytes, grantsFrom, grantsFit, processBytes, processFrom, processFits, countIn, placesIn, stateBytes, stateIn, nothingHeld, stateOf, stateWritten, ownersFit, restIsFree, shaped, sound, holdsState}
 use Rattle.facts.specs.Facts.{FormedGrants, FormedProcess, Formed, IsState, Wide}
 use Rattle.facts.proofs.Laws.{formed-few}
 use Rattle.layout.proofs.Fields.{session-codec, grants-codec, process-codec, free-row, free-of, free-formed}
@@ -63,24 +63,24 @@ pub record Shape (b : List ℕ) : Type 0 where
   pub free : every isZero (drop (placesAt + countIn b * placeSize) b) ≡ true
 
 pub shape : (b : List ℕ) → shaped b ≡ true → Shape b
-unfolding shaped
+unfolding shaped ownersFit restIsFree
 shape b e =
-    let e₁ = and-right (eqb (length b) stateLength) _ e in
-    let e₂ = and-right (every sessionFits (rows sessionCount sessionSize b)) _ e₁ in
-    let e₃ = and-right (every grantsFit (rows credentialCount credentialSize (drop credentialsAt b))) _ e₂ in
-    let e₄ = and-right (leb (countIn b) places) _ e₃ in
+    let free = and-left (restIsFree b) _ e in
+    let rest = and-right (eqb (length b) stateLength) _ free in
+    let e₁ = and-right (restIsFree b) _ e in
+    let owners = and-right (eqb (length b) stateLength) _ (and-left (ownersFit b) _ e₁) in
     record {
-      long = eqb-true (length b) stateLength (and-left (eqb (length b) stateLength) _ e);
-      sessions = and-left (every sessionFits (rows sessionCount sessionSize b)) _ e₁;
-      credentials = and-left (every grantsFit (rows credentialCount credentialSize (drop credentialsAt b))) _ e₂;
-      room = leb-true (countIn b) places (and-left (leb (countIn b) places) _ e₃);
-      standing = and-left (every processFits (rows (countIn b) placeSize (drop placesAt b))) _ e₄;
-      free = and-right (every processFits (rows (countIn b) placeSize (drop placesAt b))) _ e₄;
+      long = eqb-true (length b) stateLength (and-left (eqb (length b) stateLength) _ free);
+      sessions = and-left (every sessionFits (rows sessionCount sessionSize b)) _ owners;
+      credentials = and-right (every sessionFits (rows sessionCount sessionSize b)) _ owners;
+      room = leb-true (countIn b) places (and-left (leb (countIn b) places) _ rest);
+      standing = and-right (ownersFit b) _ e₁;
+      free = and-right (leb (countIn b) places) _ rest;
     }
 
 pub shape-test : (b : List ℕ) → Shape b → shaped b ≡ true
-unfolding shaped
-shape-test b v = rw (eq-eqb (length b) stateLength (v .long), v .sessions, v .credentials, le-leb (countIn b) places (v .room), v .standing) (v .free)
+unfolding shaped ownersFit restIsFree
+shape-test b v = rw (eq-eqb (length b) stateLength (v .long), v .sessions, v .credentials, le-leb (countIn b) places (v .room), v .free) (v .standing)
 
 -- ---- reading and writing, by the length of the slice
 module _ (b : List ℕ) where

@@ -133,18 +133,19 @@ processFrom row =
       name = record { bytes = drop nameAt row };
     }
 
--- "An elevation's next number, a saved process's session .. mean nothing and are kept zero."
-abbrev pub keptZero : Kind → ℕ → ℕ → Bool
-keptZero User session next = true
-keptZero Elevation session next = eqb next 0
-keptZero Saved session next = eqb session 0
+-- what a type asks of the session and of the next number. "An elevation's next number, a saved process's session .. mean nothing and are kept zero."
+-- "from now on a slice with a saved process at next number 0 holds no state either": a save has counted one
+abbrev pub kindFits : Kind → ℕ → ℕ → Bool
+kindFits User session next = true
+kindFits Elevation session next = eqb next 0
+kindFits Saved session next = eqb session 0 && leb 1 next
 
 unfoldable pub processFits : List ℕ → Bool
 processFits row =
     leb (getD row ownerAt 0) lastCredential
     && (leb (getD row kindAt 0) 2
     && (leb (getD row sessionAt 0) lastHandle
-    && keptZero (kindFrom (getD row kindAt 0)) (getD row sessionAt 0) (numberAt 2 nextAt row)))
+    && kindFits (kindFrom (getD row kindAt 0)) (getD row sessionAt 0) (numberAt 2 nextAt row)))
 
 -- ---- the whole: where each part begins is where the one before it ends
 unfoldable pub countIn : List ℕ → ℕ
@@ -194,14 +195,24 @@ unfoldable pub nextWritten : List ℕ → ℕ → ℕ → List ℕ
 nextWritten b at next = cond (eqb (length b) stateLength && ltb at places) (over (placesAt + at * placeSize + nextAt) 2 (bytesOf 2 next) b) b
 
 -- ---- "A slice holds no state when its length is another, a field is out of its range, a field kept zero isn't zero"
-unfoldable pub shaped : List ℕ → Bool
-shaped b =
+
+-- of a slice of the right length: its count is in its range, and the places past it are zero
+unfoldable pub restIsFree : List ℕ → Bool
+restIsFree b =
+    eqb (length b) stateLength
+    && (leb (countIn b) places
+    && every isZero (drop (placesAt + countIn b * placeSize) b))
+
+-- its sessions and its credentials are in their ranges
+unfoldable pub ownersFit : List ℕ → Bool
+ownersFit b =
     eqb (length b) stateLength
     && (every sessionFits (rows sessionCount sessionSize b)
-    && (every grantsFit (rows credentialCount credentialSize (drop credentialsAt b))
-    && (leb (countIn b) places
-    && (every processFits (rows (countIn b) placeSize (drop placesAt b))
-    && every isZero (drop (placesAt + countIn b * placeSize) b)))))
+    && every grantsFit (rows credentialCount credentialSize (drop credentialsAt b)))
+
+-- and so are the places up to the count
+unfoldable pub shaped : List ℕ → Bool
+shaped b = restIsFree b && (ownersFit b && every processFits (rows (countIn b) placeSize (drop placesAt b)))
 
 -- ---- "or demand 3's rules on places, names, owners and sessions are broken"
 

@@ -1,2 +1,3 @@
+pub mod Images
 pub mod Theorems
 pub mod Examples

@@ -7,10 +7,11 @@ use mathlib.Core.Bool.{Bool, true, false}
 use mathlib.Core.List.{List, [], _∷_, _++_}
 use native.Mathlib.Omega.{arith}
 use lib.Dec.{eqb}
-use lib.ListN.{length, getD, drop}
+use lib.ListN.{length, getD, take, drop}
 use lib.Seq.{drop-at}
-use borrow.Author.Tests.{eqb-true, eqb-false}
+use borrow.Author.Tests.{eqb-true}
 use Rattle.rows.specs.Bytes.{Bytes}
+use Rattle.rows.proofs.Bytes.{bytes-take}
 use Rattle.lists.specs.Each.{Each, each-nil, each-cons}
 use Rattle.lists.proofs.Tests.{split, and-right}
 use Rattle.lists.proofs.Each.{each-imp}
@@ -19,16 +20,15 @@ use Rattle.names.specs.declared.Name.{Name}
 use Rattle.names.specs.declared.Row.{Row}
 use Rattle.names.specs.declared.Session.{Session}
 use Rattle.names.proofs.Laws.{RowFits}
-use Rattle.table.specs.declared.Process.{Process}
 use Rattle.claims.specs.Numbers.{_unless_, _▸_}
 use Rattle.claims.specs.declared.Claim.{Claim}
 use Rattle.claims.specs.declared.State.{State}
 use Rattle.calls.specs.Calls.{Call, List′, number, listed, fresh}
-use Rattle.calls.specs.Listing.{rowOf, rowsOf, messageLength, listing}
+use Rattle.calls.specs.Listing.{rowsOf, messageLength, listing}
 use Rattle.calls.specs.Run.{step, run}
 use Rattle.calls.specs.declared.Wanted.{Wanted}
 use Rattle.calls.proofs.Laws.{answer-number}
-use Rattle.facts.specs.Facts.{processes, Rules, FormedProcess, IsState}
+use Rattle.facts.specs.Facts.{processes, Rules, IsState}
 use Rattle.layout.specs.Layout.{stateLength, stateBytes, stateOf, holdsState}
 use Rattle.layout.proofs.Laws.{state-back, holds-written, holds-is, one-form}
 use Rattle.wire.specs.Wire.{rowsAmong, listedBytes}
@@ -40,14 +40,21 @@ use Rattle.entries_unprotected.specs.Fresh.{canFresh, FreshEntry}
 use Rattle.entries_protected.specs.Listing.{entryResponse, entryLength, ListEntry}
 use Rattle.entries_unprotected.proofs.Rules.{pairs-length, flags-long, words-long}
 use Rattle.history.specs.History.{history, callsIn}
-use Rattle.history.specs.Lives.{Life, nobody}
-use Rattle.history.specs.Demand.{Tells}
+use Rattle.history.specs.Lives.{Life, told, nobody}
+use Rattle.history.specs.Demand.{look, Tells}
 use Rattle.history.specs.Fits.{IsWhole, IsWord, Fits, Eight}
-use Rattle.history.proofs.Keeping.{step-accepted, step-refused}
 use Rattle.history.proofs.Followed.{event}
+use Rattle.history.proofs.Told.{look-tells}
 use Rattle.history.proofs.Form.{state-step, state-fresh}
-use Rattle.history.proofs.Theorems.{listing-fits, demand3-from, tells-fresh, run-last, history-last, calls-of}
-use Rattle.lent.specs.Lent.{Response, Made, Renewed, Chain, none, called, list-called, renewed, Since, begun, noted, noting, since, Small, Holds, Lent}
+use Rattle.history.proofs.Theorems.{listing-fits, tells-from, tells-fresh, run-last, history-last, calls-of}
+use Rattle.image.specs.Image as Image
+use Rattle.image.specs.Image.{isImage, cycled}
+use Rattle.image.proofs.Laws.{stands-is, image-state}
+use Rattle.resumed.specs.Resumed.{toldBy, cut}
+use Rattle.resumed.proofs.Theorems.{demand3-told, image-tells}
+use Rattle.entries_image.specs.Entries.{ImageEntry, restoreNumber, RestoreEntry}
+use Rattle.lent.specs.Lent.{Response, Made, Renewed, Restored, Chain, none, called, list-called, renewed, restored, Since, begun, noted, noting, since, Small, Holds, Lent}
+use Rattle.lent.proofs.Images.{restore-image, restore-done, lent-imaged}
 
 -- ---- an entry that makes no call
 not-fine-bytes : (b : List ℕ) (call : Call) → entryBytes false b call ≡ b
@@ -141,7 +148,8 @@ module _ (w : Since) (b : List ℕ) (g : Goes w b) where
         state = rw calls-are is;
         bytes = rw is (g .bytes);
         answered = rw calls-are (g .events);
-        demand3 = rw (g .events, is) (demand3-from (w .first) (g .rules) (w .tell) (g .tells) (g .calls));
+        tells = rw (g .events, is) (tells-from (w .first) (g .rules) (w .tell) (g .tells) (g .calls));
+        demand3 = rw (g .events, is) (demand3-told (w .first) (g .rules) (w .tell) (g .tells) (g .calls));
       }
 
 -- ---- the names that the entries hand on are whole, read or not
@@ -178,6 +186,22 @@ module _ (before flags words : List ℕ) (h : (i : ℕ) → IsWord (getD words i
       (λ can. let z : n ≡ 0 = e .number-is ∙ rw can in rw z (goes-made can e))
       (λ can. let z : n ≡ 1 = e .number-is ∙ rw can in rw z (subst (Goes w) (sym (e .bytes-are ∙ rw can)) g))
 
+-- ---- a module from an image: one that was made, and one that was not
+module _ (before image : List ℕ) (h : Bytes image) where
+  goes-restored-done : {after : List ℕ} → RestoreEntry before image 0 after → Goes (begun (Image.restored image) (toldBy image)) after
+  goes-restored-done e =
+      let is : isImage image ≡ true = restore-image e in
+      subst (Goes _) (sym (restore-done e)) (goes-begin (Image.restored image) (image-state image h is) (toldBy image) (image-tells image h is))
+
+  goes-restored : (w : Since) → Goes w before → (n : ℕ) (after : List ℕ) → RestoreEntry before image n after → Goes (noting (Restored image n) w) after
+  unfolding restoreNumber _unless_ _▸_
+  goes-restored w g n after e =
+      split (eqb (length before) stateLength)
+      (λ l. split (isImage image)
+      (λ i. let z : n ≡ 0 = e .number-is ∙ rw (l, i) in rw z (goes-restored-done (subst (λ m. RestoreEntry before image m after) z e)))
+      (λ i. let z : n ≡ 14 = e .number-is ∙ rw (l, i) in rw z (subst (Goes w) (sym (e .bytes-are ∙ rw (l, i))) g)))
+      (λ l. let z : n ≡ 1 = e .number-is ∙ rw l in rw z (subst (Goes w) (sym (e .bytes-are ∙ rw l)) g))
+
 -- ---- entries one after another
 lent-by : {b last : List ℕ} {entries : List Made} (w : Since) → Goes w b → Chain b entries last → Lent w entries last
 unfolding since
@@ -192,6 +216,9 @@ lent-by {b} w g (list-called {fine} {s} {claim} {wanted} {n} {r} {after = after}
 lent-by {b} w g (renewed {flags} {words} {n} {after = after} h e k) =
     let r = lent-by (noting (Renewed flags words n) w) (goes-renewed b flags words h w g n after e) k in
     record { holds = r .holds; listings = each-cons tt (r .listings) }
+lent-by {b} w g (restored {image} {n} {after = after} h e k) =
+    let r = lent-by (noting (Restored image n) w) (goes-restored b image h w g n after e) k in
+    record { holds = r .holds; listings = each-cons tt (r .listings) }
 
 -- from any slice that holds a state, whoever wrote it, and whatever was told of that state
 pub lent-held : (b : List ℕ) → Bytes b → holdsState b ≡ true → (tell : Name → Life) → Tells tell (stateOf b) → {entries : List Made} {last : List ℕ} → Chain b entries last → Lent (begun (stateOf b) tell) entries last
@@ -205,3 +232,19 @@ lent-made {before} {flags} {words} h e k =
     split (canFresh before flags words)
     (λ can. lent-by (begun (fresh (pairsOf flags words)) nobody) (goes-made before flags words h can e) k)
     (λ can. let z : 0 ≡ 1 = e .number-is ∙ rw can in absurd (omega arith))
+
+-- from a module that was restored on: "Demand 3 from then on counts from the number in the image"
+pub lent-restored : {before image after : List ℕ} → Bytes image → RestoreEntry before image 0 after → {entries : List Made} {last : List ℕ} → Chain after entries last → Lent (begun (Image.restored image) (toldBy image)) entries last
+lent-restored {before} {image} h e k = lent-by (begun (Image.restored image) (toldBy image)) (goes-restored-done before image h e) k
+
+-- through a power cycle: entries, the image of what they left, a module from it in whatever slice, and entries again. They go on from what was told, cut there:
+-- of a process that was saved, none of the numbers that were accepted before is accepted again
+pub lent-through : (w : Since) {last old new before after : List ℕ} {long : ℕ} → Bytes last → Holds w last → Bytes new → ImageEntry last old 0 new long → RestoreEntry before (take long new) 0 after → {entries : List Made} {end : List ℕ} → Chain after entries end → Lent (begun (cycled (run (w .first) (callsIn (w .events)))) (λ name. cut (told (w .tell) (w .events) name))) entries end
+lent-through w {new = new} {after = after} {long = long} g h b e r {entries} {end} k =
+    let image : List ℕ = take long new in
+    let tell : Name → Life = λ name. cut (told (w .tell) (w .events) name) in
+    let i = lent-imaged w g h e in
+    let v : IsState (Image.restored image) = image-state image (bytes-take long new b) (i .accepted) in
+    let t : Tells tell (Image.restored image) = look-tells (Image.restored image) (v .rules) tell (λ n. sym (i .tells n) ∙ ap (look n) (sym (stands-is image))) in
+    subst (λ first. Lent (begun first tell) entries end) (i .restored)
+    (lent-by (begun (Image.restored image) tell) (subst (Goes _) (sym (restore-done r)) (goes-begin (Image.restored image) v tell t)) k)

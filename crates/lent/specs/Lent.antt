@@ -5,8 +5,9 @@ use mathlib.Core.Path.{_≡_}
 use mathlib.Core.Bool.{Bool, cond, true}
 use mathlib.Core.List.{List, [], _∷_, _++_}
 use lib.Dec.{eqb}
-use lib.ListN.{length, getD, drop}
+use lib.ListN.{length, getD, take, drop}
 use Rattle.lists.specs.Each.{Each}
+use Rattle.rows.specs.Bytes.{Bytes}
 use Rattle.names.specs.declared.Name.{Name}
 use Rattle.names.specs.declared.Session.{Session}
 use Rattle.claims.specs.Numbers as No
@@ -21,9 +22,13 @@ use Rattle.arguments.specs.Arguments.{pairsOf}
 use Rattle.entries_unprotected.specs.Fresh.{FreshEntry}
 use Rattle.entries_protected.specs.Listing.{ListEntry}
 use Rattle.history.specs.History.{Event, history, callsIn}
-use Rattle.history.specs.Lives.{Life, nobody}
-use Rattle.history.specs.Demand.{Demand3}
+use Rattle.history.specs.Lives.{Life, told, nobody}
+use Rattle.history.specs.Demand.{Tells}
 use Rattle.history.specs.Fits.{Fits, IsWord}
+use Rattle.image.specs.Image as Image
+use Rattle.image.specs.Image.{isImage, cycled}
+use Rattle.resumed.specs.Resumed.{Demand3From, toldBy, cut}
+use Rattle.entries_image.specs.Entries.{RestoreEntry}
 
 -- ---- an entry that was made, with what it answered
 
@@ -40,6 +45,8 @@ pub data Made : Type 0 where
   Listed : Bool → Session → Claim → Wanted → ℕ → Response → Made
   -- a fresh module: the flags, the words, and the number
   Renewed : List ℕ → List ℕ → ℕ → Made
+  -- a module from an image: its bytes, and the number
+  Restored : List ℕ → ℕ → Made
 
 -- each by the contract of its entry. Of a call's arguments their types are told: a name of 48 bytes, a word of 32 bits
 pub data Chain : List ℕ → List Made → List ℕ → Type 0 where
@@ -53,6 +60,9 @@ pub data Chain : List ℕ → List Made → List ℕ → Type 0 where
   renewed : {flags words : List ℕ} {n : ℕ} {before after last : List ℕ} {entries : List Made}
       → ((i : ℕ) → IsWord (getD words i 0)) → FreshEntry before flags words n after
       → Chain after entries last → Chain before (Renewed flags words n ∷ entries) last
+  restored : {image : List ℕ} {n : ℕ} {before after last : List ℕ} {entries : List Made}
+      → Bytes image → RestoreEntry before image n after
+      → Chain after entries last → Chain before (Restored image n ∷ entries) last
 
 -- ---- since when it is told: the state that stood then, what was told of each name, and what was called since, with the numbers that the entries answered
 pub record Since : Type 0 where
@@ -68,11 +78,12 @@ abbrev pub noted : Bool → Call → ℕ → Since → Since
 noted fine call n w =
     cond fine (record { first = w .first; tell = w .tell; events = w .events ++ (record { call = call; answered = n } ∷ []) }) w
 
--- by an entry. With a fresh module it begins anew; one that was refused is none
+-- by an entry. With a fresh module or a restored one it begins anew; one that was refused is none
 abbrev pub noting : Made → Since → Since
 noting (Called fine call n) w = noted fine call n w
 noting (Listed fine s claim wanted n r) w = noted fine (List′ s claim wanted (length (r .old))) n w
 noting (Renewed flags words n) w = cond (eqb n No.done) (begun (fresh (pairsOf flags words)) nobody) w
+noting (Restored image n) w = cond (eqb n No.done) (begun (Image.restored image) (toldBy image)) w
 
 unfoldable pub since : Since → List Made → Since
 since w [] = w
@@ -89,6 +100,7 @@ abbrev pub IsSmall : Made → Type 0
 IsSmall (Called fine call n) = Unit {0}
 IsSmall (Listed fine s claim wanted n r) = Small r
 IsSmall (Renewed flags words n) = Unit {0}
+IsSmall (Restored image n) = Unit {0}
 
 -- of the slice `last` in which entries ended
 pub record Holds (w : Since) (last : List ℕ) : Type 0 where
@@ -98,9 +110,21 @@ pub record Holds (w : Since) (last : List ℕ) : Type 0 where
   pub bytes : last ≡ stateBytes (stateOf last)
   -- the numbers that the entries answered are those of the calls
   pub answered : w .events ≡ history (w .first) (callsIn (w .events))
-  pub demand3 : Demand3 (w .tell) (w .events) (stateOf last)
+  -- what is told of each name is what stands there
+  pub tells : Tells (told (w .tell) (w .events)) (stateOf last)
+  pub demand3 : Demand3From (w .tell) (w .events) (stateOf last)
 
 -- "Demand 3 speaks of a slice that only our calls have written."
 pub record Lent (w : Since) (entries : List Made) (last : List ℕ) : Type 0 where
   pub holds : Holds (since w entries) last
   pub listings : Each IsSmall entries
+
+-- ---- the image that is written of such a slice: `new` is the buffer afterwards, `old` what it held, `long` the length that was answered
+pub record Imaged (w : Since) (old new : List ℕ) (long : ℕ) : Type 0 where
+  -- "What a module wrote is always accepted"
+  pub accepted : isImage (take long new) ≡ true
+  -- it makes the module that the calls come to, after a power cycle
+  pub restored : Image.restored (take long new) ≡ cycled (run (w .first) (callsIn (w .events)))
+  -- and tells of each name what was told, cut there
+  pub tells : (name : Name) → toldBy (take long new) name ≡ cut (told (w .tell) (w .events) name)
+  pub later-kept : drop long new ≡ drop long old

@@ -16,17 +16,15 @@ use Rattle.lists.proofs.Lists.{length-mapped}
 use Rattle.lists.proofs.Tests.{and-left, and-right}
 use Rattle.rows.specs.Rows.{rows, every}
 use Rattle.rows.proofs.Rows.{rows-length, rows-take, map-take}
-use Rattle.rows.proofs.Loops.{rows-begin, rows-on, rows-fail, rows-all, map-part, and-false}
+use Rattle.rows.proofs.Loops.{rows-begin, rows-on, rows-fail, rows-all, map-part, and-false, and-assoc}
 use Rattle.names.specs.declared.Kind.the-variants.{Saved}
 use Rattle.table.specs.Table.{standing, isUser, isElevation, isActiveIn, places}
 use Rattle.claims.specs.Module.{closedSession, unprovisioned, provisioned, phaseOf, isChosen, sessionCount, credentialCount, lastHandle, lastCredential}
 use Rattle.claims.specs.declared.Grants.{Grants}
-use Rattle.layout.specs.Layout.{credentialSize, ownerAt, kindAt, sessionAt, nextAt, placeSize, sessionsAt, sessionSize, credentialsAt, countAt, placesAt, stateLength, kindFrom, phaseFrom, sessionFrom, sessionFits, grantsFit, grantsFrom, keptZero, processFrom, processFits, countIn, placesIn, stateOf, isOwned, shaped}
+use Rattle.layout.specs.Layout.{credentialSize, ownerAt, kindAt, sessionAt, nextAt, placeSize, sessionsAt, sessionSize, credentialsAt, countAt, placesAt, stateLength, kindFrom, phaseFrom, sessionFrom, grantsFrom, kindFits, processFrom, processFits, countIn, placesIn, stateOf, isOwned, restIsFree, ownersFit, shaped}
 use Rattle.state_fields.specs.Stands.{stands, allFit}
 use Rattle.layout.proofs.Laws.{state-in}
 use Rattle.layout.proofs.Parts.{place-part}
-use Rattle.state_owners.specs.Owners.{ownersFit}
-use Rattle.state_free.specs.Free.{restIsFree}
 
 -- ---- a place
 kind-saved : (n : ℕ) → 2 ≤ n → kindFrom n ≡ Saved
@@ -50,7 +48,7 @@ module _ (x : List ℕ) where
       process-session h = rw (le-leb (getD x ownerAt 0) lastCredential c, le-leb (getD x kindAt 0) 2 t, lt-leb (getD x sessionAt 0) lastHandle h)
 
       module _ (s : getD x sessionAt 0 ≤ lastHandle) where
-        in-range : processFits x ≡ keptZero (kindFrom (getD x kindAt 0)) (getD x sessionAt 0) (numberAt 2 nextAt x)
+        in-range : processFits x ≡ kindFits (kindFrom (getD x kindAt 0)) (getD x sessionAt 0) (numberAt 2 nextAt x)
         unfolding processFits
         in-range = rw (le-leb (getD x ownerAt 0) lastCredential c, le-leb (getD x kindAt 0) 2 t, le-leb (getD x sessionAt 0) lastHandle s)
 
@@ -60,8 +58,11 @@ module _ (x : List ℕ) where
         pub process-elevation : getD x kindAt 0 ≡ 1 → {n : ℕ} → n ≡ numberAt 2 nextAt x → eqb n 0 ≡ processFits x
         process-elevation e q = sym (in-range ∙ rw (e, q))
 
-        pub process-saved : (getD x kindAt 0 ≡ 0 → ⊥) → (getD x kindAt 0 ≡ 1 → ⊥) → eqb (getD x sessionAt 0) 0 ≡ processFits x
-        process-saved n m = sym (in-range ∙ rw (kind-saved (getD x kindAt 0) (omega arith)))
+        pub process-seated : (getD x kindAt 0 ≡ 0 → ⊥) → (getD x kindAt 0 ≡ 1 → ⊥) → 0 < getD x sessionAt 0 → false ≡ processFits x
+        process-seated n m k = sym (in-range ∙ rw (kind-saved (getD x kindAt 0) (omega arith), ne-eqb (getD x sessionAt 0) 0 (λ e. omega arith)))
+
+        pub process-saved : (getD x kindAt 0 ≡ 0 → ⊥) → (getD x kindAt 0 ≡ 1 → ⊥) → getD x sessionAt 0 ≤ 0 → {n : ℕ} → n ≡ numberAt 2 nextAt x → leb 1 n ≡ processFits x
+        process-saved n m k q = sym (in-range ∙ rw (kind-saved (getD x kindAt 0) (omega arith), eq-eqb (getD x sessionAt 0) 0 (omega arith), q))
 
 -- ---- an owner
 chosen-of : (b : ℕ) → isChosen (phaseFrom b) ≡ eqb b 2
@@ -153,19 +154,16 @@ stand-both s (x ∷ l) =
     ∙ interchange (processFits x) (isOwned (stateOf s) (processFrom x)) (every processFits l) (every (isOwned (stateOf s)) (map processFrom l))
 
 -- ---- all together, the cheapest tests first: the first that fails, and the last
-in-order : (l s g c p z o : Bool) → ((l && (s && (g && (c && (p && z))))) && o) ≡ ((l && (c && z)) && ((l && (s && g)) && (p && o)))
-in-order false s g c p z o = refl
-in-order true false g c p z o = sym (and-false (c && z))
-in-order true true false c p z o = sym (and-false (c && z))
-in-order true true true false p z o = refl
-in-order true true true true false z o = sym (and-false z)
-in-order true true true true true z o = refl
-
 module _ (b : List ℕ) {z : Bool} (i : z ≡ restIsFree b) where
-  tests : allFit b ≡ (restIsFree b && (ownersFit b && (every processFits (rows (countIn b) placeSize (drop placesAt b)) && every (isOwned (stateOf b)) (standing (stateOf b .table)))))
-  unfolding allFit shaped restIsFree ownersFit
-  tests =
-      in-order (eqb (length b) stateLength) (every sessionFits (rows sessionCount sessionSize b)) (every grantsFit (rows credentialCount credentialSize (drop credentialsAt b))) (leb (countIn b) places) (every processFits (rows (countIn b) placeSize (drop placesAt b))) (every isZero (drop (placesAt + countIn b * placeSize) b)) (every (isOwned (stateOf b)) (standing (stateOf b .table)))
+  abbrev fit : Bool
+  fit = every processFits (rows (countIn b) placeSize (drop placesAt b))
+
+  abbrev owned : Bool
+  owned = every (isOwned (stateOf b)) (standing (stateOf b .table))
+
+  tests : allFit b ≡ (restIsFree b && (ownersFit b && (fit && owned)))
+  unfolding allFit shaped
+  tests = and-assoc (restIsFree b) (ownersFit b && fit) owned ∙ ap (λ (x : Bool). restIsFree b && x) (and-assoc (ownersFit b) fit owned)
 
   pub fit-free : not z ≡ true → false ≡ allFit b
   fit-free y = sym (tests ∙ rw (← i, not-true z y))
@@ -205,4 +203,4 @@ module _ (b : List ℕ) {z : Bool} (i : z ≡ restIsFree b) where
             ∙ stand-both b (rows n placeSize (drop placesAt b))
             ∙ sym (tests ∙ rw (← i, not-false z y, ← e, not-false p t, state-in b fit-long, ← w .is, map-take processFrom n (rows places placeSize (drop placesAt b)), rows-take n places placeSize (drop placesAt b) fit-few))
 
-pub ruleset rules = (needs, length-mapped, process-credential, process-type, process-session, process-user, process-elevation, process-saved, owner-none, owner-not, owner-saved, owner-nowhere, owner-there, place-part, stands-out, stands-owned, rows-begin, rows-on, rows-fail, rows-all, fit-free, fit-long, fit-counted, fit-owners, fit-few, fit-places)
+pub ruleset rules = (needs, length-mapped, process-credential, process-type, process-session, process-user, process-elevation, process-seated, process-saved, owner-none, owner-not, owner-saved, owner-nowhere, owner-there, place-part, stands-out, stands-owned, rows-begin, rows-on, rows-fail, rows-all, fit-free, fit-long, fit-counted, fit-owners, fit-few, fit-places)

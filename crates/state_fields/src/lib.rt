@@ -39,10 +39,14 @@ fn process_fits(row: &[u8]) -> bool
     if kind == 0 {
         return true;
     }
+    let next = rows::number16(row, NEXT_AT);
     if kind == 1 {
-        return rows::number16(row, NEXT_AT) == 0;
+        return next == 0;
     }
-    session == 0
+    if 0 < session {
+        return false;
+    }
+    1 <= next
 }
 
 // Whether the owner of a place is provisioned, and its session open with version 1.0 where it is active.

@@ -18,8 +18,7 @@ use Rattle.lists.proofs.Tests.{split}
 use Rattle.rows.specs.Rows.{every}
 use Rattle.rows.proofs.Loops.{or-zero, and-assoc, and-true, and-false}
 use Rattle.table.specs.Table.{places}
-use Rattle.layout.specs.Layout.{placeSize, countAt, placesAt, stateLength, countIn}
-use Rattle.state_free.specs.Free.{restIsFree}
+use Rattle.layout.specs.Layout.{placeSize, countAt, placesAt, stateLength, countIn, restIsFree}
 
 -- ---- tests in another order
 twice : (a b c : Bool) → ((a && b) && (a && c)) ≡ (a && (b && c))

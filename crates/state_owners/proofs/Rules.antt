@@ -17,9 +17,8 @@ use Rattle.lists.proofs.Lists.{length-mapped}
 use Rattle.rows.specs.Rows.{rows, every}
 use Rattle.rows.proofs.Loops.{RowsTo, rows-begin, rows-on, rows-fail, rows-all, or-zero}
 use Rattle.claims.specs.Module.{sessionCount, credentialCount}
-use Rattle.layout.specs.Layout.{flagAt, wordAt, credentialSize, sessionsAt, sessionSize, credentialsAt, stateLength, sessionFits, grantsFit}
+use Rattle.layout.specs.Layout.{flagAt, wordAt, credentialSize, sessionsAt, sessionSize, credentialsAt, stateLength, sessionFits, grantsFit, ownersFit}
 use Rattle.layout.proofs.Parts.{grants-part}
-use Rattle.state_owners.specs.Owners.{ownersFit}
 
 -- ---- tests in another order
 four-tests : (a b c d : Bool) → (a && b && c && d) ≡ (a && (b && (c && (d && true))))

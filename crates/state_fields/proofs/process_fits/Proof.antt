@@ -32,6 +32,9 @@ returns-5 c = search rules
 returns-6 : tie.Need-returns-6
 returns-6 c = search rules
 
+returns-7 : tie.Need-returns-7
+returns-7 c = search rules
+
 pub process-fits-spec : {M : Type 1} → statement M
 process-fits-spec =
     tie.close
@@ -45,4 +48,5 @@ process-fits-spec =
     returns-4
     number16-requires
     returns-5
-    returns-6)
+    returns-6
+    returns-7)

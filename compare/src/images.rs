@@ -1,0 +1,190 @@
+//! Images: drawn, and damaged in their fields.
+
+use crate::random::Random;
+use slavotuk_model::image::{self, HEAD_LENGTH, ROW_LENGTH};
+use slavotuk_model::module::{Kind, Module, Name, Process, CREDENTIALS, SPENT};
+
+/// Where the five numbers of the head stand.
+pub const MASK: usize = 0;
+pub const COUNT_OF_WORDS: usize = 2;
+pub const OFFSET_OF_WORDS: usize = 4;
+pub const COUNT_OF_ROWS: usize = 6;
+pub const OFFSET_OF_ROWS: usize = 8;
+/// Where the words begin.
+const WORDS: usize = 10;
+/// Where a row has its next number and its name; the credential is first.
+pub const NUMBER_IN_ROW: usize = 2;
+pub const NAME_IN_ROW: usize = 4;
+
+/// An image with these credentials provisioned, and a row for each of the names.
+pub fn draw(mask: u8, names: &[Name], random: &mut Random) -> Vec<u8> {
+    let pairs = [0, 1, 2, 3, 4, 5, 6, 7].map(|c| (mask & (1 << c) != 0, random.word()));
+    let mut module = Module::fresh(pairs);
+    let owners: Vec<usize> = (0..CREDENTIALS).filter(|c| pairs[*c].0).collect();
+    for name in names {
+        let drawn = (random.word() as u16).max(1);
+        let next = random.pick(&[1, 1, 2, 255, 256, SPENT - 1, SPENT, drawn]);
+        module.processes.push(Process {
+            credential: random.pick(&owners),
+            kind: Kind::SavedUser { next },
+            name: *name,
+        });
+    }
+    image::write(&module)
+}
+
+/// How many whole rows the bytes have room for.
+pub fn rows(image: &[u8]) -> usize {
+    image.len().saturating_sub(HEAD_LENGTH) / ROW_LENGTH
+}
+
+/// Where a row begins.
+pub fn row_at(row: usize) -> usize {
+    HEAD_LENGTH + ROW_LENGTH * row
+}
+
+/// Puts a number of two bytes there.
+pub fn put(image: &mut [u8], at: usize, number: u16) {
+    image[at..at + 2].copy_from_slice(&number.to_le_bytes());
+}
+
+fn get(image: &[u8], at: usize) -> u16 {
+    u16::from_le_bytes([image[at], image[at + 1]])
+}
+
+/// Changes up to so many of the fields, and now and then the length. There is an image still in some cases.
+pub fn damage(image: &mut Vec<u8>, fields: usize, random: &mut Random) {
+    for _ in 0..fields {
+        match (random.below(12), rows(image)) {
+            (0, _) => change_mask(image, random),
+            (1, _) => change_head(image, random),
+            (2, rows) => change_count(image, rows as u16, random),
+            (3..=5, _) | (_, 0) => change_word(image, random),
+            (6..=7, rows) => change_owner(image, random.below(rows), random),
+            (8..=9, rows) => change_number(image, random.below(rows), random),
+            (_, rows) => change_name(image, random.below(rows), random.below(rows), random),
+        }
+    }
+    if random.percent(8) {
+        change_length(image, random);
+    }
+}
+
+fn change_mask(image: &mut [u8], random: &mut Random) {
+    let mask = get(image, MASK);
+    let changed = match random.percent(80) {
+        true => mask ^ (1 << random.below(16)),
+        false => random.word() as u16,
+    };
+    put(image, MASK, changed);
+}
+
+/// The numbers that have one value each.
+fn change_head(image: &mut [u8], random: &mut Random) {
+    let at = random.pick(&[COUNT_OF_WORDS, OFFSET_OF_WORDS, OFFSET_OF_ROWS]);
+    let held = get(image, at);
+    let (less, more) = (held.wrapping_sub(1), held.wrapping_add(1));
+    let others = [less, more, held ^ 0x100, held ^ 0x8000, 0, 74, held];
+    put(image, at, random.pick(&others));
+}
+
+fn change_count(image: &mut [u8], rows: u16, random: &mut Random) {
+    let others = [rows.wrapping_sub(1), rows + 1, 0, 12, 13, rows ^ 0x100];
+    put(image, COUNT_OF_ROWS, random.pick(&others));
+}
+
+fn change_word(image: &mut [u8], random: &mut Random) {
+    let at = WORDS + 4 * random.below(CREDENTIALS);
+    let word = match random.below(3) {
+        0 => 0,
+        1 => 1 << random.below(32),
+        _ => random.word(),
+    };
+    image[at..at + 4].copy_from_slice(&word.to_le_bytes());
+}
+
+fn change_owner(image: &mut [u8], row: usize, random: &mut Random) {
+    let owner = random.below(CREDENTIALS) as u16;
+    let others = [owner, owner, owner, 8, owner + 256, u16::MAX];
+    put(image, row_at(row), random.pick(&others));
+}
+
+fn change_number(image: &mut [u8], row: usize, random: &mut Random) {
+    let drawn = random.word() as u16;
+    let number = random.pick(&[0, 0, 1, 256, SPENT - 1, SPENT, drawn]);
+    put(image, row_at(row) + NUMBER_IN_ROW, number);
+}
+
+/// Another row's name; half of them with a byte changed again.
+fn change_name(image: &mut [u8], row: usize, other: usize, random: &mut Random) {
+    let (to, from) = (row_at(row) + NAME_IN_ROW, row_at(other) + NAME_IN_ROW);
+    image.copy_within(from..row_at(other + 1), to);
+    if random.percent(50) {
+        let at = random.pick(&[0, 15, 16, 31, 32, 46, 47]);
+        image[to + at] ^= 1 << random.below(8);
+    }
+}
+
+fn change_length(image: &mut Vec<u8>, random: &mut Random) {
+    let length = image.len();
+    match random.below(6) {
+        0 => image.push(0),
+        1 => image.push(random.word() as u8),
+        2 => image.truncate(length - 1),
+        3 => image.truncate(random.below(length)),
+        4 => image.truncate(length - ROW_LENGTH.min(length)),
+        _ => image.extend(random.bytes(ROW_LENGTH)),
+    }
+}
+
+/// The image without one of its rows, where it is an image and has that row.
+pub fn without_row(bytes: &[u8], row: usize) -> Option<Vec<u8>> {
+    let mut module = image::read(bytes).ok()?;
+    (row < module.processes.len()).then(|| {
+        module.processes.remove(row);
+        image::write(&module)
+    })
+}
+
+/// Gives the rows of one name another.
+pub fn rename(image: &mut [u8], from: &[u8], to: &[u8]) {
+    for row in 0..rows(image) {
+        let name = &mut image[row_at(row) + NAME_IN_ROW..row_at(row + 1)];
+        if name == from {
+            name.copy_from_slice(to);
+        }
+    }
+}
+
+#[cfg(test)]
+mod tests {
+    use super::*;
+
+    fn names() -> Vec<Name> {
+        (0..12).map(|row| [row; 48]).collect()
+    }
+
+    #[test]
+    fn what_is_drawn_is_an_image() {
+        let mut random = Random::new(1);
+        for rows in 0..=12 {
+            let drawn = draw(0x81, &names()[..rows], &mut random);
+            assert_eq!(super::rows(&drawn), rows);
+            assert!(image::read(&drawn).is_ok());
+            let shorter = rows.checked_sub(1).map(row_at);
+            assert_eq!(without_row(&drawn, 0).map(|image| image.len()), shorter);
+        }
+    }
+
+    #[test]
+    fn damage_makes_images_and_others() {
+        let mut random = Random::new(1);
+        let mut accepted = 0;
+        for _ in 0..1_000 {
+            let mut image = draw(0x0f, &names()[..3], &mut random);
+            damage(&mut image, 1, &mut random);
+            accepted += usize::from(image::read(&image).is_ok());
+        }
+        assert!((200..800).contains(&accepted), "{accepted}");
+    }
+}

@@ -1,0 +1,151 @@
+-- An image, worked by hand; which changes of it are no image, and what is one though it looks strange.
+-- Assumes nothing.
+use Prim.Native.Nat.{ℕ, zero, suc}
+use mathlib.Core.Path.{_≡_, refl}
+use mathlib.Core.Bool.{Bool, true, false}
+use mathlib.Core.List.{List, [], _∷_, _++_}
+use lib.ListN.{length, replicate, set, take}
+use Rattle.lists.specs.Lists.{join, padded, select}
+use Rattle.rows.specs.Bytes.{bytesOf, numberOf, numberAt}
+use Rattle.rows.specs.Rows.{rows, every, pairwise}
+use Rattle.names.specs.Names.{sameBytes, sameName}
+use Rattle.names.specs.declared.Kind.{Kind}
+use Rattle.names.specs.declared.Kind.the-variants.{User, Saved}
+use Rattle.table.specs.Table.{standing, tableOf}
+use Rattle.table.specs.declared.Process.{Process}
+use Rattle.claims.specs.Module.{closedSession, unprovisioned, provisioned}
+use Rattle.claims.specs.declared.Grants.{Grants}
+use Rattle.claims.specs.declared.Phase.the-variants.{Chosen}
+use Rattle.claims.specs.declared.State.{State}
+use Rattle.image.specs.Image.{imageLong, numbersBytes, numbersIn, maskOf, wordIn, savedOf, savedBytes, imageOf, imageBytes, maskIn, rowCountIn, grantsSaid, grantsIn, savedFrom, keptIn, restored, cycled, headFits, wordFits, isKeepable, differ, isImage}
+
+-- document 01: "P is 16 zero bytes then 32 of 0x11; Q is 16 zero bytes then 32 of 0x22; R is P with its last byte 0x12."
+abbrev P : List ℕ
+P = replicate 16 0 ++ replicate 32 0x11
+
+abbrev Q : List ℕ
+Q = replicate 16 0 ++ replicate 32 0x22
+
+abbrev R : List ℕ
+R = replicate 16 0 ++ (replicate 31 0x11 ++ (0x12 ∷ []))
+
+abbrev process : ℕ → Kind → ℕ → List ℕ → Process
+process c k n name = record { credential = record { 0 = c }; kind = k; session = record { 0 = 0 }; next = n; name = record { bytes = name } }
+
+abbrev two : List Grants
+two = record { provisioned = true; word = 15 } ∷ record { provisioned = true; word = 16 } ∷ replicate 6 unprovisioned
+
+-- session 0 is open with version 1.0; credentials 0 (word 15) and 1 (word 16) are provisioned. P is a saved process of credential 0, its next number 3
+-- as after step 11's end; R is credential 1's active user process in session 0, its next number 2; Q is a saved one of credential 1, its next number 300
+abbrev drawn : State
+drawn =
+    record {
+      sessions = record { phase = Chosen } ∷ replicate 3 closedSession;
+      credentials = two;
+      table = tableOf (process 0 Saved 3 P ∷ process 1 User 2 R ∷ process 1 Saved 300 Q ∷ []);
+    }
+
+abbrev bytes : List ℕ
+bytes =
+    -- at 0: the mask, 8 words, from 10 on, 2 rows, from 42 on
+    (3 ∷ 0 ∷ 8 ∷ 0 ∷ 10 ∷ 0 ∷ 2 ∷ 0 ∷ 42 ∷ 0 ∷ [])
+    -- at 10: the words
+    ++ ((15 ∷ 0 ∷ 0 ∷ 0 ∷ 16 ∷ 0 ∷ 0 ∷ 0 ∷ [])
+    ++ (replicate 24 0
+    -- at 42 and 94: the rows
+    ++ ((0 ∷ 0 ∷ 0x03 ∷ 0x00 ∷ P)
+    ++ (1 ∷ 0 ∷ 0x2c ∷ 0x01 ∷ Q))))
+
+-- what it makes: the sessions closed, R gone
+abbrev made : State
+made =
+    record {
+      sessions = replicate 4 closedSession;
+      credentials = two;
+      table = tableOf (process 0 Saved 3 P ∷ process 1 Saved 300 Q ∷ []);
+    }
+
+pub record Drawn : Type 0 where
+  pub written : imageBytes drawn ≡ bytes
+  pub long : length bytes ≡ 146
+  pub accepted : isImage bytes ≡ true
+  pub read : restored bytes ≡ made
+  pub after : cycled drawn ≡ made
+  pub again : imageBytes made ≡ bytes
+
+pub drawn-is : Drawn
+unfolding join padded select bytesOf numberOf numberAt rows every pairwise sameBytes sameName standing tableOf provisioned imageLong numbersBytes numbersIn maskOf wordIn savedOf savedBytes imageOf imageBytes maskIn rowCountIn grantsSaid grantsIn savedFrom keptIn restored cycled headFits wordFits isKeepable differ isImage
+drawn-is = record { written = refl; long = refl; accepted = refl; read = refl; after = refl; again = refl }
+
+-- a byte changed: the place, and what it holds then
+abbrev changed : ℕ → ℕ → Bool
+changed at byte = isImage (set bytes at byte)
+
+-- an image without rows
+abbrev empty : List ℕ
+empty = set (take 42 bytes) 6 0
+
+-- and the bytes of n rows of different names
+abbrev many : ℕ → List Process
+many zero = []
+many (suc n) = process 0 Saved 1 (n ∷ replicate 47 0) ∷ many n
+
+pub record Refused : Type 0 where
+  -- "Its length is 42 + 52n": a byte too many, one too few; a row too many, one too few
+  pub long : isImage (bytes ++ (0 ∷ [])) ≡ false
+  pub short : isImage (take 145 bytes) ≡ false
+  pub long-empty : isImage (empty ++ (0 ∷ [])) ≡ false
+  pub short-empty : isImage (take 41 empty) ≡ false
+  pub nothing : isImage [] ≡ false
+  pub count-1 : changed 6 1 ≡ false
+  pub count-3 : changed 6 3 ≡ false
+  pub count-258 : changed 7 1 ≡ false
+  -- "n at most 12"
+  pub rows-13 : isImage (imageOf two (many 13)) ≡ false
+  -- "mask of provisioned credentials (bits 8 to 15 zero)"
+  pub mask-8 : changed 1 1 ≡ false
+  pub mask-15 : changed 1 128 ≡ false
+  -- "count of words 8, offset of words 10", "offset of rows 42"
+  pub words-7 : changed 2 7 ≡ false
+  pub words-264 : changed 3 1 ≡ false
+  pub words-at-11 : changed 4 11 ≡ false
+  pub words-at-266 : changed 5 1 ≡ false
+  pub rows-at-43 : changed 8 43 ≡ false
+  pub rows-at-298 : changed 9 1 ≡ false
+  -- "zero where unprovisioned": each byte of a word; and one whose credential was taken out of the mask
+  pub word-low : changed 18 1 ≡ false
+  pub word-high : changed 41 1 ≡ false
+  pub word-left : isImage (set empty 0 1) ≡ false
+  -- "provisioned owners"
+  pub owner-2 : changed 42 2 ≡ false
+  pub owner-8 : changed 42 8 ≡ false
+  pub owner-256 : changed 43 1 ≡ false
+  -- "next numbers of at least 1"
+  pub number-0 : changed 44 0 ≡ false
+  -- "different names"
+  pub name-twice : isImage (take 98 bytes ++ P) ≡ false
+
+pub refused : Refused
+unfolding join padded select bytesOf numberOf numberAt rows every pairwise sameBytes sameName standing tableOf provisioned imageLong numbersBytes numbersIn maskOf wordIn savedOf savedBytes imageOf imageBytes maskIn rowCountIn grantsSaid grantsIn savedFrom keptIn restored cycled headFits wordFits isKeepable differ isImage
+refused = record { long = refl; short = refl; long-empty = refl; short-empty = refl; nothing = refl; count-1 = refl; count-3 = refl; count-258 = refl; rows-13 = refl; mask-8 = refl; mask-15 = refl; words-7 = refl; words-264 = refl; words-at-11 = refl; words-at-266 = refl; rows-at-43 = refl; rows-at-298 = refl; word-low = refl; word-high = refl; word-left = refl; owner-2 = refl; owner-8 = refl; owner-256 = refl; number-0 = refl; name-twice = refl }
+
+-- what is an image though it looks strange
+pub record Accepted : Type 0 where
+  -- no row; no credential either
+  pub no-row : isImage empty ≡ true
+  pub no-credential : isImage (set (set (set (replicate 42 0) 2 8) 4 10) 8 42) ≡ true
+  -- as many as there are places
+  pub rows-12 : isImage (imageOf two (many 12)) ≡ true
+  -- a next number of 256, with a low byte of 0; the last, under which nothing is accepted any more
+  pub number-256 : isImage (set (set bytes 44 0) 45 1) ≡ true
+  pub number-65535 : isImage (set (set bytes 44 255) 45 255) ≡ true
+  -- a name that differs in its last byte; a name of zeros
+  pub name-close : isImage (take 98 bytes ++ R) ≡ true
+  pub name-zero : isImage (take 98 bytes ++ replicate 48 0) ≡ true
+  -- rows of one credential, in any order
+  pub owner-0 : changed 94 0 ≡ true
+  pub turned : isImage (imageOf two (process 1 Saved 300 Q ∷ process 0 Saved 3 P ∷ [])) ≡ true
+
+pub accepted : Accepted
+unfolding join padded select bytesOf numberOf numberAt rows every pairwise sameBytes sameName standing tableOf provisioned imageLong numbersBytes numbersIn maskOf wordIn savedOf savedBytes imageOf imageBytes maskIn rowCountIn grantsSaid grantsIn savedFrom keptIn restored cycled headFits wordFits isKeepable differ isImage
+accepted = record { no-row = refl; no-credential = refl; rows-12 = refl; number-256 = refl; number-65535 = refl; name-close = refl; name-zero = refl; owner-0 = refl; turned = refl }

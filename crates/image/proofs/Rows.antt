@@ -1,0 +1,209 @@
+-- The codecs of an image: a number of k bytes, a mask with words, a row.
+-- Assumes nothing.
+use Prim.Native.Nat.{ℕ, zero, suc, _*_, _/_, _%_, _^_, _<_}
+use mathlib.Core.Path.{_≡_, refl, sym}
+use mathlib.Core.Bool.{Bool, true, false, cond}
+use mathlib.Core.List.{List, [], _∷_, _++_, map}
+use native.Mathlib.Nat.{pow-suc, div-lt-iff-lt-mul, div-add-mod', zero-mul, suc-mul, add-comm}
+use native.Mathlib.Omega.{arith}
+use lib.Arith.{digits-lt, digits-div, digits-mod}
+use lib.Dec.{eqb}
+use lib.ListN.{length, drop, length-append, length-drop}
+use borrow.Author.Tests.{eqb-true}
+use Rattle.lists.specs.Lists.{join, select}
+use Rattle.lists.specs.Each.{Each, each-nil, each-cons, Pairs, pairs-nil, pairs-cons}
+use Rattle.lists.proofs.Tests.{split}
+use Rattle.rows.specs.Bytes.{Bytes, bytesOf, numberOf, numberAt}
+use Rattle.rows.specs.Rows.{every}
+use Rattle.rows.proofs.Bytes.{length-bytes, number-back, number-forth, number-small, number-in, number-low, number-taken, part-front}
+use Rattle.rows.proofs.Rows.{Codec}
+use Rattle.names.specs.Names.{nameLength}
+use Rattle.names.specs.declared.Kind.{Kind}
+use Rattle.names.specs.declared.Kind.the-variants.{Saved}
+use Rattle.table.specs.declared.Process.{Process}
+use Rattle.claims.specs.declared.Grants.{Grants}
+use Rattle.facts.specs.Facts.{FormedGrants, WideGrants}
+use Rattle.image.specs.Image.{savedOwnerAt, savedNextAt, savedNameAt, savedSize, maskOf, wordIn, grantsSaid, savedBytes, savedFrom, wordFits}
+
+-- ---- every list of as many bytes is a number, or a row
+abbrev pub anything : List ℕ → Bool
+anything b = true
+
+pub every-anything : (l : List (List ℕ)) → every anything l ≡ true
+unfolding every
+every-anything [] = refl
+every-anything (b ∷ l) = every-anything l
+
+-- ---- a number of k bytes
+abbrev pub Small : ℕ → ℕ → Type 0
+Small k n = n < 256 ^ k
+
+pub number-codec : (k : ℕ) → Codec k (bytesOf k) numberOf anything (Small k) (Small k)
+number-codec k =
+    record {
+      wide = λ n h. h;
+      long = λ n h. length-bytes k n;
+      only = λ n h e. h;
+      back = λ n h. number-back k n h;
+      fits = λ n h. refl;
+      forth = λ b e h t. rw (← e) (number-forth b h);
+      good = λ b e h t. rw (← e) (number-small b h);
+    }
+
+-- ---- a mask with words
+bit-low : (f : Bool) → cond f 1 0 < 2
+bit-low true = omega arith
+bit-low false = omega arith
+
+bit-back : (f : Bool) → eqb (cond f 1 0) 1 ≡ f
+bit-back true = refl
+bit-back false = refl
+
+bit-forth : (x : ℕ) → x < 2 → cond (eqb x 1) 1 0 ≡ x
+bit-forth zero h = refl
+bit-forth (suc zero) h = refl
+bit-forth (suc (suc x)) h = absurd (omega arith)
+
+pub mask-small : (l : List Grants) → maskOf l < 2 ^ length l
+unfolding maskOf
+mask-small [] = omega arith
+mask-small (g ∷ l) = rw pow-suc (digits-lt (mask-small l) (bit-low (g .provisioned)))
+
+-- the word of a credential that is not provisioned is written as 0, and was 0
+word-is : (g : Grants) → FormedGrants g → wordIn g ≡ g .word
+unfolding wordIn
+word-is g v = split (g .provisioned) (λ e. rw e) (λ e. rw e (sym (v .kept e)))
+
+pub word-small : (g : Grants) → WideGrants g → wordIn g < 256 ^ 4
+unfolding wordIn
+word-small g v = split (g .provisioned) (λ e. rw e (v .word)) (λ e. rw e (omega arith))
+
+pub word-fits : (g : Grants) → FormedGrants g → wordFits g ≡ true
+unfolding wordFits
+word-fits g v = split (g .provisioned) (λ e. rw e) (λ e. rw (e, v .kept e))
+
+word-kept : (g : Grants) → wordFits g ≡ true → g .provisioned ≡ false → g .word ≡ 0
+unfolding wordFits
+word-kept g e f = eqb-true (g .word) 0 (rw f at e)
+
+pub grants-back : {l : List Grants} → Each FormedGrants l → grantsSaid (maskOf l) (map wordIn l) ≡ l
+unfolding grantsSaid maskOf
+grants-back each-nil = refl
+grants-back (each-cons {x = g} {l = l} v h) =
+    let f = bit-low (g .provisioned) in
+    rw (digits-mod (maskOf l) f, digits-div (maskOf l) f, bit-back (g .provisioned), word-is g v, grants-back h)
+
+pub mask-back : (m : ℕ) (ws : List ℕ) → m < 2 ^ length ws → maskOf (grantsSaid m ws) ≡ m
+unfolding grantsSaid maskOf
+mask-back m [] h = omega arith
+mask-back m (w ∷ ws) h =
+    let positive : 0 < 2 = omega arith in
+    let rest : m / 2 < 2 ^ length ws = div-lt-iff-lt-mul {k = 2} {x = m} {y = 2 ^ length ws} positive .1 (rw pow-suc at h) in
+    let low : m % 2 < 2 = omega arith in
+    rw (mask-back (m / 2) ws rest, bit-forth (m % 2) low) (div-add-mod' m 2)
+
+pub grants-formed : (m : ℕ) (ws : List ℕ) → Each (Small 4) ws → Each (λ g. wordFits g ≡ true) (grantsSaid m ws) → Each FormedGrants (grantsSaid m ws)
+unfolding grantsSaid
+grants-formed m [] s e = each-nil
+grants-formed m (w ∷ ws) (each-cons p s) (each-cons q e) = each-cons (record { word = p; kept = word-kept _ q }) (grants-formed (m / 2) ws s e)
+
+pub words-back : (m : ℕ) (ws : List ℕ) → Each FormedGrants (grantsSaid m ws) → map wordIn (grantsSaid m ws) ≡ ws
+unfolding grantsSaid
+words-back m [] v = refl
+words-back m (w ∷ ws) (each-cons {x = g} p v) = rw (word-is g p, words-back (m / 2) ws v)
+
+pub grants-length : (m : ℕ) (ws : List ℕ) → length (grantsSaid m ws) ≡ length ws
+unfolding grantsSaid
+grants-length m [] = refl
+grants-length m (w ∷ ws) = rw (grants-length (m / 2) ws)
+
+-- ---- a row
+pub record RowFits (p : Process) : Type 0 where
+  pub saved : p .kind ≡ Saved
+  pub session : p .session .0 ≡ 0
+  pub credential : p .credential .0 < 256 ^ 2
+  pub next : p .next < 256 ^ 2
+  pub name : length (p .name .bytes) ≡ nameLength
+
+saved-long : (p : Process) → length (p .name .bytes) ≡ nameLength → length (savedBytes p) ≡ savedSize
+unfolding savedBytes
+saved-long p h = simp length-append (omega (arith, length-bytes 2 (p .credential .0), length-bytes 2 (p .next)))
+
+-- rows, one after another: their length, whatever else is in them
+pub rows-long : {l : List Process} → Each (λ p. length (p .name .bytes) ≡ nameLength) l → length (join (map savedBytes l)) ≡ length l * savedSize
+unfolding join
+rows-long each-nil = sym (zero-mul savedSize)
+rows-long (each-cons {x} {l} p w) = rw (length-append, suc-mul, saved-long x p, rows-long w) (add-comm savedSize (length l * savedSize))
+
+module _ (p : Process) (w : RowFits p) where
+  owner-at : numberAt 2 savedOwnerAt (savedBytes p) ≡ p .credential .0
+  unfolding savedBytes
+  owner-at = number-in 2 (p .credential .0) [] (bytesOf 2 (p .next) ++ p .name .bytes) (w .credential)
+
+  next-at : numberAt 2 savedNextAt (savedBytes p) ≡ p .next
+  unfolding savedBytes bytesOf
+  next-at = number-in 2 (p .next) (bytesOf 2 (p .credential .0)) (p .name .bytes) (w .next)
+
+  name-at : drop savedNameAt (savedBytes p) ≡ p .name .bytes
+  unfolding savedBytes bytesOf
+  name-at = refl
+
+  saved-is : (k : Kind) (s : ℕ) → p .kind ≡ k → p .session .0 ≡ s → record { credential = p .credential; kind = k; session = record { 0 = s }; next = p .next; name = p .name } ≡ p
+  saved-is k s e f = rw (← e, ← f)
+
+  saved-back : savedFrom (savedBytes p) ≡ p
+  unfolding savedFrom
+  saved-back = rw (owner-at, next-at, name-at) (saved-is Saved 0 (w .saved) (w .session))
+
+module _ (b : List ℕ) (n : length b ≡ savedSize) (h : Bytes b) where
+  saved-forth : savedBytes (savedFrom b) ≡ b
+  unfolding savedBytes savedFrom
+  saved-forth =
+      rw (number-taken 2 savedOwnerAt b h (omega arith), number-taken 2 savedNextAt b h (omega arith), part-front 2 savedNextAt b)
+      (part-front 2 savedOwnerAt b)
+
+  saved-fits : RowFits (savedFrom b)
+  unfolding savedFrom
+  saved-fits =
+      record {
+        saved = refl;
+        session = refl;
+        credential = number-low 2 savedOwnerAt b h;
+        next = number-low 2 savedNextAt b h;
+        name = simp length-drop (omega arith);
+      }
+
+pub saved-codec : Codec savedSize savedBytes savedFrom anything RowFits RowFits
+saved-codec =
+    record {
+      wide = λ p v. v;
+      long = λ p v. saved-long p (v .name);
+      only = λ p v e. v;
+      back = saved-back;
+      fits = λ p v. refl;
+      forth = λ b n h e. saved-forth b n h;
+      good = λ b n h e. saved-fits b n h;
+    }
+
+-- ---- the elements that pass a test
+module _ {A : Type 0} (f : A → Bool) where
+  each-part : {P : A → Type 0} {l : List A} → Each P l → Each P (select f l)
+  unfolding select
+  each-part each-nil = each-nil
+  each-part (each-cons {x = x} p h) = split (f x) (λ e. rw e (each-cons p (each-part h))) (λ e. rw e (each-part h))
+
+  pub each-select : {P : A → Type 0} {l : List A} → Each P l → Each (λ x. (f x ≡ true) × P x) (select f l)
+  unfolding select
+  each-select each-nil = each-nil
+  each-select (each-cons {x = x} p h) = split (f x) (λ e. rw e (each-cons (e, p) (each-select h))) (λ e. rw e (each-select h))
+
+  pub pairs-select : {R : A → A → Type 0} {l : List A} → Pairs R l → Pairs R (select f l)
+  unfolding select
+  pairs-select pairs-nil = pairs-nil
+  pairs-select (pairs-cons {x = x} p h) =
+      split (f x) (λ e. rw e (pairs-cons (each-part p) (pairs-select h))) (λ e. rw e (pairs-select h))
+
+  pub select-all : {l : List A} → Each (λ x. f x ≡ true) l → select f l ≡ l
+  unfolding select
+  select-all each-nil = refl
+  select-all (each-cons e h) = rw (e, select-all h)

@@ -1,0 +1,41 @@
+// The image of a module: where its numbers, its words and its rows lie. docs/IMAGE.md draws it; specs/Image.antt has the same names, and which bytes
+// are an image. Each part begins where the one before it ends, and so does each field.
+use claims::CREDENTIALS;
+use claims::State;
+use names::NAME_LENGTH;
+
+// ---- the five numbers at its head
+
+pub const MASK_AT: usize = 0;
+
+pub const WORD_COUNT_AT: usize = MASK_AT + 2;
+
+pub const WORD_OFFSET_AT: usize = WORD_COUNT_AT + 2;
+
+pub const ROW_COUNT_AT: usize = WORD_OFFSET_AT + 2;
+
+pub const ROW_OFFSET_AT: usize = ROW_COUNT_AT + 2;
+
+// ---- the words, and the rows
+
+pub const WORDS_AT: usize = ROW_OFFSET_AT + 2;
+
+pub const WORD_SIZE: usize = 4;
+
+pub const SAVED_AT: usize = WORDS_AT + CREDENTIALS * WORD_SIZE;
+
+// ---- a row
+
+pub const SAVED_OWNER_AT: usize = 0;
+
+pub const SAVED_NEXT_AT: usize = SAVED_OWNER_AT + 2;
+
+pub const SAVED_NAME_AT: usize = SAVED_NEXT_AT + 2;
+
+pub const SAVED_SIZE: usize = SAVED_NAME_AT + NAME_LENGTH;
+
+// What bytes say when they are read as an image. Where they are none, the module has no credentials.
+pub struct ImageRead {
+    pub fits: bool,
+    pub state: State,
+}

@@ -1,0 +1,110 @@
+-- The laws that close the needs of this crate's functions by `search rules`: each premise is as a place's record has it.
+-- Assumes nothing.
+use Prim.Native.Nat.{ℕ, suc, _+_, _-_, _*_, _/_, _%_, _<_, _≤_}
+use mathlib.Core.Path.{_≡_, refl, sym, ap, _∙_}
+use mathlib.Core.Bool.{false}
+use mathlib.Core.List.{List, [], _∷_}
+use native.Mathlib.Numerals.{add-one}
+use native.Mathlib.Omega.{arith}
+use borrow.Author.Needs.{needs}
+use borrow.Author.Tests.{ne-eqb, eq-eqb, lt-ltb, le-ltb, le-leb, lt-leb}
+use lib.Dec.{eqb, ltb}
+use lib.ListN.{length, getD, drop, set, replicate, length-replicate}
+use lib.Seq.{drop-cons}
+use Rattle.lists.proofs.Lists.{length-mapped}
+use Rattle.lists.proofs.Loops.{Copied, copied-none, copied-more, copied-all}
+use Rattle.rows.specs.Bytes.{numberOf, numberAt}
+use Rattle.rows.proofs.Loops.{FilledBy, filled-begin, filled-next, filled-done, and-false}
+use Rattle.table.specs.Table.{places}
+use Rattle.claims.specs.Module.{credentialCount}
+use Rattle.claims.specs.declared.Grants.{Grants}
+use Rattle.image.specs.Image.{maskAt, wordCountAt, wordOffsetAt, rowCountAt, rowOffsetAt, wordsAt, wordSize, savedAt, numbersIn, maskIn, rowCountIn, grantsSaid, grantsIn, headFits}
+
+-- ---- the numbers
+pub rows-counted : (b : List ℕ) {n : ℕ} → n ≡ numberAt 2 rowCountAt b → n ≡ rowCountIn b
+unfolding rowCountIn
+rows-counted b e = e
+
+-- each number that does not fit is enough for a refusal, whatever the others are
+module _ (b : List ℕ) where
+  pub head-mask : {mask : ℕ} → mask ≡ numberAt 2 maskAt b → 255 < mask → false ≡ headFits b
+  unfolding headFits maskIn
+  head-mask e h = let k : 256 ≤ numberAt 2 maskAt b = omega arith in rw (le-ltb (numberAt 2 maskAt b) 256 k)
+
+  pub head-words : {words : ℕ} → words ≡ numberAt 2 wordCountAt b → (words ≡ credentialCount → ⊥) → false ≡ headFits b
+  unfolding headFits
+  head-words e n = rw (ne-eqb (numberAt 2 wordCountAt b) credentialCount (rw e at n), and-false (ltb (maskIn b) 256))
+
+  pub head-from : {from : ℕ} → from ≡ numberAt 2 wordOffsetAt b → (from ≡ wordsAt → ⊥) → false ≡ headFits b
+  unfolding headFits
+  head-from e n =
+      rw (ne-eqb (numberAt 2 wordOffsetAt b) wordsAt (rw e at n), and-false (eqb (numberAt 2 wordCountAt b) credentialCount), and-false (ltb (maskIn b) 256))
+
+  pub head-rows : {n : ℕ} → n ≡ rowCountIn b → places < n → false ≡ headFits b
+  unfolding headFits
+  head-rows e h =
+      rw (lt-leb (rowCountIn b) places (rw e at h), and-false (eqb (numberAt 2 wordOffsetAt b) wordsAt), and-false (eqb (numberAt 2 wordCountAt b) credentialCount), and-false (ltb (maskIn b) 256))
+
+  pub head-all : {mask words from n at : ℕ} → mask ≡ numberAt 2 maskAt b → mask ≤ 255 → words ≡ numberAt 2 wordCountAt b → words ≡ credentialCount
+      → from ≡ numberAt 2 wordOffsetAt b → from ≡ wordsAt → n ≡ rowCountIn b → n ≤ places → at ≡ numberAt 2 rowOffsetAt b → eqb at savedAt ≡ headFits b
+  unfolding headFits maskIn
+  head-all e h f k g l p m q =
+      let low : numberAt 2 maskAt b < 256 = omega arith in
+      rw (lt-ltb (numberAt 2 maskAt b) 256 low, eq-eqb (numberAt 2 wordCountAt b) credentialCount (sym f ∙ k), eq-eqb (numberAt 2 wordOffsetAt b) wordsAt (sym g ∙ l), le-leb (rowCountIn b) places (rw p at m), q)
+
+-- ---- the words
+pub words-next : {b words₀ words : List ℕ} {i : ℕ} → FilledBy numberOf credentialCount wordSize wordsAt b words₀ words i → i < credentialCount → {w : ℕ} → w ≡ numberAt 4 (wordsAt + i * wordSize) b
+    → FilledBy numberOf credentialCount wordSize wordsAt b words₀ (set words i w) (i + 1)
+unfolding numberAt
+words-next {b} {words₀} {words} {i} v h {w} e =
+    let k : wordsAt + i * wordSize + wordSize - (wordsAt + i * wordSize) ≡ wordSize = omega arith in
+    filled-next v h (rw k e)
+
+pub words-done : {b words₀ words : List ℕ} {i : ℕ} → FilledBy numberOf credentialCount wordSize wordsAt b words₀ words i → credentialCount ≤ i → words ≡ numbersIn credentialCount wordSize (drop wordsAt b)
+unfolding numbersIn
+words-done v h = filled-done v h
+
+-- ---- the credentials: the first i are said, and the rest is what is left of the mask with the words from i on
+said-length : (mask : ℕ) (words : List ℕ) → length (grantsSaid mask words) ≡ length words
+unfolding grantsSaid
+said-length mask [] = refl
+said-length mask (w ∷ words) = ap suc (said-length (mask / 2) words)
+
+pub record SaidTo (mask : ℕ) (words : List ℕ) (out₀ out : List Grants) (left i : ℕ) : Type 0 where
+  pub long : length words ≡ credentialCount
+  pub done : Copied (grantsSaid mask words) out₀ out i
+  pub rest : drop i (grantsSaid mask words) ≡ grantsSaid left (drop i words)
+
+pub said-begin : (mask : ℕ) (words : List ℕ) (none : Grants) → length words ≡ credentialCount
+    → SaidTo mask words (replicate credentialCount none) (replicate credentialCount none) mask 0
+said-begin mask words none h =
+    record {
+      long = h;
+      done = copied-none (grantsSaid mask words) (replicate credentialCount none) (length-replicate credentialCount none ∙ sym (said-length mask words ∙ h));
+      rest = refl;
+    }
+
+module _ {mask : ℕ} {words : List ℕ} {out₀ out : List Grants} {left i : ℕ} (v : SaidTo mask words out₀ out left i) where
+  pub said-next : i < credentialCount → SaidTo mask words out₀ (set out i (record { provisioned = eqb (left % 2) 1; word = getD words i 0 })) (left / 2) (i + 1)
+  unfolding grantsSaid
+  said-next h =
+      let x : Grants = record { provisioned = eqb (left % 2) 1; word = getD words i 0 } in
+      let k : i < length words = omega (arith, v .long) in
+      let l : i < length (grantsSaid mask words) = omega (arith, said-length mask words, v .long) in
+      let e : drop i (grantsSaid mask words) ≡ x ∷ grantsSaid (left / 2) (drop (suc i) words) = v .rest ∙ ap (grantsSaid left) (drop-cons words i 0 k) in
+      let f : getD (grantsSaid mask words) i x ∷ drop (suc i) (grantsSaid mask words) ≡ x ∷ grantsSaid (left / 2) (drop (suc i) words) = sym (drop-cons (grantsSaid mask words) i x l) ∙ e in
+      let g : getD (grantsSaid mask words) i x ≡ x = ap (λ (m : List Grants). getD m 0 x) f in
+      record {
+        long = v .long;
+        done = rw g at (copied-more (v .done) x l);
+        rest = rw add-one (ap (λ (m : List Grants). drop 1 m) f);
+      }
+
+  pub said-done : credentialCount ≤ i → out ≡ grantsSaid mask words
+  said-done h = copied-all (v .done) (omega (arith, said-length mask words, v .long))
+
+pub grants-read : (b : List ℕ) {mask : ℕ} {words : List ℕ} {grants : List Grants} → mask ≡ numberAt 2 maskAt b → words ≡ numbersIn credentialCount wordSize (drop wordsAt b) → grants ≡ grantsSaid mask words → grants ≡ grantsIn b
+unfolding grantsIn maskIn
+grants-read b e f g = g ∙ rw (e, f)
+
+pub ruleset rules = (needs, length-mapped, rows-counted, head-mask, head-words, head-from, head-rows, head-all, filled-begin, words-next, words-done, said-begin, said-next, said-done, grants-read)

@@ -1,0 +1,101 @@
+// The module that an image makes, read into a value. docs/IMAGE.md draws the image.
+ghost use mathlib.Core.Path.{_≡_};
+ghost use mathlib.Core.List.{map};
+ghost use Prim.Native.Nat.{_≤_};
+ghost use lib.ListN.{length, drop};
+ghost use Rattle.rows.specs.Rows.{rows};
+ghost use Rattle.table.specs.Table.{places, tableOf};
+ghost use Rattle.image.specs.Image.{savedAt, savedSize, imageLong, savedFrom, closedModule, readImage};
+use claims::CREDENTIALS;
+use claims::Grants;
+use claims::Phase;
+use claims::SESSIONS;
+use claims::SessionState;
+use claims::State;
+use image::ImageRead;
+use image::SAVED_AT;
+use image::SAVED_NAME_AT;
+use image::SAVED_NEXT_AT;
+use image::SAVED_OWNER_AT;
+use image::SAVED_SIZE;
+use names::Credential;
+use names::Kind;
+use names::Session;
+use table::Process;
+use table::Table;
+
+// ---- the rows
+
+fn saved_from(row: &[u8]) -> Process
+    requires { ⌜ length (now row) ≡ savedSize ⌝ }
+    ensures { λ r. ⌜ r ≡ savedFrom (now (row .entry)) ⌝ }
+{
+    let owner = rows::number16(row, SAVED_OWNER_AT);
+    let next = rows::number16(row, SAVED_NEXT_AT);
+    let read = names::read_name(&row[SAVED_NAME_AT..SAVED_SIZE]);
+    let name = read.name;
+    Process {
+        credential: Credential(owner),
+        kind: Kind::Saved,
+        session: Session(0),
+        next: next,
+        name: name,
+    }
+}
+
+fn read_saved(b: &[u8], n: usize) -> Table
+    requires { ⌜ n ≤ places ⌝ }
+    requires { ⌜ length (now b) ≡ imageLong n ⌝ }
+    ensures { λ r. ⌜ r ≡ tableOf (map savedFrom (rows n savedSize (drop savedAt (now (b .entry))))) ⌝ }
+{
+    let empty = table::empty();
+    let mut places = empty.places;
+    let mut i: usize = 0;
+    while i < n {
+        let a = SAVED_AT + i * SAVED_SIZE;
+        let e = a + SAVED_SIZE;
+        places[i] = saved_from(&b[a..e]);
+        i += 1;
+    }
+    Table {
+        places: places,
+        count: n,
+    }
+}
+
+// ---- the module
+
+fn module_of(grants: [Grants; CREDENTIALS], t: Table) -> State
+    ensures { λ r. ⌜ r ≡ closedModule grants t ⌝ }
+{
+    let closed = SessionState {
+        phase: Phase::Closed,
+    };
+    State {
+        sessions: [closed; SESSIONS],
+        credentials: grants,
+        table: t,
+    }
+}
+
+// The module that bytes make, and whether they are an image.
+pub fn read_image(b: &[u8]) -> ImageRead
+    ensures { λ r. ⌜ r ≡ readImage (now (b .entry)) ⌝ }
+{
+    if !image_test::is_image(b) {
+        let none = Grants {
+            provisioned: false,
+            word: 0,
+        };
+        let empty = table::empty();
+        return ImageRead {
+            fits: false,
+            state: module_of([none; CREDENTIALS], empty),
+        };
+    }
+    let saved = read_saved(b, image_head::row_count(b));
+    ImageRead {
+        fits: true,
+        state: module_of(image_head::read_grants(b), saved),
+    }
+}

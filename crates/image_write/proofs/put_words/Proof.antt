@@ -1,0 +1,66 @@
+use Rattle.image_write.proofs.Rows.{Worded}
+use Prim.Native.Nat.{_-_}
+use Rattle.image_write.proofs.Rules.{rules}
+use Rattle.image_write.proofs.put_words.Statement.{statement}
+use Rattle.image_write.proofs.put_words.Tie as tie
+
+abbrev Inv-loop : tie.InvT-loop
+Inv-loop buffer₀ l i₀ buffer i = Worded l buffer₀ buffer i
+
+abbrev μ-loop : tie.MeasureT-loop
+μ-loop buffer₀ l i₀ buffer i = 8 - i
+
+loop-holds : tie.Need-loop-holds Inv-loop μ-loop
+loop-holds c = search rules
+
+mul-g : tie.Need-mul-g Inv-loop μ-loop
+mul-g c = search rules
+
+array-copy-out-g : tie.Need-array-copy-out-g Inv-loop μ-loop
+array-copy-out-g c = search rules
+
+mul-put-number32 : tie.Need-mul-put-number32 Inv-loop μ-loop
+mul-put-number32 c = search rules
+
+add-put-number32 : tie.Need-add-put-number32 Inv-loop μ-loop
+add-put-number32 c = search rules
+
+word-in-requires : tie.Need-word-in-requires Inv-loop μ-loop
+word-in-requires c κs = search rules
+
+put-number32-requires : tie.Need-put-number32-requires Inv-loop μ-loop
+put-number32-requires c κs = search rules
+
+add-i : tie.Need-add-i Inv-loop μ-loop
+add-i c = search rules
+
+loop-less : tie.Need-loop-less Inv-loop μ-loop
+loop-less c = search rules
+
+loop-again : tie.Need-loop-again Inv-loop μ-loop
+loop-again c = search rules
+
+same-length : tie.Need-same-length Inv-loop μ-loop
+same-length c = search rules
+
+returns : tie.Need-returns Inv-loop μ-loop
+returns c = search rules
+
+pub put-words-spec : {M : Type 1} → statement M
+put-words-spec =
+    tie.close
+    (tie.spec
+    Inv-loop
+    μ-loop
+    loop-holds
+    mul-g
+    array-copy-out-g
+    mul-put-number32
+    add-put-number32
+    word-in-requires
+    put-number32-requires
+    add-i
+    loop-less
+    loop-again
+    same-length
+    returns)

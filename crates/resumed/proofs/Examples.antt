@@ -1,0 +1,106 @@
+-- A module restored from an image, followed by hand: the definitions compute, and tell what a reader would.
+-- Assumes nothing.
+use Prim.Native.Nat.{ℕ, _+_}
+use mathlib.Core.Path.{_≡_, refl}
+use mathlib.Core.Bool.{Bool, true, false, cond}
+use mathlib.Core.List.{List, [], _∷_, _++_, map}
+use lib.ListN.{replicate}
+use Rattle.rows.specs.Bytes.{numberOf, numberAt}
+use Rattle.rows.specs.Rows.{rows, every, pairwise}
+use Rattle.table.specs.Table.{standing}
+use Rattle.calls.specs.Calls.{Call, Open, Select, Start, Continue, End, Record, Kill}
+use Rattle.calls.specs.Run.{run}
+use Rattle.calls.proofs.Sequences.{P, Q, session, credential, class, userYes, yes′, computed}
+use Rattle.history.specs.History.{Event, history}
+use Rattle.history.specs.Lives.{Life, Gone, Live, Kept, accepted, count, told, counts, ends, shuts, drops, resumes, after, onward, follow}
+use Rattle.image.specs.Image.{numbersIn, maskIn, rowCountIn, grantsSaid, grantsIn, savedFrom, keptIn, restored, imageLong, headFits, wordFits, isKeepable, differ, isImage, imageBytes, imageOf, numbersBytes, maskOf, wordIn, savedOf, savedBytes}
+use Rattle.resumed.specs.Resumed.{toldSince, starts, isNew, toldBy}
+
+-- all that the examples compute with
+unfoldable pub opened : Type 1
+unfolding computed history counts ends shuts drops resumes after onward follow accepted starts isNew numberOf numberAt rows every pairwise numbersIn maskIn rowCountIn grantsSaid grantsIn savedFrom keptIn restored imageLong headFits wordFits isKeepable differ isImage imageBytes imageOf numbersBytes maskOf wordIn savedOf savedBytes
+opened = Type 0
+
+-- credential 0 has the classes 0 to 4, no other is provisioned; P is saved, with next number 3
+abbrev pub image : List ℕ
+image =
+    (1 ∷ 0 ∷ 8 ∷ 0 ∷ 10 ∷ 0 ∷ 1 ∷ 0 ∷ 42 ∷ 0 ∷ [])
+    ++ ((31 ∷ 0 ∷ 0 ∷ 0 ∷ [])
+    ++ (replicate 28 0
+    ++ ((0 ∷ 0 ∷ 3 ∷ 0 ∷ []) ++ P .bytes)))
+
+abbrev pub recorded : ℕ → Call
+recorded n = Record (session 0) (yes′ 0 n) (class 4)
+
+-- a continue; the number below the image's, the image's, and that once more
+abbrev continued : List Call
+continued =
+    Open (session 0)
+    ∷ Select (session 0) 0x10
+    ∷ Continue (session 0) (credential 0) P
+    ∷ recorded 2
+    ∷ recorded 3
+    ∷ recorded 3
+    ∷ []
+
+-- a start of its name, which is refused
+abbrev refused : List Call
+refused = continued ++ (Start (session 0) (credential 0) P ∷ [])
+
+-- a kill, under its own claim, and a start of the same name: a new process, whose first number is 0
+abbrev again : List Call
+again = continued ++ (Kill (session 0) (yes′ 0 4) P ∷ Start (session 0) (credential 0) P ∷ recorded 3 ∷ recorded 0 ∷ [])
+
+-- what is told of P: since its start, since the restore, and whether it was started since the restore
+pub record Told (calls : List Call) (all now : Life) (new : Bool) : Type 0 where
+  pub is-all : told (toldBy image) (history (restored image) calls) P ≡ all
+  pub is-now : toldSince (toldBy image) (history (restored image) calls) P ≡ now
+  pub is-new : isNew (history (restored image) calls) P ≡ new
+
+abbrev next : List Call → List ℕ
+next calls = map (λ p. p .next) (standing (run (restored image) calls .table))
+
+-- the next number as `numbers` of Demand3From reads it
+abbrev read : List Call → ℕ
+read calls = cond (isNew (history (restored image) calls) P) 0 (count (toldBy image P)) + count (toldSince (toldBy image) (history (restored image) calls) P)
+
+pub record Examples : Type 0 where
+  pub accepted-is : isImage image ≡ true
+  pub told-first : toldBy image P ≡ Kept (credential 0) (2 ∷ 1 ∷ 0 ∷ [])
+  pub told-other : toldBy image Q ≡ Gone
+  pub numbers-are : map (λ (e : Event). e .answered) (history (restored image) again) ≡ 0 ∷ 0 ∷ 0 ∷ 9 ∷ 0 ∷ 9 ∷ 0 ∷ 0 ∷ 9 ∷ 0 ∷ []
+  pub after-continue : Told continued (Live (session 0) (credential 0) (3 ∷ 2 ∷ 1 ∷ 0 ∷ [])) (Live (session 0) (credential 0) (3 ∷ [])) false
+  pub after-refused : Told refused (Live (session 0) (credential 0) (3 ∷ 2 ∷ 1 ∷ 0 ∷ [])) (Live (session 0) (credential 0) (3 ∷ [])) false
+  pub after-again : Told again (Live (session 0) (credential 0) (0 ∷ [])) (Live (session 0) (credential 0) (0 ∷ [])) true
+  -- 3 + 1, and 0 + 1
+  pub next-continued : (next continued ≡ 4 ∷ []) × (read continued ≡ 4)
+  pub next-again : (next again ≡ 1 ∷ []) × (read again ≡ 1)
+
+pub examples : Examples
+unfolding opened
+examples =
+    record {
+      accepted-is = refl;
+      told-first = refl;
+      told-other = refl;
+      numbers-are = refl;
+      after-continue = record { is-all = refl; is-now = refl; is-new = refl };
+      after-refused = record { is-all = refl; is-now = refl; is-new = refl };
+      after-again = record { is-all = refl; is-now = refl; is-new = refl };
+      next-continued = (refl, refl);
+      next-again = (refl, refl);
+    }
+
+-- ---- a power cycle more: P is saved, Q is active; the image tells of P what was told, and of Q nothing
+abbrev kept : List Call
+kept = continued ++ (End (session 0) (userYes 0 4) true ∷ Start (session 0) (credential 0) Q ∷ recorded 0 ∷ [])
+
+pub record Cycled : Type 0 where
+  pub of-P : told (toldBy image) (history (restored image) kept) P ≡ Kept (credential 0) (4 ∷ 3 ∷ 2 ∷ 1 ∷ 0 ∷ [])
+  pub of-Q : told (toldBy image) (history (restored image) kept) Q ≡ Live (session 0) (credential 0) (0 ∷ [])
+  pub then-P : toldBy (imageBytes (run (restored image) kept)) P ≡ Kept (credential 0) (4 ∷ 3 ∷ 2 ∷ 1 ∷ 0 ∷ [])
+  pub then-Q : toldBy (imageBytes (run (restored image) kept)) Q ≡ Gone
+
+pub cycled : Cycled
+unfolding opened
+cycled = record { of-P = refl; of-Q = refl; then-P = refl; then-Q = refl }

@@ -1,0 +1,4 @@
+pub mod Lives
+pub mod Theorems
+pub mod Examples
+pub mod Wrong

@@ -1,0 +1,1 @@
+// Demand 3 counted from what was told before: definitions and theorems, and no code.
