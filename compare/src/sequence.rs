@@ -74,9 +74,10 @@ pub fn run(seed: u64, plan: Plan, depth: &mut Depth) -> Result<Pair, Box<Failure
             }
         };
         generator.observe(&answer);
-        let after = pair
-            .module()
-            .expect("a sequence begins with a state or a fresh");
+        // none stands before the first fresh or restore that is accepted
+        let Some(after) = pair.module() else {
+            continue;
+        };
         let before = before.as_ref().unwrap_or(after);
         depth.note(&mut trail, &answer, [before, after]);
         if plan.replays {
