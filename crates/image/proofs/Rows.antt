@@ -2,24 +2,27 @@
 -- Assumes nothing.
 use Prim.Native.Nat.{ℕ, zero, suc, _*_, _/_, _%_, _^_, _<_}
 use mathlib.Core.Path.{_≡_, refl, sym}
-use mathlib.Core.Bool.{Bool, true, false, cond}
+use mathlib.Core.Bool.{Bool, true, false, cond, not}
 use mathlib.Core.List.{List, [], _∷_, _++_, map}
 use native.Mathlib.Nat.{pow-suc, div-lt-iff-lt-mul, div-add-mod', zero-mul, suc-mul, add-comm}
 use native.Mathlib.Omega.{arith}
 use lib.Arith.{digits-lt, digits-div, digits-mod}
 use lib.Dec.{eqb}
-use lib.ListN.{length, drop, length-append, length-drop}
-use borrow.Author.Tests.{eqb-true}
-use Rattle.lists.specs.Lists.{join, select}
-use Rattle.lists.specs.Each.{Each, each-nil, each-cons, Pairs, pairs-nil, pairs-cons}
+use lib.ListN.{length, take, drop, length-append, length-drop}
+use lib.Seq.{take-all}
+use borrow.Author.Tests.{eqb-true, not-false}
+use Rattle.lists.specs.Lists.{join, select, reject}
+use Rattle.lists.specs.Each.{Each, each-nil, each-cons, Pairs}
 use Rattle.lists.proofs.Tests.{split}
+use Rattle.lists.proofs.Each.{each-imp₂, each-reject, each-left, pairs-reject}
 use Rattle.rows.specs.Bytes.{Bytes, bytesOf, numberOf, numberAt}
 use Rattle.rows.specs.Rows.{every}
 use Rattle.rows.proofs.Bytes.{length-bytes, number-back, number-forth, number-small, number-in, number-low, number-taken, part-front}
 use Rattle.rows.proofs.Rows.{Codec}
-use Rattle.names.specs.Names.{nameLength}
+use Rattle.names.specs.Names.{nameLength, readName}
 use Rattle.names.specs.declared.Kind.{Kind}
 use Rattle.names.specs.declared.Kind.the-variants.{Saved}
+use Rattle.names.proofs.Laws.{name-read}
 use Rattle.table.specs.declared.Process.{Process}
 use Rattle.claims.specs.declared.Grants.{Grants}
 use Rattle.facts.specs.Facts.{FormedGrants, WideGrants}
@@ -173,6 +176,13 @@ module _ (b : List ℕ) (n : length b ≡ savedSize) (h : Bytes b) where
         name = simp length-drop (omega arith);
       }
 
+-- the name in a row, as the code reads it
+pub saved-name : (row : List ℕ) → length row ≡ savedSize → readName (take nameLength (drop savedNameAt row)) .name ≡ savedFrom row .name
+unfolding savedFrom
+saved-name row h =
+    let l : length (drop savedNameAt row) ≡ nameLength = rw length-drop (omega arith) in
+    rw (take-all nameLength (drop savedNameAt row) (omega arith), name-read (drop savedNameAt row) l)
+
 pub saved-codec : Codec savedSize savedBytes savedFrom anything RowFits RowFits
 saved-codec =
     record {
@@ -185,23 +195,20 @@ saved-codec =
       good = λ b n h e. saved-fits b n h;
     }
 
--- ---- the elements that pass a test
+-- ---- the elements that pass a test are those that do not fail it
 module _ {A : Type 0} (f : A → Bool) where
-  each-part : {P : A → Type 0} {l : List A} → Each P l → Each P (select f l)
-  unfolding select
-  each-part each-nil = each-nil
-  each-part (each-cons {x = x} p h) = split (f x) (λ e. rw e (each-cons p (each-part h))) (λ e. rw e (each-part h))
+  pub select-reject : (l : List A) → select f l ≡ reject (λ x. not (f x)) l
+  unfolding select reject
+  select-reject [] = refl
+  select-reject (x ∷ l) = split (f x) (λ e. rw (e, select-reject l)) (λ e. rw (e, select-reject l))
 
   pub each-select : {P : A → Type 0} {l : List A} → Each P l → Each (λ x. (f x ≡ true) × P x) (select f l)
-  unfolding select
-  each-select each-nil = each-nil
-  each-select (each-cons {x = x} p h) = split (f x) (λ e. rw e (each-cons (e, p) (each-select h))) (λ e. rw e (each-select h))
+  each-select {l = l} h =
+      rw (select-reject l)
+      (each-imp₂ (λ x e p. (not-false (f x) e, p)) (each-left (λ x. not (f x)) l) (each-reject (λ x. not (f x)) h))
 
   pub pairs-select : {R : A → A → Type 0} {l : List A} → Pairs R l → Pairs R (select f l)
-  unfolding select
-  pairs-select pairs-nil = pairs-nil
-  pairs-select (pairs-cons {x = x} p h) =
-      split (f x) (λ e. rw e (pairs-cons (each-part p) (pairs-select h))) (λ e. rw e (pairs-select h))
+  pairs-select {l = l} h = rw (select-reject l) (pairs-reject (λ x. not (f x)) h)
 
   pub select-all : {l : List A} → Each (λ x. f x ≡ true) l → select f l ≡ l
   unfolding select

@@ -3,7 +3,7 @@
 use Prim.Native.Nat.{ℕ, suc, _+_, _-_, _*_, _/_, _%_, _<_, _≤_}
 use mathlib.Core.Path.{_≡_, refl, sym, ap, _∙_}
 use mathlib.Core.Bool.{false}
-use mathlib.Core.List.{List, [], _∷_}
+use mathlib.Core.List.{List, _∷_}
 use native.Mathlib.Numerals.{add-one}
 use native.Mathlib.Omega.{arith}
 use borrow.Author.Needs.{needs}
@@ -19,6 +19,7 @@ use Rattle.table.specs.Table.{places}
 use Rattle.claims.specs.Module.{credentialCount}
 use Rattle.claims.specs.declared.Grants.{Grants}
 use Rattle.image.specs.Image.{maskAt, wordCountAt, wordOffsetAt, rowCountAt, rowOffsetAt, wordsAt, wordSize, savedAt, numbersIn, maskIn, rowCountIn, grantsSaid, grantsIn, headFits}
+use Rattle.image.proofs.Rows.{grants-length}
 
 -- ---- the numbers
 pub rows-counted : (b : List ℕ) {n : ℕ} → n ≡ numberAt 2 rowCountAt b → n ≡ rowCountIn b
@@ -65,11 +66,6 @@ unfolding numbersIn
 words-done v h = filled-done v h
 
 -- ---- the credentials: the first i are said, and the rest is what is left of the mask with the words from i on
-said-length : (mask : ℕ) (words : List ℕ) → length (grantsSaid mask words) ≡ length words
-unfolding grantsSaid
-said-length mask [] = refl
-said-length mask (w ∷ words) = ap suc (said-length (mask / 2) words)
-
 pub record SaidTo (mask : ℕ) (words : List ℕ) (out₀ out : List Grants) (left i : ℕ) : Type 0 where
   pub long : length words ≡ credentialCount
   pub done : Copied (grantsSaid mask words) out₀ out i
@@ -80,7 +76,7 @@ pub said-begin : (mask : ℕ) (words : List ℕ) (none : Grants) → length word
 said-begin mask words none h =
     record {
       long = h;
-      done = copied-none (grantsSaid mask words) (replicate credentialCount none) (length-replicate credentialCount none ∙ sym (said-length mask words ∙ h));
+      done = copied-none (grantsSaid mask words) (replicate credentialCount none) (length-replicate credentialCount none ∙ sym (grants-length mask words ∙ h));
       rest = refl;
     }
 
@@ -90,7 +86,7 @@ module _ {mask : ℕ} {words : List ℕ} {out₀ out : List Grants} {left i : �
   said-next h =
       let x : Grants = record { provisioned = eqb (left % 2) 1; word = getD words i 0 } in
       let k : i < length words = omega (arith, v .long) in
-      let l : i < length (grantsSaid mask words) = omega (arith, said-length mask words, v .long) in
+      let l : i < length (grantsSaid mask words) = omega (arith, grants-length mask words, v .long) in
       let e : drop i (grantsSaid mask words) ≡ x ∷ grantsSaid (left / 2) (drop (suc i) words) = v .rest ∙ ap (grantsSaid left) (drop-cons words i 0 k) in
       let f : getD (grantsSaid mask words) i x ∷ drop (suc i) (grantsSaid mask words) ≡ x ∷ grantsSaid (left / 2) (drop (suc i) words) = sym (drop-cons (grantsSaid mask words) i x l) ∙ e in
       let g : getD (grantsSaid mask words) i x ≡ x = ap (λ (m : List Grants). getD m 0 x) f in
@@ -101,7 +97,7 @@ module _ {mask : ℕ} {words : List ℕ} {out₀ out : List Grants} {left i : �
       }
 
   pub said-done : credentialCount ≤ i → out ≡ grantsSaid mask words
-  said-done h = copied-all (v .done) (omega (arith, said-length mask words, v .long))
+  said-done h = copied-all (v .done) (omega (arith, grants-length mask words, v .long))
 
 pub grants-read : (b : List ℕ) {mask : ℕ} {words : List ℕ} {grants : List Grants} → mask ≡ numberAt 2 maskAt b → words ≡ numbersIn credentialCount wordSize (drop wordsAt b) → grants ≡ grantsSaid mask words → grants ≡ grantsIn b
 unfolding grantsIn maskIn

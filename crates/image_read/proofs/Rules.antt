@@ -8,7 +8,7 @@ use native.Mathlib.Numerals.{add-one}
 use native.Mathlib.Omega.{arith}
 use borrow.Author.Needs.{needs}
 use borrow.Author.Tests.{not-true, not-false}
-use lib.ListN.{length, take, drop, getD, set, replicate, length-drop, length-map, length-append}
+use lib.ListN.{length, take, drop, getD, set, replicate, length-map, length-append}
 use lib.Seq.{take-all, take-suc, length-take-le, append-snoc, set-at}
 use Rattle.lists.specs.Lists.{padded}
 use Rattle.rows.specs.Bytes.{numberAt}
@@ -18,7 +18,6 @@ use Rattle.rows.proofs.Loops.{map-part}
 use Rattle.names.specs.Names.{readName, nameLength}
 use Rattle.names.specs.declared.Kind.the-variants.{Saved}
 use Rattle.names.specs.declared.NameRead.{NameRead}
-use Rattle.names.proofs.Laws.{name-read}
 use Rattle.table.specs.Table.{tableOf, places, freePlace}
 use Rattle.table.specs.declared.Process.{Process}
 use Rattle.table.specs.declared.Table.{Table}
@@ -27,6 +26,7 @@ use Rattle.claims.specs.declared.Grants.{Grants}
 use Rattle.claims.specs.declared.State.{State}
 use Rattle.image.specs.declared.ImageRead.{ImageRead}
 use Rattle.image.specs.Image.{savedOwnerAt, savedNextAt, savedNameAt, savedSize, savedAt, imageLong, rowCountIn, grantsIn, savedFrom, keptIn, closedModule, restored, isImage, readImage}
+use Rattle.image.proofs.Rows.{saved-name}
 use Rattle.image.proofs.Laws.{image}
 
 -- ---- a row
@@ -34,10 +34,7 @@ pub saved-read : (x : List ℕ) {c n : ℕ} {read : NameRead}
     → length x ≡ savedSize → c ≡ numberAt 2 savedOwnerAt x → n ≡ numberAt 2 savedNextAt x → read ≡ readName (take nameLength (drop savedNameAt x))
     → _≡_ {A = Process} (record { credential = record { 0 = c }; kind = Saved; session = record { 0 = 0 }; next = n; name = read .name }) (savedFrom x)
 unfolding savedFrom
-saved-read x h e f g =
-    let l : length (drop savedNameAt x) ≡ nameLength = rw length-drop (omega arith) in
-    let t : take nameLength (drop savedNameAt x) ≡ drop savedNameAt x = take-all nameLength (drop savedNameAt x) (omega arith) in
-    rw (e, f, g, t, name-read (drop savedNameAt x) l)
+saved-read x h e f g = rw (e, f, g, saved-name x h)
 
 -- ---- the rows: the first i of n are read, and the places past them are free
 abbrev pub savedIn : ℕ → List ℕ → List Process

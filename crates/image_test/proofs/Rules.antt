@@ -9,20 +9,19 @@ use borrow.Author.Needs.{needs}
 use borrow.Author.Tests.{eqb-true, leb-true, eq-eqb, ne-eqb, not-true, not-false}
 use lib.Dec.{eqb, leb, ltb}
 use lib.ListN.{length, take, drop, getD, length-take, length-drop, List·getD-eq-default}
-use lib.Seq.{take-all}
 use Rattle.lists.proofs.Lists.{length-mapped}
 use Rattle.lists.proofs.Tests.{and-left, and-right}
 use Rattle.rows.specs.Bytes.{numberAt}
 use Rattle.rows.specs.Rows.{rows, every, pairwise}
 use Rattle.rows.proofs.Loops.{EveryFrom, every-begin, every-on, every-fail, every-all, RecordsTo, records-begin, records-on, records-fail, records-all, paired-begin, paired-on, paired-fail, paired-all, map-part, and-false}
-use Rattle.names.specs.Names.{nameLength, readName, sameName}
+use Rattle.names.specs.Names.{readName, sameName}
 use Rattle.names.specs.declared.NameRead.{NameRead}
-use Rattle.names.proofs.Laws.{name-read}
 use Rattle.table.specs.Table.{places, freePlace}
 use Rattle.table.specs.declared.Process.{Process}
 use Rattle.claims.specs.Module.{unprovisioned, provisioned, credentialCount}
 use Rattle.claims.specs.declared.Grants.{Grants}
 use Rattle.image.specs.Image.{maskIn, rowCountIn, wordCountAt, wordOffsetAt, rowOffsetAt, wordsAt, savedAt, savedSize, savedOwnerAt, savedNextAt, savedNameAt, imageLong, savedFrom, keptIn, grantsIn, restored, wordFits, isKeepable, differ, headFits, isImage}
+use Rattle.image.proofs.Rows.{saved-name}
 use Rattle.image_test.specs.Tests.{isKeepableBy}
 
 -- ---- the words: the first i pass
@@ -62,11 +61,11 @@ nobody grants owner l h = let k : length grants ≤ owner = omega arith in rw (L
 
 module _ (grants : List Grants) (row : List ℕ) {owner : ℕ} (e : owner ≡ numberAt 2 savedOwnerAt row) {t : Bool} (f : t ≡ getD grants owner unprovisioned .provisioned) where
   pub keep-unprovisioned : not t ≡ true → false ≡ isKeepableBy grants (savedFrom row)
-  unfolding isKeepableBy savedFrom
+  unfolding isKeepableBy isKeepable provisioned savedFrom
   keep-unprovisioned n = rw (← e, ← f, not-true t n)
 
   pub keep-number : not t ≡ false → {next : ℕ} → next ≡ numberAt 2 savedNextAt row → leb 1 next ≡ isKeepableBy grants (savedFrom row)
-  unfolding isKeepableBy savedFrom
+  unfolding isKeepableBy isKeepable provisioned savedFrom
   keep-number n q = rw (← e, ← f, not-false t n, q)
 
 -- ---- where a row lies, and the processes that n rows say
@@ -93,18 +92,11 @@ module _ {f : Process → Bool} {n : ℕ} {b : List ℕ} {i : ℕ} (v : RecordsT
   each-all h = records-all v h
 
 -- ---- two rows
-saved-name : (row : List ℕ) {read : NameRead} → length row ≡ savedSize → read ≡ readName (take (savedSize - savedNameAt) (drop savedNameAt row)) → read .name ≡ savedFrom row .name
-unfolding savedFrom
-saved-name row h e =
-    let l : length (drop savedNameAt row) ≡ nameLength = rw length-drop (omega arith) in
-    let t : take nameLength (drop savedNameAt row) ≡ drop savedNameAt row = take-all nameLength (drop savedNameAt row) (omega arith) in
-    rw (e, t, name-read (drop savedNameAt row) l)
-
 pub names-differ : (a b : List ℕ) {one other : NameRead} {same : Bool} → length a ≡ savedSize → length b ≡ savedSize
     → one ≡ readName (take (savedSize - savedNameAt) (drop savedNameAt a)) → other ≡ readName (take (savedSize - savedNameAt) (drop savedNameAt b)) → same ≡ sameName (one .name) (other .name)
     → not same ≡ differ (savedFrom a) (savedFrom b)
 unfolding differ
-names-differ a b h k e f g = rw (g, saved-name a h e, saved-name b k f)
+names-differ a b h k e f g = rw (g, e, f, saved-name a h, saved-name b k)
 
 -- the row at i with the later ones
 pub later-begin : {f : Process → Bool} (n : ℕ) (b : List ℕ) (i : ℕ) → i < n → RecordsTo f savedFrom n savedSize savedAt b (i + 1) (i + 1)

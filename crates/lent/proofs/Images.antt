@@ -1,7 +1,7 @@
 -- The entries of order 2, one by one: what a restore that was done leaves, what an image that was written is, and that a refusal leaves all as it was.
 -- Assumes nothing.
 use Prim.Native.Nat.{ℕ, _+_, _≤_}
-use mathlib.Core.Path.{_≡_, sym, ap, _∙_}
+use mathlib.Core.Path.{_≡_, ap, _∙_}
 use mathlib.Core.Logic.{_≢_}
 use mathlib.Core.Bool.{true}
 use mathlib.Core.List.{List}
@@ -16,17 +16,14 @@ use Rattle.rows.specs.Rows.{over}
 use Rattle.rows.proofs.Over.{written-in, later-kept}
 use Rattle.claims.specs.Numbers.{_when_, _unless_, _▸_}
 use Rattle.claims.specs.declared.State.{State}
-use Rattle.facts.specs.Facts.{processes, IsState}
+use Rattle.facts.specs.Facts.{IsState}
 use Rattle.layout.specs.Layout.{stateLength, stateBytes, stateOf, holdsState}
 use Rattle.layout.proofs.Laws.{state-back, formed-wide, holds-is}
 use Rattle.history.specs.Lives.{told}
-use Rattle.history.specs.Demand.{look}
-use Rattle.history.proofs.Told.{tells-look}
 use Rattle.image.specs.Image.{imageBytes, isImage, restored, cycled, imageRoom, lacksRoom}
-use Rattle.image.proofs.Laws.{long-is, stands-is, image-state, one-image, state-image, state-restored}
-use Rattle.resumed.specs.Resumed.{cut}
-use Rattle.resumed.proofs.Theorems.{cycled-life}
+use Rattle.image.proofs.Laws.{long-is, image-state, one-image, state-image, state-restored}
 use Rattle.entries_image.specs.Entries.{imageNumber, ImageEntry, restoreNumber, RestoreEntry}
+use Rattle.resumed.proofs.Theorems.{told-cut}
 use Rattle.lent.specs.Lent.{Since, Holds, Imaged}
 
 -- ---- a restore
@@ -91,12 +88,7 @@ lent-imaged w {last} {old} {new} {long} g h e =
     record {
       accepted = rw is (state-image v);
       restored = rw is (state-restored v ∙ ap cycled (h .state));
-      tells =
-          λ name.
-          rw is
-          (ap (look name) (sym (stands-is (imageBytes (stateOf last))) ∙ ap (λ (st : State). processes st) (state-restored v))
-          ∙ cycled-life (stateOf last) (v .rules) name
-          ∙ ap cut (sym (tells-look (told (w .tell) (w .events)) (stateOf last) (h .tells) name)));
+      tells = λ name. rw is (told-cut (stateOf last) v (told (w .tell) (w .events)) (h .tells) name);
       later-kept = image-later e v;
     }
 

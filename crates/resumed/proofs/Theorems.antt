@@ -40,6 +40,7 @@ use Rattle.history.proofs.Told.{live-not-gone, length-down, down-below, tells-l
 use Rattle.history.proofs.Once.{record-number}
 use Rattle.history.proofs.Theorems.{demand3-from, tells-from, in-turn-from, claim-from, new-from}
 use Rattle.image.specs.Image.{savedAt, savedSize, isKept, savedOf, rowCountIn, savedFrom, keptIn, isImage, restored, cycled, numbersBytes, wordSize, imageOf, imageBytes}
+use Rattle.image.proofs.Rows.{select-reject}
 use Rattle.image.proofs.Laws.{stands-is, image-state, state-image, state-restored}
 use Rattle.resumed.specs.Resumed.{bare, toldSince, isNew, Demand3From, IsClaimFrom, toldBy, FromImage, cut}
 use Rattle.resumed.proofs.Lives.{onto, onto-bare, isUsers, count-onto, follow-onto, follow-new, follow-gone}
@@ -151,11 +152,6 @@ module _ (b : List ℕ) (g : Bytes b) (e : isImage b ≡ true) where
   image-claim = claim-told-from (restored b) (image-state b g e .rules) (toldBy b) image-tells
 
 -- ---- a power cycle
-select-reject : {A : Type 0} (f : A → Bool) (l : List A) → select f l ≡ reject (λ x. not (f x)) l
-unfolding select reject
-select-reject f [] = refl
-select-reject f (x ∷ l) = split (f x) (λ e. rw (e, select-reject f l)) (λ e. rw (e, select-reject f l))
-
 cut-life : (k : Kind) (s : Session) (c : Credential) (n : ℕ) → cut (life k s c n) ≡ cond (not (isSaved k)) Gone (life k s c n)
 cut-life User s c n = refl
 cut-life Elevation s c n = refl
@@ -193,7 +189,14 @@ module _ (st : State) (v : Rules st) where
       (look-reject n cut refl isActiveOne (processes st) (pairs-imp (λ p q a. a .names) (v .pairs))
       (each-all (processes st) (λ p. cut-life (p .kind) (p .session) (p .credential) (p .next))))
 
--- what an image tells is what was told, cut there
+-- what the image of a state tells is what was told of the state, cut there
+pub told-cut : (st : State) → IsState st → (tell : Name → Life) → Tells tell st → (name : Name) → toldBy (imageBytes st) name ≡ cut (tell name)
+told-cut st v tell tells n =
+    ap (look n) (sym (stands-is (imageBytes st)) ∙ ap (λ (s : State). processes s) (state-restored v))
+    ∙ cycled-life st (v .rules) n
+    ∙ ap cut (sym (tells-look tell st tells n))
+
+-- so it is after calls
 module _ (first : State) (v : IsState first) (tell : Name → Life) (tells : Tells tell first) (calls : List Call) (w : Each Fits calls) where
   last : IsState (run first calls)
   last = state-run first calls w v
@@ -202,10 +205,7 @@ module _ (first : State) (v : IsState first) (tell : Name → Life) (tells : Tel
   image = imageBytes (run first calls)
 
   pub told-through : (name : Name) → toldBy (imageBytes (run first calls)) name ≡ cut (told tell (history first calls) name)
-  told-through n =
-      ap (look n) (sym (stands-is image) ∙ ap (λ (st : State). processes st) (state-restored last))
-      ∙ cycled-life (run first calls) (last .rules) n
-      ∙ ap cut (sym (tells-look (told tell (history first calls)) (run first calls) (tells-from first (v .rules) tell tells calls) n))
+  told-through = told-cut (run first calls) last (told tell (history first calls)) (tells-from first (v .rules) tell tells calls)
 
   abbrev again : State
   again = restored image
