@@ -41,7 +41,7 @@ help:
 	@echo "make test     the proofs, the wrong builds and the hosts' tests; its last line is 'N passed, 0 failed'"
 	@echo "make edits    how long each wrong build took to refuse in the last run; make edits CRATE=NAME tries those of a crate first"
 	@echo "make soak     the compiled module against the model, until it is stopped; make soak TIME=600 for so many seconds"
-	@echo "make faults   breaks the model in some ninety ways and asks that the comparison tells"
+	@echo "make faults   breaks the model in some hundred ways and asks that the comparison tells"
 	@echo "make bench    the record entry against ordinary Rust, and what the other entries cost"
 	@echo "make clean    removes what these have built"
 

@@ -9,7 +9,8 @@
  * - A slice is two parameters, a pointer and a size_t with the count of its elements. A pointer is valid for its length; with
  *   length 0 it may be null. What a call writes to overlaps with nothing else that it is lent. A pointer through which a number
  *   is handed out is not null.
- * - A refusal leaves the state and every buffer as they were. What is handed out through a pointer is written where the
+ * - A refusal leaves the state and every buffer as they were, but for one number: a user claim that passes its tests is
+ *   counted also where the call is refused after them, see below. What is handed out through a pointer is written where the
  *   answer is SLAVOTUK_DONE, and stays as it was otherwise. The one exception is the length of slavotuk_list and of
  *   slavotuk_image, which a refusal sets to 0.
  * - state is a slice of SLAVOTUK_STATE_SIZE bytes that slavotuk_fresh or slavotuk_restore has filled and that only these
@@ -33,7 +34,16 @@
  *             OUT_OF_TURN where the number is not the next
  *             VERDICT where the verdict is 0
  *
- * A call that is done under a user claim adds one to that process's next number; a refused call adds nothing.
+ * A user claim that passes these tests adds one to that process's next number, whatever the call is answered afterwards; no
+ * other byte of the state changes with a refusal. A claim that fails one adds nothing, nor does an elevated claim. The refusals
+ * after a claim are NOT_GRANTED, ROOM in slavotuk_list, NO_PROCESS in slavotuk_kill and CREDENTIAL in slavotuk_set_word; each
+ * comment has them behind "the claim's tests". So no number passes twice while its process stands, and whoever tries again
+ * after such a refusal, say with a longer buffer, signs the next number: the old one is OUT_OF_TURN.
+ *
+ * In short: after DONE, NOT_GRANTED, ROOM, NO_PROCESS and CREDENTIAL the next user claim has the next number, after any other
+ * answer of this header the same. Where NO_PROCESS or CREDENTIAL came of the claim's own tests, there is no process to go on
+ * with. A process that is spent, by an accepted call or by a refused one, can't end itself: a kill under another claim or the
+ * closing of its session removes it.
  */
 #ifndef SLAVOTUK_H
 #define SLAVOTUK_H
@@ -52,9 +62,13 @@
 extern "C" {
 #endif
 
-/* The library's version. Where a call or the state's bytes change, the major number does, and with it the soname. */
-#define SLAVOTUK_VERSION_MAJOR 1
-#define SLAVOTUK_VERSION_MINOR 2
+/*
+ * The library's version. Where a call, what it leaves or the state's bytes change, the major number does, and with it the
+ * soname. With version 2 a refusal after the claim's tests spends the number: see to a host of version 1 that sends the same
+ * number again after NOT_GRANTED or ROOM.
+ */
+#define SLAVOTUK_VERSION_MAJOR 2
+#define SLAVOTUK_VERSION_MINOR 0
 #define SLAVOTUK_VERSION_PATCH 0
 
 /* The same as one number, in which a later version is larger. */
@@ -318,7 +332,8 @@ uint32_t slavotuk_record(uint8_t *state, size_t state_length, uint32_t session, 
  *   length    handed out: the message's length, 0 on a refusal
  *
  * Refused: ARGUMENT, for every other value of wanted too; SESSION; NO_VERSION; the claim's tests; NOT_GRANTED where wanted is
- * not the claim's credential, which lacks SLAVOTUK_CLASS_LIST_OTHERS; ROOM.
+ * not the claim's credential, which lacks SLAVOTUK_CLASS_LIST_OTHERS; ROOM. To list again into a longer response takes the
+ * next number.
  */
 uint32_t slavotuk_list(uint8_t *SLAVOTUK_RESTRICT state, size_t state_length, uint32_t session, uint32_t kind,
                        uint32_t credential, uint16_t number, uint32_t verdict, uint32_t wanted,
@@ -354,8 +369,8 @@ uint32_t slavotuk_set_word(uint8_t *state, size_t state_length, uint32_t session
  *
  * It changes where slavotuk_end keeps a process, slavotuk_continue takes one up, slavotuk_kill removes a saved one, and
  * slavotuk_set_word sets a word: write it again after each of these that is done, before the answer goes out and before the
- * next call. The memory that keeps it has to hand back the newest. From an older one, numbers that were accepted since are
- * accepted again, processes that were killed since stand again, and words are the old ones.
+ * next call. The memory that keeps it has to hand back the newest. From an older one, numbers that were spent since are good
+ * again, processes that were killed since stand again, and words are the old ones.
  */
 
 /*

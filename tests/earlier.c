@@ -1,7 +1,8 @@
 /*
  * A program of the time before the library had a version: it declares the seventeen entries as they stood then, with its own
  * names for the numbers, and includes no header of ours. It goes through document 01's steps 1 to 11 and a step for each other
- * entry. Linked to today's library it gets the answers that it got then. Exit code: 0 where it does, else 1.
+ * entry. Linked to today's library it gets the answers that it got then, but where it sends a number again that a refused call
+ * has had: those numbers are spent, so it gets 9 and goes on with the next. Exit code: 0 where it does, else 1.
  */
 #include <stddef.h>
 #include <stdint.h>
@@ -81,9 +82,10 @@ static void steps_1_to_9(void)
     EXPECT(slavotuk_record(MODULE, 0, USER(1, 0), 4), 9);
     EXPECT(slavotuk_record(MODULE, 0, 0, 1, 1, 0, 4), 8);
     EXPECT(slavotuk_record(MODULE, 0, USER(1, 1), 5), 10);
-    EXPECT(slavotuk_record(MODULE, 0, USER(1, 1), 4), 0);
-    EXPECT(slavotuk_record(MODULE, 0, USER(1, 2), 3), 1);
-    EXPECT(slavotuk_kill(MODULE, 0, USER(1, 2), p, 48), 6);
+    EXPECT(slavotuk_record(MODULE, 0, USER(1, 1), 4), 9);
+    EXPECT(slavotuk_record(MODULE, 0, USER(1, 2), 4), 0);
+    EXPECT(slavotuk_record(MODULE, 0, USER(1, 3), 3), 1);
+    EXPECT(slavotuk_kill(MODULE, 0, USER(1, 3), p, 48), 6);
     EXPECT(slavotuk_kill(MODULE, 0, USER(0, 0), r, 48), 0);
     EXPECT(slavotuk_record(MODULE, 0, USER(1, 2), 4), 6);
 }
@@ -95,25 +97,26 @@ static void steps_10_and_11(void)
     uint16_t count = 9, credential = 9;
     EXPECT(slavotuk_list(MODULE, 0, USER(0, 1), 65535, response, 54, &length), 15);
     EXPECT(length, 0);
-    EXPECT(slavotuk_list(MODULE, 0, USER(0, 1), 65535, response, 55, &length), 0);
+    EXPECT(slavotuk_list(MODULE, 0, USER(0, 1), 65535, response, 55, &length), 9);
+    EXPECT(slavotuk_list(MODULE, 0, USER(0, 2), 65535, response, 55, &length), 0);
     EXPECT(length, 55);
     EXPECT(slavotuk_read_count(response, length, &count), 0);
     EXPECT(count, 1);
     EXPECT(slavotuk_read_row(response, length, 0, &credential, &type, name, 48), 0);
     EXPECT(credential + type + memcmp(name, p, 48), 0);
-    EXPECT(slavotuk_end(MODULE, 0, 0, 2, 1, 1), 0);
+    EXPECT(slavotuk_end(MODULE, 0, 0, 3, 1, 1), 0);
     EXPECT(slavotuk_open(MODULE, 1), 0);
     EXPECT(slavotuk_select(MODULE, 1, 0x10), 0);
     EXPECT(slavotuk_continue(MODULE, 1, 0, q, 48), 6);
     EXPECT(slavotuk_continue(MODULE, 1, 0, p, 48), 0);
-    EXPECT(state[48], 3);
+    EXPECT(state[48], 4);
 }
 
 static void the_other_entries(void)
 {
     uint8_t request[4];
     uint16_t wanted = 9;
-    EXPECT(slavotuk_set_word(MODULE, 1, USER(0, 3), 1, 0x80000010), 0);
+    EXPECT(slavotuk_set_word(MODULE, 1, USER(0, 4), 1, 0x80000010), 0);
     EXPECT(slavotuk_elevate(MODULE, 1, 1, q, 48, 1), 0);
     EXPECT(slavotuk_record(MODULE, 1, 1, 99, 99, 99, 31), 0);
     EXPECT(slavotuk_drop(MODULE, 1), 0);

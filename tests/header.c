@@ -16,9 +16,27 @@
 #define NAMED(last) named(last), SLAVOTUK_NAME_SIZE
 #define VALUES values, SLAVOTUK_MESSAGE_VALUES
 
+/* Where docs/STATE.md has the next number of the process at a place. */
+#define NEXT_NUMBER(place) (48 + 53 * (place))
+
 #define EXPECT(value, expected) expect(__LINE__, #value, (unsigned long)(value), (unsigned long)(expected))
 
+/*
+ * A call that is refused after the tests of its claim, the process standing at that place: its next number is one more, and no
+ * other byte of the state has changed. The same call is then out of turn.
+ */
+#define SPENDS(place, call, refusal)                                                                                           \
+    do {                                                                                                                       \
+        memcpy(kept, state, SLAVOTUK_STATE_SIZE);                                                                              \
+        EXPECT(call, refusal);                                                                                                 \
+        kept[NEXT_NUMBER(place)]++;                                                                                            \
+        EXPECT(memcmp(kept, state, SLAVOTUK_STATE_SIZE), 0);                                                                   \
+        EXPECT(call, SLAVOTUK_REFUSED_OUT_OF_TURN);                                                                            \
+        EXPECT(memcmp(kept, state, SLAVOTUK_STATE_SIZE), 0);                                                                   \
+    } while (0)
+
 static int disagreements = 0;
+static uint8_t kept[SLAVOTUK_STATE_SIZE];
 static uint8_t *state;
 static uint8_t *name;
 static uint8_t *listing;
@@ -143,7 +161,7 @@ static void check_nulls(void)
     EXPECT(slavotuk_end(NULL, 0, 0, 0, 0, 1, 0), SLAVOTUK_REFUSED_ARGUMENT);
     EXPECT(slavotuk_record(NULL, 0, 0, USER(0, 0), SLAVOTUK_CLASS_DEVICE_FIRST), SLAVOTUK_REFUSED_ARGUMENT);
     EXPECT(slavotuk_list(NULL, 0, 0, USER(0, 0), 0, listing, SLAVOTUK_LISTING_SIZE, &length), SLAVOTUK_REFUSED_ARGUMENT);
-    EXPECT(slavotuk_list(MODULE, 0, USER(0, 0), 0, NULL, 0, &length), SLAVOTUK_REFUSED_ROOM);
+    SPENDS(0, slavotuk_list(MODULE, 0, USER(0, 0), 0, NULL, 0, &length), SLAVOTUK_REFUSED_ROOM);
     EXPECT(length, 0);
     EXPECT(slavotuk_kill(NULL, 0, 0, USER(0, 0), NAMED(0)), SLAVOTUK_REFUSED_ARGUMENT);
     EXPECT(slavotuk_kill(MODULE, 0, USER(0, 0), NULL, 0), SLAVOTUK_REFUSED_ARGUMENT);
@@ -222,7 +240,9 @@ static void check_records(void)
     EXPECT(slavotuk_record(MODULE, 0, USER(4, 0), SLAVOTUK_CLASS_DEVICE_FIRST - 1), SLAVOTUK_REFUSED_ARGUMENT);
     EXPECT(slavotuk_record(MODULE, 0, USER(4, 0), SLAVOTUK_CLASS_DEVICE_FIRST), SLAVOTUK_DONE);
     EXPECT(slavotuk_record(MODULE, 0, USER(4, 0), SLAVOTUK_CLASS_DEVICE_FIRST), SLAVOTUK_REFUSED_OUT_OF_TURN);
-    EXPECT(slavotuk_record(MODULE, 0, USER(4, 1), SLAVOTUK_CLASS_DEVICE_LAST), SLAVOTUK_REFUSED_NOT_GRANTED);
+    SPENDS(4, slavotuk_record(MODULE, 0, USER(4, 1), SLAVOTUK_CLASS_DEVICE_LAST), SLAVOTUK_REFUSED_NOT_GRANTED);
+    EXPECT(slavotuk_record(MODULE, 0, SLAVOTUK_CLAIM_USER, 4, 2, 0, SLAVOTUK_CLASS_DEVICE_FIRST), SLAVOTUK_REFUSED_VERDICT);
+    EXPECT(slavotuk_record(MODULE, 0, USER(4, 2), SLAVOTUK_CLASS_DEVICE_FIRST), SLAVOTUK_DONE);
     EXPECT(slavotuk_record(MODULE, 0, USER(5, 0), SLAVOTUK_CLASS_DEVICE_LAST), SLAVOTUK_DONE);
     EXPECT(slavotuk_record(MODULE, 0, USER(5, 1), SLAVOTUK_CLASS_DEVICE_LAST + 1), SLAVOTUK_REFUSED_ARGUMENT);
     EXPECT(slavotuk_record(MODULE, 0, ELEVATED, SLAVOTUK_CLASS_DEVICE_FIRST), SLAVOTUK_REFUSED_NO_PROCESS);
@@ -233,18 +253,19 @@ static void check_records(void)
            SLAVOTUK_REFUSED_ARGUMENT);
 }
 
-/* The module's own classes: each is granted to one credential, and another one is refused what it allows. */
+/* The module's own classes: each is granted to one credential, and another one is refused what it allows, its number spent. */
 static void check_own_classes(void)
 {
     size_t length = 0;
-    EXPECT(slavotuk_list(MODULE, 0, USER(3, 0), 0, listing, SLAVOTUK_LISTING_SIZE, &length), SLAVOTUK_REFUSED_NOT_GRANTED);
-    EXPECT(slavotuk_list(MODULE, 0, USER(0, 0), 3, listing, SLAVOTUK_LISTING_SIZE, &length), SLAVOTUK_DONE);
-    EXPECT(slavotuk_kill(MODULE, 0, USER(3, 0), NAMED(6)), SLAVOTUK_REFUSED_NO_PROCESS);
+    SPENDS(3, slavotuk_list(MODULE, 0, USER(3, 0), 0, listing, SLAVOTUK_LISTING_SIZE, &length), SLAVOTUK_REFUSED_NOT_GRANTED);
+    EXPECT(slavotuk_list(MODULE, 0, USER(0, 1), 3, listing, SLAVOTUK_LISTING_SIZE, &length), SLAVOTUK_DONE);
+    SPENDS(3, slavotuk_kill(MODULE, 0, USER(3, 1), NAMED(6)), SLAVOTUK_REFUSED_NO_PROCESS);
     EXPECT(slavotuk_kill(MODULE, 0, USER(1, 0), NAMED(6)), SLAVOTUK_DONE);
-    EXPECT(slavotuk_end(MODULE, 0, 3, 0, 1, 1), SLAVOTUK_REFUSED_NOT_GRANTED);
+    SPENDS(3, slavotuk_end(MODULE, 0, 3, 2, 1, 1), SLAVOTUK_REFUSED_NOT_GRANTED);
     EXPECT(slavotuk_end(MODULE, 0, 2, 0, 1, 1), SLAVOTUK_DONE);
-    EXPECT(slavotuk_set_word(MODULE, 0, USER(0, 1), 6, 0), SLAVOTUK_REFUSED_NOT_GRANTED);
-    EXPECT(slavotuk_set_word(MODULE, 0, USER(3, 0), 6, 0), SLAVOTUK_DONE);
+    SPENDS(0, slavotuk_set_word(MODULE, 0, USER(0, 2), 6, 0), SLAVOTUK_REFUSED_NOT_GRANTED);
+    SPENDS(3, slavotuk_set_word(MODULE, 0, USER(3, 3), SLAVOTUK_CREDENTIALS - 1, 0), SLAVOTUK_REFUSED_CREDENTIAL);
+    EXPECT(slavotuk_set_word(MODULE, 0, USER(3, 4), 6, 0), SLAVOTUK_DONE);
 }
 
 /* Seven processes stand: five users, the elevation, the saved one. Five more fill the table. */
@@ -269,11 +290,13 @@ static void check_listing(void)
 {
     size_t length = 0;
     uint16_t count = 0;
-    EXPECT(slavotuk_list(MODULE, 0, USER(0, 1), SLAVOTUK_WANTED_ALL - 1, listing, SLAVOTUK_LISTING_SIZE, &length),
+    EXPECT(slavotuk_list(MODULE, 0, USER(0, 3), SLAVOTUK_WANTED_ALL - 1, listing, SLAVOTUK_LISTING_SIZE, &length),
            SLAVOTUK_REFUSED_ARGUMENT);
-    EXPECT(slavotuk_list(MODULE, 0, USER(0, 1), SLAVOTUK_WANTED_ALL, listing, SLAVOTUK_LISTING_SIZE - 1, &length),
+    memset(listing, 0xee, SLAVOTUK_LISTING_SIZE);
+    SPENDS(0, slavotuk_list(MODULE, 0, USER(0, 3), SLAVOTUK_WANTED_ALL, listing, SLAVOTUK_LISTING_SIZE - 1, &length),
            SLAVOTUK_REFUSED_ROOM);
-    EXPECT(slavotuk_list(MODULE, 0, USER(0, 1), SLAVOTUK_WANTED_ALL, listing, SLAVOTUK_LISTING_SIZE, &length),
+    EXPECT(length == 0 && listing[0] == 0xee && listing[SLAVOTUK_LISTING_SIZE - 1] == 0xee, 1);
+    EXPECT(slavotuk_list(MODULE, 0, USER(0, 4), SLAVOTUK_WANTED_ALL, listing, SLAVOTUK_LISTING_SIZE, &length),
            SLAVOTUK_DONE);
     EXPECT(length, SLAVOTUK_LISTING_SIZE);
     EXPECT(slavotuk_read_count(listing, length, &count), SLAVOTUK_DONE);
@@ -281,8 +304,8 @@ static void check_listing(void)
     EXPECT(type_at(length, 0), SLAVOTUK_TYPE_ACTIVE_USER);
     EXPECT(type_at(length, 2), SLAVOTUK_TYPE_SAVED_USER);
     EXPECT(type_at(length, 6), SLAVOTUK_TYPE_ACTIVE_ELEVATION);
-    EXPECT(slavotuk_list(MODULE, 0, USER(0, 2), 7, listing, SLAVOTUK_HEADER_SIZE - 1, &length), SLAVOTUK_REFUSED_ROOM);
-    EXPECT(slavotuk_list(MODULE, 0, USER(0, 2), 7, listing, SLAVOTUK_HEADER_SIZE, &length), SLAVOTUK_DONE);
+    SPENDS(0, slavotuk_list(MODULE, 0, USER(0, 5), 7, listing, SLAVOTUK_HEADER_SIZE - 1, &length), SLAVOTUK_REFUSED_ROOM);
+    EXPECT(slavotuk_list(MODULE, 0, USER(0, 6), 7, listing, SLAVOTUK_HEADER_SIZE, &length), SLAVOTUK_DONE);
     EXPECT(length, SLAVOTUK_HEADER_SIZE);
 }
 
@@ -492,10 +515,14 @@ static void check_image(void)
     free(restored);
 }
 
-/* The next number of the first process, written where docs/STATE.md has it, as 65535 records would leave it. */
+/* The next number of the first process, as 65534 claims would leave it. The last number is spent by a refused call. */
 static void check_spent(void)
 {
-    memset(state + 48, 0xff, 2);
+    state[NEXT_NUMBER(0)] = 0xfe;
+    state[NEXT_NUMBER(0) + 1] = 0xff;
+    EXPECT(slavotuk_kill(MODULE, 0, USER(0, 65534), NAMED(90)), SLAVOTUK_REFUSED_NO_PROCESS);
+    EXPECT(state[NEXT_NUMBER(0)] == 0xff && state[NEXT_NUMBER(0) + 1] == 0xff, 1);
+    EXPECT(slavotuk_kill(MODULE, 0, USER(0, 65534), NAMED(90)), SLAVOTUK_REFUSED_SPENT);
     EXPECT(slavotuk_end(MODULE, 0, 0, 65535, 1, 0), SLAVOTUK_REFUSED_SPENT);
 }
 

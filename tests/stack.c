@@ -60,10 +60,12 @@ static size_t use_of(void (*call)(void))
     return (size_t)(top - (stack + lowest));
 }
 
+static uint32_t word = UINT32_MAX;
+
 static void fresh(void)
 {
     const uint8_t provisioned[SLAVOTUK_CREDENTIALS] = {1, 1, 1, 1, 1, 1, 1, 1};
-    const uint32_t words[SLAVOTUK_CREDENTIALS] = {UINT32_MAX, UINT32_MAX, UINT32_MAX, UINT32_MAX};
+    const uint32_t words[SLAVOTUK_CREDENTIALS] = {word, word, word, word};
     slavotuk_fresh(MODULE, provisioned, SLAVOTUK_CREDENTIALS, words, SLAVOTUK_CREDENTIALS);
 }
 static void holds(void) { slavotuk_holds(MODULE); }
@@ -120,6 +122,15 @@ static void standing(unsigned count)
     named(99);
 }
 static void one(void) { standing(1); }
+
+/* Credentials 0 and 1 have a process each and no class: what they ask for is refused after the claim. */
+static void not_granted(void)
+{
+    word = 0;
+    one();
+    start0();
+    word = UINT32_MAX;
+}
 static void nearly_full(void) { standing(SLAVOTUK_PROCESSES - 1); }
 static void full(void) { standing(SLAVOTUK_PROCESSES); }
 static void killable(void) { full(); named(0); }
@@ -166,7 +177,7 @@ static void policies(void)
 static const struct {
     const char *entry;
     void (*call)(void);
-    void (*before[4])(void);
+    void (*before[5])(void);
 } measured[] = {
     {"slavotuk_fresh", fresh, {nothing, full}},
     {"slavotuk_holds", holds, {nothing, fresh, full}},
@@ -177,11 +188,11 @@ static const struct {
     {"slavotuk_continue", continue0, {nothing, opened, saved, full}},
     {"slavotuk_elevate", elevate0, {nothing, opened, nearly_full, full}},
     {"slavotuk_drop", drop0, {nothing, opened, elevated, full}},
-    {"slavotuk_end", end0, {nothing, opened, ending, full}},
-    {"slavotuk_record", record0, {nothing, opened, one, full}},
-    {"slavotuk_list", list0, {nothing, opened, one, full}},
+    {"slavotuk_end", end0, {nothing, opened, ending, full, not_granted}},
+    {"slavotuk_record", record0, {nothing, opened, one, full, not_granted}},
+    {"slavotuk_list", list0, {nothing, opened, one, full, not_granted}},
     {"slavotuk_kill", kill0, {nothing, opened, full, killable}},
-    {"slavotuk_set_word", set_word0, {nothing, opened, one, full}},
+    {"slavotuk_set_word", set_word0, {nothing, opened, one, full, not_granted}},
     {"slavotuk_image", image0, {nothing, fresh, full, all_saved}},
     {"slavotuk_restore", restore0, {no_image, imaged, damaged}},
     {"slavotuk_read_request", read_request0, {nothing, listed}},
@@ -201,7 +212,7 @@ int main(int count, char **words)
     int within = 1;
     for (size_t at = 0; at < sizeof measured / sizeof *measured; at++) {
         size_t most = 0;
-        for (size_t of = 0; of < 4 && measured[at].before[of] != NULL; of++) {
+        for (size_t of = 0; of < 5 && measured[at].before[of] != NULL; of++) {
             size_t use;
             memset(state, 0xff, sizeof state);
             measured[at].before[of]();

@@ -1,7 +1,7 @@
 //! That all three programs do the same, before anything is timed.
 
 use crate::input::{Call, Input};
-use crate::numbers::DONE;
+use crate::numbers::{DONE, NOT_GRANTED};
 use crate::ordinary;
 use crate::structured::Module;
 use slavotuk::entries::{self, RawClaim};
@@ -94,14 +94,14 @@ fn many_calls() -> Vec<(u32, RawClaim, u32)> {
     calls
 }
 
-/// The first accepted call on every slice that differs from the starting state in one byte: most hold no state.
+/// The calls whose claims pass on every slice that differs from the starting state in one byte: most hold no state.
 fn check_changed_bytes(input: &Input) -> Result<(), String> {
-    let call = accepted_call(input)?;
+    let calls = passing_calls(input)?;
     for at in 0..input.state.len() {
         for byte in 0..=255 {
             let mut changed = input.state.clone();
             changed[at] = byte;
-            check_slice(&changed, call)
+            check_slice(&changed, calls)
                 .map_err(|difference| format!("byte {at} changed to {byte}: {difference}"))?;
         }
     }
@@ -109,24 +109,37 @@ fn check_changed_bytes(input: &Input) -> Result<(), String> {
 }
 
 fn check_lengths(input: &Input) -> Result<(), String> {
-    let call = accepted_call(input)?;
+    let calls = passing_calls(input)?;
     for length in [0, 1, 44, 45, 680, 682, 734] {
         let mut changed = input.state.clone();
         changed.resize(length, 0);
-        check_slice(&changed, call)
+        check_slice(&changed, calls)
             .map_err(|difference| format!("a slice of {length} bytes: {difference}"))?;
     }
     Ok(())
 }
 
-fn accepted_call(input: &Input) -> Result<Call, String> {
-    let accepted = input.calls.iter().find(|call| call.number == DONE);
-    accepted
+/// Two calls on the starting state whose claims pass their check: one that is accepted, and one that is refused by its class and spends its number too.
+fn passing_calls(input: &Input) -> Result<[Call; 2], String> {
+    let accepted = input
+        .calls
+        .iter()
         .copied()
-        .ok_or_else(|| "the input has no accepted call".to_string())
+        .find(|call| call.number == DONE && call.claim.number == 0)
+        .ok_or("the input has no accepted call")?;
+    let refused = Call {
+        class: accepted.class + 1,
+        number: NOT_GRANTED,
+        ..accepted
+    };
+    Ok([accepted, refused])
 }
 
-fn check_slice(slice: &[u8], call: Call) -> Result<(), String> {
+fn check_slice(slice: &[u8], calls: [Call; 2]) -> Result<(), String> {
+    calls.iter().try_for_each(|call| check_call(slice, call))
+}
+
+fn check_call(slice: &[u8], call: &Call) -> Result<(), String> {
     let mut by_entry = slice.to_vec();
     let mut by_ordinary = slice.to_vec();
     let entry = entries::record(&mut by_entry, call.session, call.claim, call.class);

@@ -8,7 +8,7 @@ use slavotuk::entries::{self, RawClaim};
 /// How many processes stand, in the order they are reported.
 pub const STANDING: [usize; 3] = [0, 1, 12];
 
-/// How often each call is made in a round. Claims are in turn, and none may be spent.
+/// How often each call is made in a round. Claims are in turn, a refused kill's too, which spends its number, and none may be spent.
 const TURNS: u16 = 10_000;
 
 const LONGEST_LISTING: usize = 4 + 51 * 12;
@@ -80,7 +80,9 @@ pub const CASES: [Case; 9] = [
         name: "kill, refused: no such name",
         calls: 1,
         before: with_a_claim,
-        turn: |lent, _| entries::kill(&mut lent.state, 0, claim(0, 0), &NAME) == NO_PROCESS,
+        turn: |lent, number| {
+            entries::kill(&mut lent.state, 0, claim(0, number), &NAME) == NO_PROCESS
+        },
     },
     Case {
         name: "list, all",

@@ -9,8 +9,9 @@ pub const SEED: u64 = 20_261_115;
 /// The fewest calls an input has, so that it has a refusal of every kind.
 pub const FEWEST_CALLS: usize = 16;
 
-/// The most calls an input has. Half of them are accepted, all under one process where one stands, and none may be spent.
-pub const MOST_CALLS: usize = 2 * 65_534;
+/// The most calls an input has. The claims of nine in sixteen pass their check, those that are accepted and those that get 10, all under one process where one
+/// stands, and none may be spent.
+pub const MOST_CALLS: usize = 2 * 58_253;
 
 /// The numbers of the refused calls, each given as often as the others.
 const REFUSALS: [u32; 8] = [
@@ -265,7 +266,10 @@ impl Planner {
                     next + 1
                 }
             }
-            NOT_GRANTED => call.class += 1,
+            NOT_GRANTED => {
+                call.class += 1;
+                self.active[place].2 += 1;
+            }
             other => unreachable!("no call is planned to get {other}"),
         }
         call

@@ -18,7 +18,7 @@ slavotuk-bench: times the record entry beside ordinary Rust with the same answer
 usage: slavotuk-bench [--rounds N] [--calls N]
 
   --rounds N   rounds that are timed, after a warm-up (61)
-  --calls N    record calls in a round, 16 to 131068 (100000)
+  --calls N    record calls in a round, 16 to 116506 (100000)
   --help       this text
 
 Exit code: 0 where all answers agree, whatever the times are; 1 where they differ; 2 for bad usage.";
@@ -159,6 +159,7 @@ fn describe_input(options: &Options) {
     println!("One standing: the user process of credential 0 in session 0. Two names differ in one byte, the first or the last.");
     println!("Accepted: user claims in turn. Number 1: one of a session of 4, a kind of 2, a credential of 8, a verdict of 2, a class of 3, a class of 32, drawn evenly.");
     println!("Number 6: an elevated claim in session 1 or a user claim without a process, drawn evenly. Number 9: one too high or one too low, drawn evenly.");
+    println!("Number 10: user claims in turn, of a class that is not granted; they spend their numbers as the accepted ones do.");
     println!();
     println!("entry: slavotuk_record. ordinary: plain Rust on the same slice, which it tests on each call. structured: plain Rust that keeps a struct and tests no slice.");
 }

@@ -1,4 +1,4 @@
-//! The record call as an ordinary program: the slice is tested on each call, then read and written where it lies. Written from document 01 and
+//! The record call as an ordinary program: the slice is tested on each call, then read and written where it lies. Written from documents 01 and 02 and
 //! docs/STATE.md, in plain Rust.
 
 use crate::numbers::*;
@@ -28,7 +28,7 @@ pub fn record(state: &mut [u8], session: u32, claim: RawClaim, class: u32) -> u3
     if !are_arguments(session, claim, class) || !holds_state(state) {
         return ARGUMENT;
     }
-    match accepting_place(state, session, claim, class) {
+    match passing_place(state, session, claim) {
         Err(number) => number,
         Ok(place) => {
             let process = &mut state[PLACES_AT + place * PLACE_LENGTH..][..PLACE_LENGTH];
@@ -36,7 +36,12 @@ pub fn record(state: &mut [u8], session: u32, claim: RawClaim, class: u32) -> u3
                 let next = next_number(process) + 1;
                 process[NEXT_AT..NAME_AT].copy_from_slice(&next.to_le_bytes());
             }
-            DONE
+            let credential = process[CREDENTIAL_AT];
+            if is_granted(state, credential, class) {
+                DONE
+            } else {
+                NOT_GRANTED
+            }
         }
     }
 }
@@ -140,26 +145,21 @@ fn word(process: &[u8], at: usize) -> u128 {
 
 // ---- the checks of a record whose arguments are in order, on a slice that holds a state
 
-/// The place of the process under which a record is accepted, or the number of its refusal.
-fn accepting_place(state: &[u8], session: u32, claim: RawClaim, class: u32) -> Result<usize, u32> {
+/// The place of the process whose claim passes its check, or the number of the refusal.
+fn passing_place(state: &[u8], session: u32, claim: RawClaim) -> Result<usize, u32> {
     match state[session as usize] {
         0 => return Err(SESSION),
         1 => return Err(NO_VERSION),
         _ => {}
     }
-    let place = if claim.kind == 1 {
+    if claim.kind == 1 {
         find(state, |process| {
             process[TYPE_AT] == ELEVATION && u32::from(process[SESSION_AT]) == session
         })
-        .ok_or(NO_PROCESS)?
+        .ok_or(NO_PROCESS)
     } else {
-        claimed_place(state, session, claim)?
-    };
-    let credential = process_at(state, place)[CREDENTIAL_AT];
-    if !is_granted(state, credential, class) {
-        return Err(NOT_GRANTED);
+        claimed_place(state, session, claim)
     }
-    Ok(place)
 }
 
 fn are_arguments(session: u32, claim: RawClaim, class: u32) -> bool {

@@ -1,5 +1,5 @@
 //! The record call as a program that keeps its state in a struct between calls and tests no slice. It does less than the entry: nobody else can have
-//! written to its state. Written from document 01 and docs/STATE.md, in plain Rust.
+//! written to its state. Written from documents 01 and 02 and docs/STATE.md, in plain Rust.
 
 use crate::numbers::*;
 use slavotuk::entries::RawClaim;
@@ -138,9 +138,8 @@ impl Module {
         if claim.verdict == 0 {
             return Err(VERDICT);
         }
-        credential.check_class(class)?;
         process.next += 1;
-        Ok(())
+        credential.check_class(class)
     }
 }
 

@@ -1,7 +1,8 @@
 //! How deep the sequences went.
 
-use crate::call::{user_claim, Answer, Call, ENTRIES};
-use slavotuk_model::module::{Kind, Name, PLACES, SPENT};
+use crate::call::{Answer, Call, ENTRIES};
+use crate::claim::{passed, refusal_after, AFTER_THE_CLAIM};
+use slavotuk_model::module::{Kind, Name, Process, PLACES, SPENT};
 use slavotuk_model::Module;
 use std::collections::{HashMap, HashSet};
 
@@ -33,6 +34,9 @@ const POSSIBLE: [&[usize]; ENTRIES] = [
     /* read_row      */ &[0, 1, 14],
 ];
 
+/// What a claim that passed its check came to: the call was accepted, or refused in one of the ways after a claim.
+pub const OUTCOMES: usize = 1 + AFTER_THE_CLAIM.len();
+
 /// Counts of what came up.
 #[derive(Clone, Debug, Default)]
 pub struct Depth {
@@ -40,15 +44,20 @@ pub struct Depth {
     pub calls: u64,
     /// Sequences run.
     pub sequences: u64,
-    /// Records sent again.
+    /// Claims sent again.
     pub replays: u64,
-    /// Of these, those accepted as the record of another process whose turn it was.
+    /// Of these, those that passed as the claim of another process whose turn it was.
     pub replays_of_others: u64,
+    /// How often a claim was sent again, by what it came to at first and by the entry that was called in between.
+    pub sent_after: [[u64; ENTRIES]; OUTCOMES],
     answered: [[u64; NUMBERS]; ENTRIES],
     filled: u64,
     removed_from: [u64; PLACES],
     used_again: [u64; PLACES],
-    spent: u64,
+    /// The claims that passed, by what they came to.
+    claims: [u64; OUTCOMES],
+    /// Those after which their process is spent: accepted, refused.
+    spent: [u64; 2],
     saved: u64,
     continued: u64,
     continued_elsewhere: u64,
@@ -59,9 +68,9 @@ pub struct Depth {
     restored: [u64; 3],
     /// Their rows.
     restored_rows: u64,
-    /// Those of the processes from an image that were continued, and the records accepted under them.
+    /// Those of the processes from an image that were continued, and the claims that passed under them.
     restored_continued: u64,
-    restored_records: u64,
+    restored_claims: u64,
 }
 
 /// What has to be remembered within one sequence.
@@ -83,6 +92,7 @@ impl Depth {
         let call = &answer.made;
         self.calls += 1;
         self.answered[call.entry()][answer.number as usize] += 1;
+        self.note_claim(trail, answer, states);
         if answer.number != 0 {
             return;
         }
@@ -91,7 +101,6 @@ impl Depth {
             return self.note_restore(trail, image, after);
         }
         self.note_places(trail, before, after);
-        self.note_record(trail, call, before);
         match call {
             Call::Fresh { .. } => *trail = Trail::default(),
             Call::Image { image, length } => {
@@ -111,11 +120,6 @@ impl Depth {
                 self.elevated += 1
             }
             _ => {}
-        }
-        let now_spent =
-            |module: &Module| module.processes.iter().filter(|p| is_spent(p.kind)).count();
-        if now_spent(after) > now_spent(before) {
-            self.spent += 1;
         }
     }
 
@@ -162,14 +166,17 @@ impl Depth {
         trail.restored = after.processes.iter().map(|process| process.name).collect();
     }
 
-    fn note_record(&mut self, trail: &mut Trail, call: &Call, before: &Module) {
-        let of = user_claim(call).and_then(|(session, credential, _)| {
-            before.find_active_user(session as usize, credential as usize)
-        });
-        if let Some((place, _)) = of {
-            let name = &before.processes[place].name;
-            self.restored_records += u64::from(trail.restored.contains(name));
-        }
+    /// Of a claim that passed its check, whatever the call was answered afterwards.
+    fn note_claim(&mut self, trail: &Trail, answer: &Answer, [before, after]: [&Module; 2]) {
+        let Some(place) = passed(&answer.made, answer.number, before) else {
+            return;
+        };
+        let name = &before.processes[place].name;
+        let spent = |process: &Process| process.name == *name && is_spent(process.kind);
+        let spent = after.processes.iter().any(spent);
+        self.claims[outcome(&answer.made, answer.number)] += 1;
+        self.spent[usize::from(answer.number != 0)] += u64::from(spent);
+        self.restored_claims += u64::from(trail.restored.contains(name));
     }
 
     fn note_continue(&mut self, trail: &mut Trail, session: u32, name: &[u8]) {
@@ -185,13 +192,17 @@ impl Depth {
         self.sequences += other.sequences;
         self.replays += other.replays;
         self.replays_of_others += other.replays_of_others;
+        for (own, others) in self.sent_after.iter_mut().zip(&other.sent_after) {
+            add_each(own, others);
+        }
         for (own, others) in self.answered.iter_mut().zip(&other.answered) {
             add_each(own, others);
         }
         self.filled += other.filled;
         add_each(&mut self.removed_from, &other.removed_from);
         add_each(&mut self.used_again, &other.used_again);
-        self.spent += other.spent;
+        add_each(&mut self.claims, &other.claims);
+        add_each(&mut self.spent, &other.spent);
         self.saved += other.saved;
         self.continued += other.continued;
         self.continued_elsewhere += other.continued_elsewhere;
@@ -200,7 +211,7 @@ impl Depth {
         add_each(&mut self.restored, &other.restored);
         self.restored_rows += other.restored_rows;
         self.restored_continued += other.restored_continued;
-        self.restored_records += other.restored_records;
+        self.restored_claims += other.restored_claims;
     }
 
     /// How many images were restored.
@@ -240,19 +251,25 @@ impl Depth {
             true => Ok(what),
             false => Err(format!("{what}; at least {least} are wanted")),
         };
-        let (filled, spent) = (self.filled, self.spent);
+        let (filled, [spent, spent_refused]) = (self.filled, self.spent);
         let (saved, continued) = (self.saved, self.continued);
         let elsewhere = self.continued_elsewhere;
         let [newest, older, others] = self.restored;
         let (images, rows) = (self.images, self.restored_rows);
-        let (back, records) = (self.restored_continued, self.restored_records);
+        let (back, claims) = (self.restored_continued, self.restored_claims);
         vec![
             self.judge_possible(least),
             self.judge_impossible(),
             reached(filled, format!("the table became full {filled} times")),
             reached(fewest_removed, format!("removed from places 0 to 11: {removed}")),
             reached(fewest_again, format!("freed and used again, places 0 to 11: {again}")),
-            reached(spent, format!("a next number became 65,535 {spent} times")),
+            reached(
+                spent.min(spent_refused),
+                format!(
+                    "a next number became 65,535 {spent} times by an accepted call, {spent_refused} times by a refused one"
+                ),
+            ),
+            self.judge_refused(least),
             reached(
                 elsewhere,
                 format!(
@@ -271,9 +288,9 @@ impl Depth {
                 ),
             ),
             reached(
-                back.min(records),
+                back.min(claims),
                 format!(
-                    "{rows} processes came from an image, {back} were continued, {records} records accepted under them"
+                    "{rows} processes came from an image, {back} were continued, {claims} claims passed under them"
                 ),
             ),
         ]
@@ -306,6 +323,48 @@ impl Depth {
         }
     }
 
+    /// Whether each refusal after a claim came up.
+    fn judge_refused(&self, least: u64) -> Result<String, String> {
+        let [accepted, refused @ ..] = &self.claims;
+        let each: Vec<String> = (AFTER_THE_CLAIM.iter().zip(refused))
+            .map(|((entry, number), times)| format!("{entry} {number} {times} times"))
+            .collect();
+        let line = format!(
+            "{accepted} user claims accepted; refused after their check, which counts too: {}",
+            each.join(", ")
+        );
+        match refused.iter().all(|times| *times >= least) {
+            true => Ok(line),
+            false => Err(format!("{line}; at least {least} of each are wanted")),
+        }
+    }
+
+    /// Whether claims of each outcome were sent again after a call of each entry.
+    pub fn judge_replays(&self) -> Result<String, String> {
+        let mut fewest = (u64::MAX, String::new());
+        for (outcome, sent) in self.sent_after.iter().enumerate() {
+            let claim = match outcome {
+                0 => "accepted".to_string(),
+                _ => {
+                    let (entry, number) = AFTER_THE_CLAIM[outcome - 1];
+                    format!("{entry} {number}")
+                }
+            };
+            for (entry, times) in sent.iter().enumerate() {
+                let pair = format!("{claim} after {}", Call::ENTRIES[entry]);
+                fewest = fewest.min((*times, pair));
+            }
+        }
+        let line = format!(
+            "claims of {OUTCOMES} outcomes sent again after each of {ENTRIES} entries; the rarest, {}, {} times",
+            fewest.1, fewest.0
+        );
+        match fewest.0 {
+            0 => Err(line),
+            _ => Ok(line),
+        }
+    }
+
     fn judge_impossible(&self) -> Result<String, String> {
         for (entry, answered) in self.answered.iter().enumerate() {
             for (number, times) in answered.iter().enumerate() {
@@ -316,6 +375,14 @@ impl Depth {
             }
         }
         Ok("no other answer came up".to_string())
+    }
+}
+
+/// What a claim that passed its check came to: 0 where the call was accepted, else one more than the refusal's place.
+pub fn outcome(call: &Call, number: u32) -> usize {
+    match number {
+        0 => 0,
+        _ => 1 + refusal_after(call, number).expect("documents 01 and 02 have this refusal"),
     }
 }
 
@@ -341,6 +408,19 @@ mod tests {
         let judged = Depth::default().judge(1);
         let failed = judged.iter().filter(|line| line.is_err()).count();
         assert_eq!(failed, judged.len() - 1);
+        assert!(Depth::default().judge_replays().is_err());
+    }
+
+    #[test]
+    fn a_refusal_after_the_claim_that_never_came_up_is_told() {
+        let mut depth = Depth {
+            claims: [5; OUTCOMES],
+            ..Depth::default()
+        };
+        assert!(depth.judge_refused(5).is_ok());
+        depth.claims[3] = 4;
+        let told = depth.judge_refused(5).unwrap_err();
+        assert!(told.contains("list 10 4 times"), "{told}");
     }
 
     #[test]

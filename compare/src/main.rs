@@ -2,11 +2,13 @@
 #![forbid(unsafe_code)]
 
 mod call;
+mod claim;
 mod damage;
 mod depth;
 mod generate;
 mod image_test;
 mod images;
+mod known;
 mod messages;
 mod random;
 mod report;
@@ -32,7 +34,7 @@ usage: slavotuk-compare test [--calls N] [--seed S]
        slavotuk-compare replay SEED
 
 test    all tests: N calls in random sequences over 20 entries (5000000 unless given, at least 200000), with power cycles between
-        them, accepted records sent again, damaged states, fresh modules, images, the listing messages, and all messages of 004
+        them, claims that passed sent again, damaged states, fresh modules, images, the listing messages, and all messages of 004
         clause 9.2. The same seed makes the same calls; it is 1 unless given.
 soak    random sequences, damaged states and damaged images for N seconds (60 unless given), with a line now and then. The seed
         is taken from the clock unless given, and printed.

@@ -3,6 +3,7 @@
 use crate::damage;
 use crate::depth::Depth;
 use crate::image_test;
+use crate::known;
 use crate::messages;
 use crate::random::Random;
 use crate::report::Report;
@@ -17,7 +18,7 @@ use std::time::{Duration, Instant};
 /// Calls of a sequence.
 const SEQUENCE: usize = 1_000;
 
-/// Sequences whose accepted records are sent again after each call. They are shorter: each call brings some hundred others.
+/// Sequences whose claims are sent again after each call. They are shorter: each call brings some hundred others.
 const REPLAYED: usize = 600;
 const REPLAYED_PLAN: Plan = Plan {
     calls: 400,
@@ -37,7 +38,8 @@ pub fn test(calls: usize, seed: u64) -> ExitCode {
     println!("seed {seed}");
     test_sequences(calls, seed, &mut report);
     test_replays(seed, &mut report);
-    report.judge(sequence::run_to_spent());
+    report.judge(known::run_to_spent());
+    report.judge(known::run_the_relays_attack());
     damage::test(seed, &mut report);
     damage::test_fresh(seed, &mut report);
     image_test::test(seed, &mut report);
@@ -68,13 +70,14 @@ fn test_replays(seed: u64, report: &mut Report) {
     let (depth, failure) = run_all(&seeds(!seed, REPLAYED), REPLAYED_PLAN);
     let (calls, replays, others) = (depth.calls, depth.replays, depth.replays_of_others);
     let title = format!(
-        "accepted records sent again: {replays} times after {calls} calls with {} power cycles, none good again; {others} were another process's turn",
+        "claims that passed their check sent again: {replays} times after {calls} calls with {} power cycles, none passed again; {others} were another process's turn",
         depth.power_cycles()
     );
     match failure {
         Some(failure) => report.judge(Err(explain(&title, failure))),
         None => report.judge(Ok(title)),
     }
+    report.judge(depth.judge_replays());
 }
 
 fn judge_depth(depth: &Depth, least: u64, report: &mut Report) {
@@ -160,7 +163,7 @@ pub fn soak(time: Option<Duration>, seed: u64) -> ExitCode {
 
 fn progress(begun: Instant, depth: &Depth, damaged: u64) -> String {
     format!(
-        "{:.0} s: {} calls in {} sequences, {} records sent again, {damaged} calls on damaged states and with damaged images",
+        "{:.0} s: {} calls in {} sequences, {} claims sent again, {damaged} calls on damaged states and with damaged images",
         begun.elapsed().as_secs_f64(),
         depth.calls,
         depth.sequences,

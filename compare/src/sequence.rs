@@ -1,13 +1,13 @@
-//! Sequences of calls: drawn and run on both sides, with the accepted records sent again.
+//! Sequences of calls: drawn and run on both sides, with the claims that passed their check sent again.
 
 use crate::call::{session_mut, user_claim, Call};
-use crate::depth::{Depth, Trail};
+use crate::claim::passed;
+use crate::depth::{outcome, Depth, Trail};
 use crate::generate::Generator;
 use crate::random::Random;
 use crate::sides::Pair;
 use slavotuk::entries::RawClaim;
-use slavotuk_model::layout::STATE_LENGTH;
-use slavotuk_model::module::{Kind, Name, Process, CREDENTIALS, NAME_LENGTH, SPENT};
+use slavotuk_model::module::{Kind, Name, Process};
 use slavotuk_model::Module;
 
 /// The bytes that are lent, and the calls on them.
@@ -44,7 +44,7 @@ pub struct Failure {
 pub struct Plan {
     /// How many calls are drawn.
     pub calls: usize,
-    /// Whether accepted records are sent again after each call.
+    /// Whether claims that passed their check are sent again after each call.
     pub replays: bool,
 }
 
@@ -55,7 +55,7 @@ pub fn run(seed: u64, plan: Plan, depth: &mut Depth) -> Result<Pair, Box<Failure
     let lent = generator.lent();
     let mut pair = Pair::of(&lent);
     let mut calls = Vec::with_capacity(plan.calls);
-    let (mut trail, mut records) = (Trail::default(), Records::default());
+    let (mut trail, mut claims) = (Trail::default(), Claims::default());
     depth.sequences += 1;
     for at in 0..plan.calls {
         let before = pair.module().cloned();
@@ -81,9 +81,9 @@ pub fn run(seed: u64, plan: Plan, depth: &mut Depth) -> Result<Pair, Box<Failure
         let before = before.as_ref().unwrap_or(after);
         depth.note(&mut trail, &answer, [before, after]);
         if plan.replays {
-            records.note(call, answer.number, before, after);
-            let chosen = records.choose(&mut random);
-            if let Err(what) = records.send_again(&chosen, &pair, depth) {
+            claims.note(call, answer.number, before, after);
+            let chosen = claims.choose(&mut random);
+            if let Err(what) = claims.send_again(&chosen, &pair, call.entry(), depth) {
                 return Err(failure(lent, calls, Found { at, what }, find_replay));
             }
         }
@@ -105,79 +105,6 @@ fn failure(
     })
 }
 
-/// One process from its first number to its last: every number in turn is accepted, and then none.
-pub fn run_to_spent() -> Result<String, String> {
-    let mut pair = Pair::of(&[0; STATE_LENGTH]);
-    let mut made = 0u64;
-    let mut expect = |call: Call, number: u32| match pair.call(&call) {
-        Ok(answer) if answer.number == number => {
-            made += 1;
-            Ok(())
-        }
-        Ok(answer) => Err(format!("{call}: both answer {answer}, {number} is right")),
-        Err(difference) => Err(format!("{call}: {difference}")),
-    };
-    let session = 0;
-    expect(
-        Call::Fresh {
-            provisioned: vec![1; CREDENTIALS],
-            words: vec![u32::MAX; CREDENTIALS],
-        },
-        0,
-    )?;
-    expect(Call::Open { session }, 0)?;
-    expect(
-        Call::Select {
-            session,
-            version: 0x10,
-        },
-        0,
-    )?;
-    expect(
-        Call::Start {
-            session,
-            credential: 1,
-            name: vec![0; NAME_LENGTH],
-        },
-        0,
-    )?;
-    for number in 0..SPENT {
-        expect(protected_call(number), 0)?;
-    }
-    for number in 0..=SPENT {
-        expect(protected_call(number), 13)?;
-    }
-    expect(Call::Close { session }, 0)?;
-    Ok(format!(
-        "numbers 0 to 65534 of a process accepted in turn, then all refused: {made} calls"
-    ))
-}
-
-/// A record, a list or a set word of credential 1 in session 0.
-fn protected_call(number: u16) -> Call {
-    let claim = RawClaim::user(1, number);
-    match number % 3 {
-        0 => Call::Record {
-            session: 0,
-            claim,
-            class: 4,
-        },
-        1 => Call::List {
-            session: 0,
-            claim,
-            wanted: 1,
-            response: vec![0xee; 60].into(),
-            length: 1,
-        },
-        _ => Call::SetWord {
-            session: 0,
-            claim,
-            target: 2,
-            word: number.into(),
-        },
-    }
-}
-
 /// The first call at which the sides differ.
 pub fn find_difference(sequence: &Sequence) -> Option<Found> {
     let mut pair = Pair::of(&sequence.lent);
@@ -190,70 +117,69 @@ pub fn find_difference(sequence: &Sequence) -> Option<Found> {
     None
 }
 
-/// The first call after which an accepted record is good again. All records are tried, so it also finds what a random choice found.
+/// The first call after which a claim passes its check again. All claims are tried, so it also finds what a random choice found.
 pub fn find_replay(sequence: &Sequence) -> Option<Found> {
     let mut pair = Pair::of(&sequence.lent);
-    let mut records = Records::default();
+    let mut claims = Claims::default();
     for (at, call) in sequence.calls.iter().enumerate() {
         let before = pair.module().cloned();
         let answer = pair.call(call).ok()?;
         let after = pair.module()?;
-        records.note(call, answer.number, before.as_ref().unwrap_or(after), after);
-        let all: Vec<usize> = (0..records.accepted.len()).collect();
-        if let Err(what) = records.send_again(&all, &pair, &mut Depth::default()) {
+        claims.note(call, answer.number, before.as_ref().unwrap_or(after), after);
+        let all: Vec<usize> = (0..claims.passed.len()).collect();
+        let outcome = claims.send_again(&all, &pair, call.entry(), &mut Depth::default());
+        if let Err(what) = outcome {
             return Some(Found { at, what });
         }
     }
     None
 }
 
-/// The accepted records of the processes that still stand.
+/// The claims that passed their check, of the processes that still stand.
 #[derive(Default)]
-struct Records {
-    accepted: Vec<Record>,
+struct Claims {
+    passed: Vec<Passed>,
 }
 
-struct Record {
+struct Passed {
     call: Call,
-    /// The process it was accepted under.
+    /// The process whose claim it was.
     name: Name,
     credential: usize,
     number: u16,
+    /// What it came to; none where it was not seen to pass, being below an image's number.
+    outcome: Option<usize>,
 }
 
-impl Records {
+impl Claims {
     /// The newest so many are sent again after each call, and so many of the others.
     const NEWEST: usize = 64;
     const OTHERS: usize = 16;
 
-    /// Takes note of a call. A name may be given again once its process is removed and the count starts afresh, so a removed process's records are forgotten.
+    /// Takes note of a call. A name may be given again once its process is removed and the count starts afresh, so a removed process's claims are forgotten.
     fn note(&mut self, call: &Call, number: u32, before: &Module, after: &Module) {
-        if number != 0 {
-            return;
-        }
-        if let Call::Restore { .. } = call {
+        if let (Call::Restore { .. }, 0) = (call, number) {
             return self.note_restore(after);
         }
         let stands = |name: &Name| after.processes.iter().any(|process| process.name == *name);
-        self.accepted.retain(|record| stands(&record.name));
-        if let Some((session, credential, number)) = user_claim(call) {
-            let credential = credential as usize;
-            let found = before.find_active_user(session as usize, credential);
-            let name = before.processes[found.expect("it was accepted").0].name;
+        self.passed.retain(|claim| stands(&claim.name));
+        let place = passed(call, number, before);
+        if let (Some(place), Some((_, credential, claimed))) = (place, user_claim(call)) {
+            let name = before.processes[place].name;
             if stands(&name) {
-                self.accepted.push(Record {
+                self.passed.push(Passed {
                     call: call.clone(),
                     name,
-                    credential,
-                    number,
+                    credential: credential as usize,
+                    number: claimed,
+                    outcome: Some(outcome(call, number)),
                 });
             }
         }
     }
 
-    /// None below the image's number is accepted at all: beside the records that were accepted, the first and the last of those numbers are sent, in a kill that
-    /// is refused for its claim alone. From the image's number on, records are good again where the image is an older one; that flash returns the newest is
-    /// assumed.
+    /// None below the image's number passes at all: beside the claims that passed, the first and the last of those numbers are sent, in a kill that is refused
+    /// for its claim alone. From the image's number on, claims are good again where the image is an older one; that flash returns the newest is assumed.
     fn note_restore(&mut self, after: &Module) {
         let saved: Vec<(&Process, u16)> = after
             .processes
@@ -263,15 +189,15 @@ impl Records {
                 _ => None,
             })
             .collect();
-        self.accepted.retain(|record| {
+        self.passed.retain(|claim| {
             let below = |(process, next): &(&Process, u16)| {
-                process.name == record.name && record.number < *next
+                process.name == claim.name && claim.number < *next
             };
             saved.iter().any(below)
         });
         for (process, next) in saved {
             for number in [0, next - 1] {
-                self.accepted.push(Record {
+                self.passed.push(Passed {
                     call: Call::Kill {
                         session: 0,
                         claim: RawClaim::user(process.credential as u32, number),
@@ -280,45 +206,55 @@ impl Records {
                     name: process.name,
                     credential: process.credential,
                     number,
+                    outcome: None,
                 });
             }
         }
     }
 
     fn choose(&self, random: &mut Random) -> Vec<usize> {
-        let count = self.accepted.len();
-        let older = count.saturating_sub(Records::NEWEST);
+        let count = self.passed.len();
+        let older = count.saturating_sub(Claims::NEWEST);
         let mut chosen: Vec<usize> = (older..count).collect();
-        for _ in 0..Records::OTHERS.min(older) {
+        for _ in 0..Claims::OTHERS.min(older) {
             chosen.push(random.below(older));
         }
         chosen
     }
 
-    /// Sends the chosen records in each session to a copy of the archive's state; none may be accepted, and the copy stays as it was.
+    /// Sends the chosen claims in each session to a copy of the archive's state, after a call of this entry; none may pass its check, and the copy stays as it was.
     fn send_again(
         &mut self,
         chosen: &[usize],
         pair: &Pair,
+        after: usize,
         depth: &mut Depth,
     ) -> Result<(), String> {
         let module = pair.module().ok_or("no state is lent")?;
         let mut copy = pair.archive.clone();
         for place in chosen {
-            let record = &mut self.accepted[*place];
+            let claim = &mut self.passed[*place];
             for session in 0..4 {
-                if let Some(handle) = session_mut(&mut record.call) {
+                if let Some(handle) = session_mut(&mut claim.call) {
                     *handle = session;
                 }
-                let number = copy.answer(&record.call).number;
+                let number = copy.answer(&claim.call).number;
                 depth.replays += 1;
-                if number == 0 && record.is_due_to_another(module, session as usize) {
+                if let Some(outcome) = claim.outcome {
+                    depth.sent_after[outcome][after] += 1;
+                }
+                if passed(&claim.call, number, module).is_none() {
+                    if copy.state() != pair.archive.state() {
+                        return Err(format!("{number}, but the state changed: {}", claim.call));
+                    }
+                } else if claim.is_due_to_another(module, session as usize) {
                     depth.replays_of_others += 1;
                     copy = pair.archive.clone();
-                } else if number == 0 {
-                    return Err(format!("accepted a second time: {}", record.call));
-                } else if copy.state() != pair.archive.state() {
-                    return Err(format!("refused, but the state changed: {}", record.call));
+                } else {
+                    return Err(format!(
+                        "passed its check a second time, and got {number}: {}",
+                        claim.call
+                    ));
                 }
             }
         }
@@ -326,8 +262,8 @@ impl Records {
     }
 }
 
-impl Record {
-    /// A claim has no name in it: where the credential has another process in that session whose next number this is, it is that process's record. That the
+impl Passed {
+    /// A claim has no name in it: where the credential has another process in that session whose next number this is, it is that process's claim. That the
     /// signature is made for one process alone is the key unit's concern.
     fn is_due_to_another(&self, module: &Module, session: usize) -> bool {
         match module.find_active_user(session, self.credential) {

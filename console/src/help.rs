@@ -99,7 +99,10 @@ pub const COMMANDS: [Topic; 25] = [
         name: "records",
         form: "records S C FROM TO CLASS",
         short: "records with the numbers FROM to TO in turn",
-        more: &["Each carries a user claim with the verdict yes. It ends at the first refusal."],
+        more: &[
+            "Each carries a user claim with the verdict yes. It ends at the first refusal;",
+            "a 10 has spent its number.",
+        ],
     },
     Topic {
         name: "list",
@@ -200,7 +203,7 @@ pub const COMMANDS: [Topic; 25] = [
         more: &[
             "Its sessions are closed, and its processes saved ones, in the file's order and",
             "with its numbers. Active processes are lost. It has to be the newest image:",
-            "after an older one, numbers that were accepted since are accepted again.",
+            "after an older one, numbers that were spent since are good again.",
             "Refused with 14 where the file is no image; the module stays as it was.",
             "Else a new history begins.",
         ],
@@ -243,6 +246,8 @@ const PARTS: [Topic; 4] = [
         more: &[
             "'kind K C NUMBER yes|no' hands in any kind: 0 is a user's, 1 elevated.",
             "Refused with, in this order: an elevated one, 6; a user's, 5, 6, 13, 9, 8.",
+            "A user's that is not has spent its NUMBER, even where the call is refused with",
+            "what follows the claim's in its order: a second try takes the next number.",
         ],
     },
     Topic {

@@ -16,7 +16,7 @@ fn worked_steps_are_answered_as_document_01_says() {
     assert_eq!(out, expected);
 }
 
-/// The numbers that document 01 states in its steps, apart from the file of expected output.
+/// The numbers that document 01 states in its steps, apart from the file of expected output. Document 02 corrects the numbers of the claims, and no answer.
 const STATED: [&[u32]; 11] = [
     &[1, 0, 2],
     &[3, 4, 0, 0],
@@ -43,10 +43,12 @@ fn worked_steps_have_the_stated_numbers() {
     let numbers: Vec<u32> = history.lines().skip(1).map(number).collect();
     let stated = STATED.concat();
     assert_eq!(numbers[..stated.len()], stated);
-    // step 12: 4 calls for sessions 2 and 3, 12 for the processes, then 11, 0, 0; step 13
+    // step 12: 4 calls for sessions 2 and 3, 12 for the processes, then 11, 0, 0; step 13, by an accepted record and by a refused one; the relay
     let rest = &numbers[stated.len()..];
     assert_eq!(rest[..16], [0; 16]);
-    assert_eq!(rest[16..], [11, 0, 0, 0, 0, 13, 13, 13]);
+    assert_eq!(rest[16..24], [11, 0, 0, 0, 0, 13, 13, 13]);
+    assert_eq!(rest[24..29], [0, 10, 13, 13, 13]);
+    assert_eq!(rest[29..], [0, 6, 0, 0, 0, 9, 0]);
 }
 
 #[test]
@@ -122,7 +124,7 @@ fn calls_reach_the_call_they_name() {
 #[test]
 fn series_of_records_end_at_the_first_refusal() {
     let setup = "open 0\nselect 0 0x10\nstart 0 1 P\n";
-    let script = format!("{setup}records 0 1 0 9 4\nrecords 0 1 9 12 4\nrecords 0 1 10 10 5\nrecords 0 1 10 65535 4\nhistory\n");
+    let script = format!("{setup}records 0 1 0 9 4\nrecords 0 1 9 12 4\nrecords 0 1 10 10 5\nrecords 0 1 10 10 4\nrecords 0 1 11 65535 4\nhistory\n");
     let lines = answers(&script);
     let expected = [
         "0 done",
@@ -131,12 +133,14 @@ fn series_of_records_end_at_the_first_refusal() {
         "number 9 after 0 accepted records",
         "10 not granted",
         "number 10 after 0 accepted records",
+        "9 out of turn",
+        "number 10 after 0 accepted records",
         "13 spent",
-        "number 65535 after 65525 accepted records",
+        "number 65535 after 65524 accepted records",
     ];
-    assert_eq!(lines[3..11], expected);
+    assert_eq!(lines[3..13], expected);
     assert_eq!(
-        lines[15],
+        lines[17],
         "     4  records 0 1 0 9 4: 0 done, numbers 0 to 9, 10 records"
     );
 }

@@ -1,7 +1,7 @@
 /*
- * A small host of the module: it makes a fresh one, starts two processes, sends a record and its replay, and prints the
- * list of processes as a console would get it. Then it saves a process and goes through a power cycle. Every answer is
- * printed as its number and name.
+ * A small host of the module: it makes a fresh one, starts two processes, sends a record and its replay and one that is not
+ * granted, and prints the list of processes as a console would get it. Then it saves a process and goes through a power cycle.
+ * Every answer is printed as its number and name.
  */
 #include <stdint.h>
 #include <stdio.h>
@@ -67,7 +67,10 @@ static void start_processes(uint8_t state[SLAVOTUK_STATE_SIZE])
            SLAVOTUK_DONE);
 }
 
-/* Credential 1 sends a record with its number 0. Whoever sends the same bytes again is refused. */
+/*
+ * Credential 1 sends a record with its number 0. Whoever sends the same bytes again is refused. A record that is not granted
+ * spends its number as well, so that nobody can keep it for later: credential 1 goes on with number 2.
+ */
 static void send_records(uint8_t state[SLAVOTUK_STATE_SIZE])
 {
     expect("record, credential 1, number 0",
@@ -78,6 +81,18 @@ static void send_records(uint8_t state[SLAVOTUK_STATE_SIZE])
            slavotuk_record(state, SLAVOTUK_STATE_SIZE, SESSION, SLAVOTUK_CLAIM_USER, 1, 0, VERDICT_YES,
                            SLAVOTUK_CLASS_DEVICE_FIRST),
            SLAVOTUK_REFUSED_OUT_OF_TURN);
+    expect("number 1, a class not granted",
+           slavotuk_record(state, SLAVOTUK_STATE_SIZE, SESSION, SLAVOTUK_CLAIM_USER, 1, 1, VERDICT_YES,
+                           SLAVOTUK_CLASS_DEVICE_LAST),
+           SLAVOTUK_REFUSED_NOT_GRANTED);
+    expect("the same record again",
+           slavotuk_record(state, SLAVOTUK_STATE_SIZE, SESSION, SLAVOTUK_CLAIM_USER, 1, 1, VERDICT_YES,
+                           SLAVOTUK_CLASS_DEVICE_LAST),
+           SLAVOTUK_REFUSED_OUT_OF_TURN);
+    expect("record, credential 1, number 2",
+           slavotuk_record(state, SLAVOTUK_STATE_SIZE, SESSION, SLAVOTUK_CLAIM_USER, 1, 2, VERDICT_YES,
+                           SLAVOTUK_CLASS_DEVICE_FIRST),
+           SLAVOTUK_DONE);
 }
 
 /* The console's request, as it goes over the wire and arrives: the wanted credential. */
@@ -136,8 +151,8 @@ static void restore_module(uint8_t state[SLAVOTUK_STATE_SIZE], const uint8_t *fl
     memset(state, 0xff, SLAVOTUK_STATE_SIZE);
     expect("restore the module", slavotuk_restore(state, SLAVOTUK_STATE_SIZE, flash, length), SLAVOTUK_DONE);
     open_session(state);
-    expect("record, credential 1, number 1",
-           slavotuk_record(state, SLAVOTUK_STATE_SIZE, SESSION, SLAVOTUK_CLAIM_USER, 1, 1, VERDICT_YES,
+    expect("record, credential 1, number 3",
+           slavotuk_record(state, SLAVOTUK_STATE_SIZE, SESSION, SLAVOTUK_CLAIM_USER, 1, 3, VERDICT_YES,
                            SLAVOTUK_CLASS_DEVICE_FIRST),
            SLAVOTUK_REFUSED_NO_PROCESS);
 }

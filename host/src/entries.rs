@@ -1,7 +1,8 @@
 //! The entries of the archive as they are: numbers and byte slices in, one of document 01's numbers out.
 //!
 //! Every function takes every value. [`crate::Module`] has the same calls with types; these are for whoever has a state of their own to lend, or values
-//! that may be wrong. A refusal leaves the state and every buffer as they were.
+//! that may be wrong. A refusal leaves the state and every buffer as they were, but for the number of a user's claim that has passed its check, as
+//! [`crate::UserClaim`] says.
 
 mod declared {
     extern "C" {

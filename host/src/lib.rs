@@ -1,8 +1,9 @@
 //! The management login module of machines that banks rent, for programs in Rust.
 //!
 //! [`Module`] has document 01's calls with types: a session can't stand for a credential or a class, and a value out of its range can't be made. Every call
-//! returns a [`Refusal`] where it is refused, which leaves the state and the lent buffer as they were. Whoever has values that may be wrong turns them into
-//! typed ones (`Session::try_from(number)?` refuses as the module would), or hands them to [`entries`], where the module itself answers them with 1.
+//! returns a [`Refusal`] where it is refused, which leaves the state and the lent buffer as they were, but for the number that a [`UserClaim`] has spent.
+//! Whoever has values that may be wrong turns them into typed ones (`Session::try_from(number)?` refuses as the module would), or hands them to [`entries`],
+//! where the module itself answers them with 1.
 //!
 //! # An example
 //!
@@ -32,6 +33,12 @@
 //! module.record(session, claim, class)?;
 //! assert_eq!(module.record(session, claim, class), Err(Refusal::OutOfTurn));
 //!
+//! // a record of a class that is not granted spends its number too: number 1 is gone, and the next is 2
+//! let claim = UserClaim { number: 1, ..claim };
+//! assert_eq!(module.record(session, claim, Class::try_from(5)?), Err(Refusal::NotGranted));
+//! assert_eq!(module.record(session, claim, class), Err(Refusal::OutOfTurn));
+//! module.record(session, UserClaim { number: 2, ..claim }, class)?;
+//!
 //! // the manager kills the operator's process, and lists what is left
 //! let claim = UserClaim { credential: manager, number: 0, verdict: true };
 //! module.kill(session, claim, &Name([0x22; 48]))?;
@@ -41,7 +48,7 @@
 //! assert_eq!(rows.len(), 1);
 //! assert_eq!((rows[0].kind, rows[0].name), (Kind::ActiveUser, Name([0x11; 48])));
 //!
-//! // two calls were accepted under that process
+//! // two numbers of that process are spent
 //! assert_eq!(module.processes().next().unwrap().next_number(), Some(2));
 //! # Ok::<(), Refusal>(())
 //! ```

@@ -14,7 +14,8 @@ pub const VERSION_1_0: u8 = 0x10;
 
 /// The module, around the bytes of its state: its own, or lent ones, or such as are only looked at.
 ///
-/// It always holds a state: it is made fresh, from an image, or of bytes that were tested. Each call returns what document 01 says, and a refusal changes nothing.
+/// It always holds a state: it is made fresh, from an image, or of bytes that were tested. Each call returns what document 01 says, and a refusal changes nothing
+/// but the next number of a process whose claim has passed: [`UserClaim`] has when.
 ///
 /// ```
 /// use slavotuk::{Credential, Grants, Module, Name, Refusal, Session, VERSION_1_0};
@@ -283,7 +284,8 @@ impl<S: AsMut<[u8]>> Module<S> {
         answered(entries::drop(self.state.as_mut(), session.into()))
     }
 
-    /// Ends the claim's own process: it is saved where `keep` is set, else removed. Refusals: session, no version, the claim's, not granted.
+    /// Ends the claim's own process: it is saved where `keep` is set, else removed. Refusals: session, no version, the claim's, not granted. The last spends the
+    /// number, and the process stays active.
     pub fn end(&mut self, session: Session, claim: UserClaim, keep: bool) -> Result<(), Refusal> {
         answered(entries::end(
             self.state.as_mut(),
@@ -295,7 +297,8 @@ impl<S: AsMut<[u8]>> Module<S> {
         ))
     }
 
-    /// One record of a device operation. Refusals: argument where the class is the module's own, session, no version, the claim's, not granted.
+    /// One record of a device operation. Refusals: argument where the class is the module's own, session, no version, the claim's, not granted. The last spends
+    /// the number.
     ///
     /// The claim's refusals are, for an elevated claim, no process; for a user's: credential, no process, spent, out of turn, verdict.
     pub fn record(
@@ -314,9 +317,29 @@ impl<S: AsMut<[u8]>> Module<S> {
     }
 
     /// Writes the listing of the wanted processes to the front of the buffer; later bytes stay as they were. Refusals: session, no version, the claim's,
-    /// not granted, room.
+    /// not granted, room. The last two spend the number.
     ///
-    /// A buffer of [`FULL_LISTING_LENGTH`](crate::FULL_LISTING_LENGTH) bytes is long enough for every listing.
+    /// A buffer of [`FULL_LISTING_LENGTH`](crate::FULL_LISTING_LENGTH) bytes is long enough for every listing. Whoever tries again with a longer one needs a claim
+    /// with the next number:
+    ///
+    /// ```
+    /// use slavotuk::{Credential, Grants, Module, Name, Refusal, Session, UserClaim, Wanted, FULL_LISTING_LENGTH, VERSION_1_0};
+    ///
+    /// let (session, credential) = (Session::try_from(0)?, Credential::try_from(0)?);
+    /// let mut module = Module::fresh(&[Grants::of_word(15); 8])?;
+    /// module.open(session)?;
+    /// module.select(session, VERSION_1_0)?;
+    /// module.start(session, credential, &Name([0x11; 48]))?;
+    ///
+    /// let claim = UserClaim { credential, number: 0, verdict: true };
+    /// let mut buffer = [0xaa; FULL_LISTING_LENGTH];
+    /// assert_eq!(module.list(session, claim, Wanted::All, &mut buffer[..54]), Err(Refusal::Room));
+    /// assert_eq!(buffer, [0xaa; FULL_LISTING_LENGTH]);
+    /// assert_eq!(module.list(session, claim, Wanted::All, &mut buffer), Err(Refusal::OutOfTurn));
+    /// let claim = UserClaim { number: 1, ..claim };
+    /// assert_eq!(module.list(session, claim, Wanted::All, &mut buffer)?.rows().len(), 1);
+    /// # Ok::<(), Refusal>(())
+    /// ```
     pub fn list<'b>(
         &mut self,
         session: Session,
@@ -337,7 +360,7 @@ impl<S: AsMut<[u8]>> Module<S> {
     }
 
     /// Removes the process of that name. A process that the claim may not kill is answered as one that isn't there. Refusals: session, no version, the
-    /// claim's, no process.
+    /// claim's, no process. The last spends the number, so that a kill that was refused is not good once a process of that name has started.
     pub fn kill(
         &mut self,
         session: Session,
@@ -348,7 +371,7 @@ impl<S: AsMut<[u8]>> Module<S> {
         answered(entries::kill(state, session.into(), raw(claim), &name.0))
     }
 
-    /// Sets the grant word of a credential. Refusals: session, no version, the claim's, not granted, credential.
+    /// Sets the grant word of a credential. Refusals: session, no version, the claim's, not granted, credential. The last two spend the number.
     pub fn set_word(
         &mut self,
         session: Session,

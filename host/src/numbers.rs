@@ -6,7 +6,8 @@ use std::num::NonZeroU32;
 /// Defines the refusals: each has its number, its name in document 01, and what it says.
 macro_rules! refusals {
     ($($(#[$doc:meta])* $refusal:ident = $number:literal, $name:literal;)+) => {
-        /// Why a call was refused: document 01's numbers, from 1 on. A refusal leaves the state and the lent buffer as they were.
+        /// Why a call was refused: document 01's numbers, from 1 on. A refusal leaves the state and the lent buffer as they were, but for the number of a
+        /// [`UserClaim`](crate::UserClaim) that has passed its check.
         ///
         /// A later archive can refuse with numbers that this list does not have: they are refusals like the others, and keep their number.
         ///

@@ -186,6 +186,10 @@ impl fmt::Debug for Name {
 
 /// What a user claims: that the record is theirs, that it has this number, and that the key unit said yes or no to its signature.
 ///
+/// A claim that passes its check spends its number, even if the call is refused afterwards: by not granted, by room in a listing, by no process in a kill, by
+/// credential in setting a word. So the next claim has the next number after these, as after a call that is done; where no process or credential came of the
+/// claim's own check, there is no process to go on with. After every other refusal that document 01 has, the number is still the next.
+///
 /// ```
 /// use slavotuk::{Claim, Credential, UserClaim};
 ///

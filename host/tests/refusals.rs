@@ -1,11 +1,11 @@
-//! Each of document 01's numbers through the wrapper, and that a refusal changes nothing.
+//! Each of document 01's numbers through the wrapper, and what a refusal leaves: everything as it was, or one number spent.
 
 mod common;
 
 use common::*;
 use slavotuk::{
-    answered, write_request, Claim, Class, Listing, Module, Name, Refusal, UserClaim, Wanted,
-    FULL_LISTING_LENGTH,
+    answered, write_request, Claim, Class, Listing, Module, Name, Refusal, Standing, UserClaim,
+    Wanted, FULL_LISTING_LENGTH,
 };
 
 /// The names as document 01's table has them, from number 1 on.
@@ -67,6 +67,32 @@ fn refused<T: std::fmt::Debug>(
     assert_eq!(*module, before);
 }
 
+/// Asks for a refusal after the claim, in session 0: the process's next number is one more, and no other byte of the state has changed. The same claim is then
+/// out of turn, and that changes nothing.
+#[track_caller]
+fn refused_and_spent<T: std::fmt::Debug>(
+    module: &mut Module,
+    number: u32,
+    claim: UserClaim,
+    mut call: impl FnMut(&mut Module, UserClaim) -> Result<T, Refusal>,
+) {
+    let standing = Standing::ActiveUser {
+        session: session(0),
+        next_number: claim.number,
+    };
+    let place = module
+        .processes()
+        .position(|process| process.credential == claim.credential && process.standing == standing)
+        .unwrap();
+    let mut expected = module.bytes().to_vec();
+    let next = 45 + 53 * place + 3;
+    expected[next..next + 2].copy_from_slice(&(claim.number + 1).to_le_bytes());
+    let answer = call(module, claim).unwrap_err();
+    assert_eq!(answer.number(), number, "{answer}");
+    assert_eq!(module.bytes(), expected);
+    refused(module, 9, |m| call(m, claim));
+}
+
 #[test]
 fn argument() {
     let mut module = opened(&[0]);
@@ -115,13 +141,32 @@ fn credential_and_no_process() {
     refused(&mut module, 6, |m| m.continue_saved(s, credential(0), &p()));
     refused(&mut module, 6, |m| m.record(s, Claim::Elevated, class(4)));
     refused(&mut module, 6, |m| m.record(s, by(1, 0), class(4)));
-    module.start(s, credential(0), &p()).unwrap();
     refused(&mut module, 6, |m| m.kill(s, by(0, 0), &q()));
+    refused(&mut module, 6, |m| m.kill(s, Claim::Elevated, &q()));
+    refused(&mut module, 5, |m| {
+        m.set_word(s, by(2, 0), credential(0), 1)
+    });
+    module.start(s, credential(0), &p()).unwrap();
     // the process of session 0 serves no record of session 1
     refused(&mut module, 6, |m| m.kill(session(1), by(0, 0), &p()));
-    refused(&mut module, 5, |m| {
-        m.set_word(s, by(0, 0), credential(2), 1)
+    // behind the claim
+    refused_and_spent(&mut module, 6, by(0, 0), |m, claim| m.kill(s, claim, &q()));
+    refused_and_spent(&mut module, 5, by(0, 1), |m, claim| {
+        m.set_word(s, claim, credential(2), 1)
     });
+}
+
+/// A relay kept a kill that had got 6, and sends it again after the start of the process that it names.
+#[test]
+fn a_refused_kill_is_not_good_later() {
+    let mut module = opened(&[0]);
+    let s = session(0);
+    module.start(s, credential(0), &p()).unwrap();
+    let kept = by(0, 0);
+    refused_and_spent(&mut module, 6, kept, |m, claim| m.kill(s, claim, &r()));
+    module.start(s, credential(1), &r()).unwrap();
+    refused(&mut module, 9, |m| m.kill(s, kept, &r()));
+    module.kill(s, by(0, 1), &r()).unwrap();
 }
 
 #[test]
@@ -159,14 +204,33 @@ fn not_granted() {
     let mut module = opened(&[0]);
     let s = session(0);
     module.start(s, credential(1), &p()).unwrap();
-    refused(&mut module, 10, |m| m.record(s, by(1, 0), class(5)));
-    refused(&mut module, 10, |m| m.end(s, by(1, 0), true));
-    refused(&mut module, 10, |m| {
-        m.set_word(s, by(1, 0), credential(1), !0)
+    refused_and_spent(&mut module, 10, by(1, 0), |m, claim| {
+        m.record(s, claim, class(5))
     });
-    refused(&mut module, 10, |m| {
+    refused_and_spent(&mut module, 10, by(1, 1), |m, claim| m.end(s, claim, true));
+    refused_and_spent(&mut module, 10, by(1, 2), |m, claim| {
+        m.set_word(s, claim, credential(1), !0)
+    });
+    refused_and_spent(&mut module, 10, by(1, 3), |m, claim| {
         let mut buffer = [0; FULL_LISTING_LENGTH];
-        m.list(s, by(1, 0), Wanted::All, &mut buffer).map(|_| ())
+        m.list(s, claim, Wanted::All, &mut buffer).map(|_| ())
+    });
+    module.record(s, by(1, 4), class(4)).unwrap();
+}
+
+#[test]
+fn an_elevated_claim_spends_nothing() {
+    let mut module = opened(&[0]);
+    let s = session(0);
+    module.start(s, credential(1), &p()).unwrap();
+    module.elevate(s, credential(1), &q(), true).unwrap();
+    let claim = Claim::Elevated;
+    refused(&mut module, 10, |m| m.record(s, claim, class(5)));
+    refused(&mut module, 10, |m| m.set_word(s, claim, credential(2), 1));
+    refused(&mut module, 6, |m| m.kill(s, claim, &r()));
+    refused(&mut module, 15, |m| {
+        let own = Wanted::Of(credential(1));
+        m.list(s, claim, own, &mut [0; 105]).map(|_| ())
     });
 }
 
@@ -197,6 +261,23 @@ fn spent() {
 }
 
 #[test]
+fn spent_by_refusals() {
+    let mut module = opened(&[0]);
+    let s = session(0);
+    module.start(s, credential(1), &p()).unwrap();
+    for number in 0..65535 {
+        let refusal = module.record(s, by(1, number), class(5));
+        assert_eq!(refusal, Err(Refusal::NotGranted), "number {number}");
+    }
+    for number in 0..=65535 {
+        refused(&mut module, 13, |m| m.record(s, by(1, number), class(4)));
+    }
+    refused(&mut module, 13, |m| m.end(s, by(1, 65535), false));
+    module.close(s).unwrap();
+    assert_eq!(module.processes().len(), 0);
+}
+
+#[test]
 fn message_and_room() {
     assert_eq!(Listing::read(&[]), Err(Refusal::Message));
     assert_eq!(
@@ -208,11 +289,15 @@ fn message_and_room() {
     let mut module = opened(&[0]);
     module.start(session(0), credential(0), &p()).unwrap();
     let mut buffer = [0xaa; 54];
-    refused(&mut module, 15, |m| {
-        m.list(session(0), by(0, 0), Wanted::All, &mut buffer)
+    refused_and_spent(&mut module, 15, by(0, 0), |m, claim| {
+        m.list(session(0), claim, Wanted::All, &mut buffer)
             .map(|_| ())
     });
     assert_eq!(buffer, [0xaa; 54]);
+    let mut buffer = [0xaa; 55];
+    module
+        .list(session(0), by(0, 1), Wanted::All, &mut buffer)
+        .unwrap();
 }
 
 #[test]

@@ -1,4 +1,6 @@
-//! "What the module holds", "The claim" and "Calls, with the order of their checks".
+//! "What the module holds", "The claim" and "Calls, with the order of their checks", as document 02's orders leave them.
+//!
+//! A refusal leaves the module as it was, with one exception: a user claim that has passed its check is counted, also where the call is refused afterwards.
 //!
 //! The calls take arguments that are in their ranges; [`crate::entries`] refuses the others, since argument errors come first everywhere.
 
@@ -125,13 +127,6 @@ pub enum Wanted {
     All,
 }
 
-/// What the check of a claim found.
-struct Claimant {
-    credential: usize,
-    /// Where the user process stands whose next number is counted; an elevation has none.
-    counted: Option<usize>,
-}
-
 /// The module.
 #[derive(Clone, Debug, PartialEq, Eq)]
 pub struct Module {
@@ -250,16 +245,15 @@ impl Module {
         Ok(())
     }
 
-    /// End: claim; 10 if keep and class 2 is clear. Counts the claim; then the process is saved, or removed when not kept.
+    /// End: claim; 10 if keep and class 2 is clear. The process, its claim counted, is saved, or removed when not kept.
     pub fn end(&mut self, session: usize, claim: UserClaim, keep: bool) -> Result<(), Number> {
         self.check_version(session)?;
-        let place = self.check_user_claim(session, claim)?;
+        let (place, next) = self.take_user_claim(session, claim)?;
         refuse_when(
             keep && !self.grants(claim.credential, SAVE_OWN),
             Number::NotGranted,
         )?;
         if keep {
-            let next = claim.number + 1;
             self.processes[place].kind = Kind::SavedUser { next };
         } else {
             self.processes.remove(place);
@@ -270,10 +264,8 @@ impl Module {
     /// Record: claim; 10.
     pub fn record(&mut self, session: usize, claim: Claim, class: u32) -> Result<(), Number> {
         self.check_version(session)?;
-        let claimant = self.check_claim(session, claim)?;
-        refuse_unless(self.grants(claimant.credential, class), Number::NotGranted)?;
-        self.count(&claimant);
-        Ok(())
+        let credential = self.take_claim(session, claim)?;
+        refuse_unless(self.grants(credential, class), Number::NotGranted)
     }
 
     /// List: claim; 10 if wanted differs from the claim's credential and class 0 is clear; 15. Answers with the message.
@@ -285,30 +277,27 @@ impl Module {
         room: usize,
     ) -> Result<Vec<u8>, Number> {
         self.check_version(session)?;
-        let claimant = self.check_claim(session, claim)?;
+        let credential = self.take_claim(session, claim)?;
         refuse_when(
-            wanted != Wanted::Of(claimant.credential)
-                && !self.grants(claimant.credential, LIST_OTHERS),
+            wanted != Wanted::Of(credential) && !self.grants(credential, LIST_OTHERS),
             Number::NotGranted,
         )?;
         let message = messages::listing(&self.rows(wanted));
         refuse_when(room < message.len(), Number::Room)?;
-        self.count(&claimant);
         Ok(message)
     }
 
     /// Kill: claim; 6 if no process that this claim may kill has the name.
     pub fn kill(&mut self, session: usize, claim: Claim, name: Name) -> Result<(), Number> {
         self.check_version(session)?;
-        let claimant = self.check_claim(session, claim)?;
+        let credential = self.take_claim(session, claim)?;
         let place = self
             .processes
             .iter()
             .position(|process| {
-                same_name(&process.name, &name) && self.may_kill(claimant.credential, process)
+                same_name(&process.name, &name) && self.may_kill(credential, process)
             })
             .ok_or(Number::NoProcess)?;
-        self.count(&claimant);
         self.processes.remove(place);
         Ok(())
     }
@@ -322,13 +311,9 @@ impl Module {
         word: u32,
     ) -> Result<(), Number> {
         self.check_version(session)?;
-        let claimant = self.check_claim(session, claim)?;
-        refuse_unless(
-            self.grants(claimant.credential, SET_WORDS),
-            Number::NotGranted,
-        )?;
+        let credential = self.take_claim(session, claim)?;
+        refuse_unless(self.grants(credential, SET_WORDS), Number::NotGranted)?;
         self.check_provisioned(target)?;
-        self.count(&claimant);
         self.credentials[target].word = word;
         Ok(())
     }
@@ -430,27 +415,28 @@ impl Module {
         refuse_when(self.processes.len() == PLACES, Number::Full)
     }
 
-    fn check_claim(&self, session: usize, claim: Claim) -> Result<Claimant, Number> {
+    /// The check of a claim, by which a user's is counted. Elevated: 6 unless the session has an active elevation; the credential is that process's, and
+    /// nothing is counted. Answers with the claim's credential.
+    fn take_claim(&mut self, session: usize, claim: Claim) -> Result<usize, Number> {
         match claim {
             Claim::Elevated => {
                 let place = self.find_elevation(session).ok_or(Number::NoProcess)?;
-                Ok(Claimant {
-                    credential: self.processes[place].credential,
-                    counted: None,
-                })
+                Ok(self.processes[place].credential)
             }
             Claim::User(user) => {
-                let place = self.check_user_claim(session, user)?;
-                Ok(Claimant {
-                    credential: user.credential,
-                    counted: Some(place),
-                })
+                self.take_user_claim(session, user)?;
+                Ok(user.credential)
             }
         }
     }
 
-    /// User: 5; 6 unless that credential has an active user process in that session; 13; 9; 8. Answers with the process's place.
-    fn check_user_claim(&self, session: usize, claim: UserClaim) -> Result<usize, Number> {
+    /// User: 5; 6 unless that credential has an active user process in that session; 13; 9; 8. A claim that passes its check adds one to that process's next
+    /// number, even if the call is refused afterwards; one that does not adds nothing. Answers with the process's place and the number that is next then.
+    fn take_user_claim(
+        &mut self,
+        session: usize,
+        claim: UserClaim,
+    ) -> Result<(usize, u16), Number> {
         self.check_provisioned(claim.credential)?;
         let (place, next) = self
             .find_active_user(session, claim.credential)
@@ -458,15 +444,8 @@ impl Module {
         refuse_when(next == SPENT, Number::Spent)?;
         refuse_when(claim.number != next, Number::OutOfTurn)?;
         refuse_unless(claim.verdict, Number::Verdict)?;
-        Ok(place)
-    }
-
-    /// An accepted record adds one to its process's next number.
-    fn count(&mut self, claimant: &Claimant) {
-        if let Some(place) = claimant.counted {
-            if let Kind::ActiveUser { next, .. } = &mut self.processes[place].kind {
-                *next += 1;
-            }
-        }
+        let next = next + 1;
+        self.processes[place].kind = Kind::ActiveUser { session, next };
+        Ok((place, next))
     }
 }

@@ -1,5 +1,5 @@
-//! Document 01's thirteen steps, "Sequences on both sides of each bound", through the model's entries. They run on from each other, so each test begins with
-//! the steps before its own.
+//! Document 01's thirteen steps, "Sequences on both sides of each bound", with the numbers that document 02 corrects, through the model's entries. They run on
+//! from each other, so each test begins with the steps before its own. Behind them stands what document 02 asks of a refused claim.
 
 use crate::entries::{self, Lent, RawClaim};
 use crate::layout::STATE_LENGTH;
@@ -83,11 +83,11 @@ impl Steps {
         assert_eq!(steps.record(user(1, 0), 4), 9);
         assert_eq!(steps.record(denied(1, 1), 4), 8);
         assert_eq!(steps.record(user(1, 1), 5), 10);
-        assert_eq!(steps.record(user(1, 1), 4), 0);
-        assert_eq!(steps.record(user(1, 2), 3), 1);
-        assert_eq!(steps.record(user(1, 2), 31), 10);
-        assert_eq!(steps.kill(user(1, 2), p()), 6);
-        assert_eq!(steps.kill(user(1, 2), q()), 6);
+        assert_eq!(steps.record(user(1, 2), 4), 0);
+        assert_eq!(steps.record(user(1, 3), 3), 1);
+        assert_eq!(steps.record(user(1, 3), 31), 10);
+        assert_eq!(steps.kill(user(1, 4), p()), 6);
+        assert_eq!(steps.kill(user(1, 5), q()), 6);
         steps
     }
 
@@ -97,8 +97,8 @@ impl Steps {
         assert_eq!(steps.kill(user(0, 0), r()), 0);
         assert_eq!(steps.record(user(1, 2), 4), 6);
         assert_eq!(steps.list(user(0, 1), 65_535, &mut [0; 54]), (15, 0));
-        assert_eq!(steps.list(user(0, 1), 65_535, &mut [0; 55]), (0, 55));
-        assert_eq!(steps.end(user(0, 2), 1), 0);
+        assert_eq!(steps.list(user(0, 2), 65_535, &mut [0; 55]), (0, 55));
+        assert_eq!(steps.end(user(0, 3), 1), 0);
         steps
     }
 
@@ -159,6 +159,10 @@ impl Steps {
         (number, length)
     }
 
+    fn set_word(&mut self, claim: RawClaim, target: u32) -> u32 {
+        entries::set_word(&mut self.lent, 0, claim, target, 0x14)
+    }
+
     fn end(&mut self, claim: RawClaim, keep: u32) -> u32 {
         entries::end(
             &mut self.lent,
@@ -186,7 +190,7 @@ fn steps_4_to_8() {
         steps.module().processes[1].kind,
         Kind::ActiveUser {
             session: 0,
-            next: 2
+            next: 6
         }
     );
 }
@@ -207,7 +211,8 @@ fn step_10() {
     assert_eq!(steps.list(user(0, 1), 65_535, &mut response), (15, 0));
     assert_eq!(response, [0xee; 54]);
     let mut response = [0xee; 57];
-    assert_eq!(steps.list(user(0, 1), 65_535, &mut response), (0, 55));
+    assert_eq!(steps.list(user(0, 1), 65_535, &mut response), (9, 0));
+    assert_eq!(steps.list(user(0, 2), 65_535, &mut response), (0, 55));
     assert_eq!(response[..7], [0x0e, 0, 1, 0, 0, 0, 0]);
     assert_eq!(response[7..55], p());
     assert_eq!(response[55..], [0xee; 2]);
@@ -220,12 +225,12 @@ fn step_11() {
         steps.module().processes[0].kind,
         Kind::ActiveUser {
             session: 1,
-            next: 3
+            next: 4
         }
     );
 }
 
-/// Saved P is continued at 3 as if nothing had been; active P is lost.
+/// Saved P is continued at 4 as if nothing had been; active P is lost.
 #[test]
 fn step_11_with_power_cycles() {
     let mut steps = Steps::after_the_save();
@@ -234,7 +239,7 @@ fn step_11_with_power_cycles() {
     assert_eq!(image[..10], [3, 0, 8, 0, 10, 0, 1, 0, 42, 0]);
     assert_eq!(image[10..18], [15, 0, 0, 0, 16, 0, 0, 0]);
     assert_eq!(image[18..42], [0; 24]);
-    assert_eq!(image[42..46], [0, 0, 3, 0]);
+    assert_eq!(image[42..46], [0, 0, 4, 0]);
     assert_eq!(image[46..], p());
     assert_eq!(steps.start(0, r()), 2);
     steps.continue_p();
@@ -250,7 +255,7 @@ fn step_12() {
     let mut steps = Steps::after_step_11();
     for byte in 1..=11 {
         assert_eq!(steps.start(1, name_of(byte)), 0);
-        let saved = entries::set_word(&mut steps.lent, 1, user(0, 2 + u16::from(byte)), 1, 0x14);
+        let saved = entries::set_word(&mut steps.lent, 1, user(0, 3 + u16::from(byte)), 1, 0x14);
         assert_eq!(saved, 0);
         assert_eq!(steps.end(user(1, 0), 1), 0);
     }
@@ -258,7 +263,7 @@ fn step_12() {
     assert_eq!(steps.start(2, q()), 5);
     assert_eq!(steps.start(1, p()), 12);
     assert_eq!(steps.start(1, q()), 11);
-    let killed = entries::kill(&mut steps.lent, 1, user(0, 14), &name_of(5));
+    let killed = entries::kill(&mut steps.lent, 1, user(0, 15), &name_of(5));
     assert_eq!(killed, 0);
     assert_eq!(steps.start(1, q()), 0);
     assert_eq!(steps.module().processes[11].name, q());
@@ -275,4 +280,109 @@ fn step_13() {
         assert_eq!(steps.record(user(1, number), 4), 13, "number {number}");
     }
     assert_eq!(steps.record(denied(1, SPENT), 4), 13);
+}
+
+/// A spent process is reached by refusals as well: number 65,534 refused with 10 leaves 65,535.
+#[test]
+fn step_13_by_refusals() {
+    let mut steps = Steps::after_step_3();
+    assert_eq!(steps.start(1, r()), 0);
+    for number in 0..SPENT {
+        assert_eq!(steps.record(user(1, number), 5), 10, "number {number}");
+    }
+    for number in 0..=SPENT {
+        assert_eq!(steps.record(user(1, number), 4), 13, "number {number}");
+    }
+    assert_eq!(steps.end(user(1, SPENT), 0), 13);
+}
+
+/// A relay kept a signed kill that had got 6, and sends it again once the named process has started.
+#[test]
+fn the_relays_attack() {
+    let mut steps = Steps::after_step_3();
+    assert_eq!(steps.kill(user(0, 0), r()), 6);
+    assert_eq!(steps.start(1, r()), 0);
+    let before = steps.lent.clone();
+    assert_eq!(steps.kill(user(0, 0), r()), 9);
+    assert_eq!(steps.lent, before);
+    assert_eq!(steps.kill(user(0, 1), r()), 0);
+}
+
+/// A refusal after the claim: whose user claim it is, the answer, and the call.
+type Refused = (u32, u32, fn(&mut Steps, RawClaim) -> u32);
+
+/// All of them, end's first: it takes no elevated claim. Credential 0 has class 3, and 1 has class 4 alone.
+const AFTER_THE_CLAIM: [Refused; 7] = [
+    (1, 10, |steps, claim| steps.end(claim, 1)),
+    (1, 10, |steps, claim| steps.record(claim, 5)),
+    (1, 10, |steps, claim| steps.list(claim, 0, &mut [0; 616]).0),
+    (1, 15, |steps, claim| steps.list(claim, 1, &mut [0; 54]).0),
+    (1, 6, |steps, claim| steps.kill(claim, q())),
+    (1, 10, |steps, claim| steps.set_word(claim, 1)),
+    (0, 5, |steps, claim| steps.set_word(claim, 2)),
+];
+
+/// P and R stand, of credentials 0 and 1.
+fn two_standing() -> Steps {
+    let mut steps = Steps::after_step_3();
+    assert_eq!(steps.start(1, r()), 0);
+    steps
+}
+
+#[test]
+fn a_refusal_after_the_claim_spends_the_number_and_nothing_else() {
+    for (credential, number, call) in AFTER_THE_CLAIM {
+        let mut steps = two_standing();
+        let mut expected = steps.module().clone();
+        expected.processes[credential as usize].kind = Kind::ActiveUser {
+            session: 0,
+            next: 1,
+        };
+        assert_eq!(call(&mut steps, user(credential, 0)), number);
+        assert_eq!(*steps.module(), expected);
+        assert_eq!(call(&mut steps, user(credential, 0)), 9);
+        assert_eq!(*steps.module(), expected);
+        assert_eq!(call(&mut steps, user(credential, 1)), number);
+    }
+}
+
+#[test]
+fn a_refusal_by_the_claims_own_check_leaves_everything() {
+    for (credential, _, call) in AFTER_THE_CLAIM {
+        let mut steps = two_standing();
+        let before = steps.lent.clone();
+        assert_eq!(call(&mut steps, denied(credential, 0)), 8);
+        assert_eq!(call(&mut steps, user(credential, 1)), 9);
+        assert_eq!(call(&mut steps, user(2, 0)), 5);
+        assert_eq!(steps.lent, before);
+    }
+}
+
+#[test]
+fn an_argument_error_leaves_everything() {
+    let mut steps = two_standing();
+    let before = steps.lent.clone();
+    assert_eq!(steps.end(user(1, 0), 2), 1);
+    assert_eq!(steps.record(user(1, 0), 32), 1);
+    assert_eq!(steps.list(user(1, 0), 8, &mut [0; 616]), (1, 0));
+    let short = entries::kill(&mut steps.lent, 0, user(1, 0), &p()[..47]);
+    assert_eq!(short, 1);
+    assert_eq!(steps.set_word(user(0, 0), 8), 1);
+    assert_eq!(steps.lent, before);
+}
+
+#[test]
+fn an_elevated_claim_counts_nothing() {
+    let elevated = RawClaim {
+        kind: 1,
+        ..user(0, 0)
+    };
+    for (credential, number, call) in &AFTER_THE_CLAIM[1..] {
+        let mut steps = two_standing();
+        let lent = &mut steps.lent;
+        assert_eq!(entries::elevate(lent, 0, *credential, &name_of(3), 1), 0);
+        let before = steps.lent.clone();
+        assert_eq!(call(&mut steps, elevated), *number);
+        assert_eq!(steps.lent, before);
+    }
 }

@@ -1,5 +1,5 @@
 -- "Numbers a call can answer": a table for each number of a call. Each has calls that meet the number's condition, and beside them the same with that
--- condition mended and no other thing changed. 14, and 15 of the request's writer, are in crate wire.
+-- condition mended and no other thing changed, but for the number of a claim where the first has spent it. 14, and 15 of the request's writer, are in crate wire.
 -- Assumes nothing.
 use Prim.Native.Nat.{ℕ}
 use mathlib.Core.Path.{refl}
@@ -30,7 +30,7 @@ toFour =
     ∷ (End (session 1) (userYes 0 0) true ⇒ 0)
     ∷ []
 
-abbrev four : State
+abbrev pub four : State
 four = after (fresh pairs) toFour
 
 -- 1: "handle over 3, credential over 7 (65535 is allowed as the wanted credential of a listing), class of a record under 4 or over 31"
@@ -105,7 +105,7 @@ unprovisioned =
     ∷ (Record (session 0) (yes′ 2 0) (class 4) ⇒ 5)
     ∷ (Record (session 0) (yes′ 1 0) (class 4) ⇒ 0)
     ∷ (SetWord (session 0) (yes′ 0 0) (credential 2) 16 ⇒ 5)
-    ∷ (SetWord (session 0) (yes′ 0 0) (credential 1) 16 ⇒ 0)
+    ∷ (SetWord (session 0) (yes′ 0 1) (credential 1) 16 ⇒ 0)
     ∷ []
 
 -- 6: "none of the stated kind": the claim's, continue's, drop's and kill's. Credential 1 has no process in session 1, and P is not its own
@@ -122,8 +122,8 @@ noProcess =
     ∷ (Drop (session 1) ⇒ 6)
     ∷ (Drop (session 0) ⇒ 0)
     ∷ (Kill (session 0) (yes′ 1 1) P ⇒ 6)
-    ∷ (Kill (session 0) (yes′ 1 1) Q ⇒ 6)
-    ∷ (Kill (session 0) (yes′ 1 1) R ⇒ 0)
+    ∷ (Kill (session 0) (yes′ 1 2) Q ⇒ 6)
+    ∷ (Kill (session 0) (yes′ 1 3) R ⇒ 0)
     ∷ []
 
 -- 7: "see start, continue, elevate"
@@ -165,15 +165,15 @@ outOfTurn =
 abbrev notGranted : List Step
 notGranted =
     (Record (session 0) (yes′ 1 0) (class 5) ⇒ 10)
-    ∷ (Record (session 0) (yes′ 1 0) (class 4) ⇒ 0)
-    ∷ (List′ (session 0) (yes′ 1 1) Every 616 ⇒ 10)
-    ∷ (List′ (session 0) (yes′ 1 1) (Only (credential 0)) 616 ⇒ 10)
-    ∷ (List′ (session 0) (yes′ 1 1) (Only (credential 1)) 616 ⇒ 0)
+    ∷ (Record (session 0) (yes′ 1 1) (class 4) ⇒ 0)
+    ∷ (List′ (session 0) (yes′ 1 2) Every 616 ⇒ 10)
+    ∷ (List′ (session 0) (yes′ 1 3) (Only (credential 0)) 616 ⇒ 10)
+    ∷ (List′ (session 0) (yes′ 1 4) (Only (credential 1)) 616 ⇒ 0)
     ∷ (List′ (session 0) (yes′ 0 0) (Only (credential 1)) 616 ⇒ 0)
-    ∷ (SetWord (session 0) (yes′ 1 2) (credential 1) 20 ⇒ 10)
-    ∷ (End (session 0) (userYes 1 2) true ⇒ 10)
+    ∷ (SetWord (session 0) (yes′ 1 5) (credential 1) 20 ⇒ 10)
+    ∷ (End (session 0) (userYes 1 6) true ⇒ 10)
     ∷ (SetWord (session 0) (yes′ 0 1) (credential 1) 20 ⇒ 0)
-    ∷ (End (session 0) (userYes 1 2) true ⇒ 0)
+    ∷ (End (session 0) (userYes 1 7) true ⇒ 0)
     ∷ []
 
 -- 11: "12 processes stand"; begun with these
@@ -217,6 +217,16 @@ spent =
     ∷ (Record (session 0) (yes′ 1 0) (class 4) ⇒ 0)
     ∷ []
 
+-- order 3: 65,534 refused with 10 is spent as well
+abbrev spentRefused : List Step
+spentRefused =
+    (Record (session 0) (yes′ 1 65534) (class 5) ⇒ 10)
+    ∷ (Record (session 0) (yes′ 1 65534) (class 4) ⇒ 13)
+    ∷ (Record (session 0) (yes′ 1 65535) (class 4) ⇒ 13)
+    ∷ (Record (session 0) (yes′ 1 0) (class 4) ⇒ 13)
+    ∷ (End (session 0) (userYes 1 65535) false ⇒ 13)
+    ∷ []
+
 -- ".. or the closing of its session"
 abbrev spentClosed : List Step
 spentClosed = (Start (session 1) (credential 0) R ⇒ 12) ∷ (Close (session 0) ⇒ 0) ∷ (Start (session 1) (credential 0) R ⇒ 0) ∷ []
@@ -225,7 +235,7 @@ spentClosed = (Start (session 1) (credential 0) R ⇒ 12) ∷ (Close (session 0)
 abbrev room : List Step
 room =
     (List′ (session 0) (yes′ 0 0) Every 207 ⇒ 15)
-    ∷ (List′ (session 0) (yes′ 0 0) Every 208 ⇒ 0)
+    ∷ (List′ (session 0) (yes′ 0 1) Every 208 ⇒ 0)
     ∷ []
 
 pub record Conditions : Type 0 where
@@ -243,6 +253,7 @@ pub record Conditions : Type 0 where
   pub number-11 : Answered twelve full
   pub number-12 : Answered four nameTaken
   pub number-13 : Answered (cameTo 65534) spent
+  pub spent-refused : Answered (cameTo 65534) spentRefused
   pub spent-closed : Answered (cameTo 65535) spentClosed
   pub number-15 : Answered four room
 
@@ -264,6 +275,7 @@ conditions =
       number-11 = refl;
       number-12 = refl;
       number-13 = refl;
+      spent-refused = refl;
       spent-closed = refl;
       number-15 = refl;
     }

@@ -1,14 +1,22 @@
--- A call's number is that of the tests ahead of its claim, or where that is 0 the claim's, or where that is 0 that of the tests after it.
+-- A call's number is that of the tests ahead of its claim, or where that is 0 the claim's, or where that is 0 that of the tests after it. So what a refusal leaves
+-- follows from whether the claim passed.
 -- Assumes nothing.
 use Prim.Native.Nat.{ℕ}
-use mathlib.Core.Path.{_≡_, refl}
+use mathlib.Core.Path.{_≡_, refl, sym, ap, _∙_}
+use mathlib.Core.Bool.{Bool, true, false, not}
 use lib.Dec.{eqb}
-use borrow.Author.Tests.{eqb-true}
-use Rattle.lists.proofs.Tests.{split}
-use Rattle.claims.specs.Numbers.{_▸_}
+use borrow.Author.Tests.{eqb-true, eqb-false, eq-eqb, ne-eqb}
+use Rattle.lists.proofs.Tests.{split, and-left}
+use Rattle.names.specs.declared.Session.{Session}
+use Rattle.claims.specs.Numbers.{_when_, _unless_, _▸_}
+use Rattle.claims.specs.Claim.{admission, passedBy}
+use Rattle.claims.specs.declared.Admission.{Admission}
+use Rattle.claims.specs.declared.Claim.{Claim}
 use Rattle.claims.specs.declared.State.{State}
-use Rattle.calls.specs.Calls.{Call, Open, Close, Drop, Select, Start, Continue, Elevate, End, Record, List′, Kill, SetWord, number}
-use Rattle.calls.specs.Protected.{protection, aheadNumber, protectedNumber, restNumber}
+use Rattle.claims.proofs.Laws.{stop, pass, rows, clear-first, clear-rest}
+use Rattle.calls.specs.Calls.{Call, Open, Close, Drop, Select, Start, Continue, Elevate, End, Record, List′, Kill, SetWord, number, counted, effect, Free, Under, protection, aheadNumber, protectedNumber, restNumber, passes, refusedAfter, charged, left, outcome}
+use Rattle.calls.specs.declared.Outcome.{Outcome}
+use Rattle.calls.proofs.Laws.{outcome-done, refusal-leaves, checked-number}
 
 alone : (n : ℕ) → n ≡ n ▸ 0 ▸ 0
 unfolding _▸_
@@ -28,3 +36,148 @@ number-cut st (Record s claim class) = refl
 number-cut st (List′ s claim wanted room) = refl
 number-cut st (Kill s claim name) = refl
 number-cut st (SetWord s claim c word) = refl
+
+-- ---- whether the claim passed
+module _ (st : State) (call : Call) where
+  -- up to the claim's, that one too
+  abbrev pub upTo : ℕ
+  upTo = aheadNumber st call ▸ protectedNumber st (protection call)
+
+  in-two : number st call ≡ upTo ▸ restNumber st call
+  in-two = number-cut st call ∙ sym (rows (aheadNumber st call) (protectedNumber st (protection call)) (restNumber st call))
+
+  pub number-passed : passes st call ≡ true → number st call ≡ restNumber st call
+  unfolding passes
+  number-passed p = in-two ∙ pass (restNumber st call) (eqb-true upTo 0 p)
+
+  pub number-stop : passes st call ≡ false → number st call ≡ upTo
+  unfolding passes
+  number-stop p = in-two ∙ stop (restNumber st call) (eqb-false upTo 0 p)
+
+  -- a call whose claim did not pass is refused, and leaves the state as it was
+  pub number-stopped : passes st call ≡ false → number st call ≡ 0 → ⊥
+  unfolding passes
+  number-stopped p z = eqb-false upTo 0 p (sym (number-stop p) ∙ z)
+
+  -- and one that is accepted has passed
+  pub number-done : number st call ≡ 0 → passes st call ≡ true
+  number-done z = split (passes st call) (λ p. p) (λ p. absurd (number-stopped p z))
+
+  pub left-stopped : passes st call ≡ false → left st call ≡ st
+  unfolding left refusedAfter
+  left-stopped p = rw p
+
+  pub outcome-stopped : passes st call ≡ false → outcome st call .state ≡ st
+  outcome-stopped p = refusal-leaves st call (number-stopped p) ∙ left-stopped p
+
+  -- one that is refused afterwards leaves it with the claim counted; where there is none, as it was
+  pub refused-after : passes st call ≡ true → (number st call ≡ 0 → ⊥) → refusedAfter st call ≡ true
+  unfolding refusedAfter
+  refused-after p h = rw (p, ne-eqb (restNumber st call) 0 (λ z. h (number-passed p ∙ z)))
+
+  pub passed-ahead : passes st call ≡ true → aheadNumber st call ≡ 0
+  unfolding passes
+  passed-ahead p = clear-first (aheadNumber st call) (protectedNumber st (protection call)) (eqb-true upTo 0 p)
+
+  pub passed-claim : passes st call ≡ true → protectedNumber st (protection call) ≡ 0
+  unfolding passes
+  passed-claim p = clear-rest (aheadNumber st call) (protectedNumber st (protection call)) (eqb-true upTo 0 p)
+
+  pub after-passed : refusedAfter st call ≡ true → protectedNumber st (protection call) ≡ 0
+  unfolding refusedAfter
+  after-passed r = passed-claim (and-left _ _ r)
+
+  pub left-passed : passes st call ≡ true → (number st call ≡ 0 → ⊥) → left st call ≡ charged st (protection call)
+  unfolding left
+  left-passed p h = rw (refused-after p h)
+
+  pub left-free : protection call ≡ Free → left st call ≡ st
+  unfolding left charged
+  left-free f = split (refusedAfter st call) (λ e. rw (e, f)) (λ e. rw e)
+
+-- what a call leaves that does nothing but count its claim, accepted or refused afterwards
+pub only-counted : (st : State) (call : Call) {s : Session} {claim : Claim} → protection call ≡ Under s claim → effect st call ≡ counted st s claim → passes st call ≡ true
+    → outcome st call .state ≡ counted st s claim
+unfolding charged
+only-counted st call e w p =
+    split (eqb (number st call) 0)
+    (λ z. ap (λ (o : Outcome). o .state) (outcome-done st call (eqb-true (number st call) 0 z)) ∙ w)
+    (λ z. let h = eqb-false (number st call) 0 z in refusal-leaves st call h ∙ left-passed st call p h ∙ rw e)
+
+-- ---- ahead of a claim a call is refused with 1 alone, and after it never
+module _ (st : State) where
+  some-unless : (b : Bool) → (1 unless b ≡ 0 → ⊥) → 1 unless b ≡ 1
+  unfolding _unless_
+  some-unless true h = absurd (h refl)
+  some-unless false h = refl
+
+  pub ahead-one : (call : Call) {s : Session} {claim : Claim} → protection call ≡ Under s claim → (aheadNumber st call ≡ 0 → ⊥) → aheadNumber st call ≡ 1
+  unfolding protection aheadNumber
+  ahead-one (Open s) e h = cc
+  ahead-one (Close s) e h = cc
+  ahead-one (Drop s) e h = cc
+  ahead-one (Select s byte) e h = cc
+  ahead-one (Start s c name) e h = cc
+  ahead-one (Continue s c name) e h = cc
+  ahead-one (Elevate s c name verdict) e h = cc
+  ahead-one (End s u keep) e h = absurd (h refl)
+  ahead-one (Record s claim class) e h = some-unless _ h
+  ahead-one (List′ s claim wanted room) e h = some-unless _ h
+  ahead-one (Kill s claim name) e h = absurd (h refl)
+  ahead-one (SetWord s claim c word) e h = some-unless _ h
+
+-- what holds of 0, 5, 6, 10 and 15 holds of the tests after a claim
+module _ (P : ℕ → Type 0) (none : P 0) where
+  by-when : (n : ℕ) (b : Bool) → P n → P (n when b)
+  unfolding _when_
+  by-when n true h = h
+  by-when n false h = none
+
+  by-unless : (n : ℕ) (b : Bool) → P n → P (n unless b)
+  unfolding _unless_
+  by-unless n true h = none
+  by-unless n false h = h
+
+  by-then : (n m : ℕ) → P n → P m → P (n ▸ m)
+  unfolding _▸_
+  by-then n m h k = split (eqb n 0) (λ e. rw e k) (λ e. rw e h)
+
+  pub rest-by : P 5 → P 6 → P 10 → P 15 → (st : State) (call : Call) → P (restNumber st call)
+  unfolding restNumber
+  rest-by p5 p6 p10 p15 st (Open s) = none
+  rest-by p5 p6 p10 p15 st (Close s) = none
+  rest-by p5 p6 p10 p15 st (Drop s) = none
+  rest-by p5 p6 p10 p15 st (Select s byte) = none
+  rest-by p5 p6 p10 p15 st (Start s c name) = none
+  rest-by p5 p6 p10 p15 st (Continue s c name) = none
+  rest-by p5 p6 p10 p15 st (Elevate s c name verdict) = none
+  rest-by p5 p6 p10 p15 st (End s u keep) = by-when 10 _ p10
+  rest-by p5 p6 p10 p15 st (Record s claim class) = by-unless 10 _ p10
+  rest-by p5 p6 p10 p15 st (List′ s claim wanted room) = by-then _ _ (by-unless 10 _ p10) (by-when 15 _ p15)
+  rest-by p5 p6 p10 p15 st (Kill s claim name) = by-unless 6 _ p6
+  rest-by p5 p6 p10 p15 st (SetWord s claim c word) = by-then _ _ (by-unless 10 _ p10) (by-unless 5 _ p5)
+
+module _ (st : State) (call : Call) {s : Session} {claim : Claim} (w : protection call ≡ Under s claim) {by : Admission} (a : by ≡ admission st s claim) where
+  prot-is : protectedNumber st (protection call) ≡ by .number
+  unfolding protectedNumber
+  prot-is = rw (w, checked-number st s claim a)
+
+  pub passed-by : passedBy by (number st call) ≡ passes st call
+  unfolding passedBy passes
+  passed-by =
+      split (eqb (by .number) 0)
+      (λ z.
+      let q : protectedNumber st (protection call) ≡ 0 = prot-is ∙ eqb-true (by .number) 0 z in
+      split (eqb (aheadNumber st call) 0)
+      (λ y.
+      let e : aheadNumber st call ▸ protectedNumber st (protection call) ≡ 0 = pass _ (eqb-true _ _ y) ∙ q in
+      let p : passes st call ≡ true = unfold passes in eq-eqb _ _ e in
+      rw (z, eq-eqb _ _ e, number-passed st call p, rest-by (λ n. eqb n 1 ≡ false) refl refl refl refl refl st call))
+      (λ y.
+      let h : aheadNumber st call ≡ 0 → ⊥ = eqb-false _ _ y in
+      let n : number st call ≡ 1 = number-cut st call ∙ stop _ h ∙ ahead-one st call w h in
+      let e : aheadNumber st call ▸ protectedNumber st (protection call) ≡ 1 = stop _ h ∙ ahead-one st call w h in
+      rw (z, n, e)))
+      (λ z.
+      let h : aheadNumber st call ▸ protectedNumber st (protection call) ≡ 0 → ⊥ = λ y. eqb-false (by .number) 0 z (sym prot-is ∙ clear-rest _ _ y) in
+      rw (z, ne-eqb _ _ h))

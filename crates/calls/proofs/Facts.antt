@@ -2,7 +2,7 @@
 -- Assumes nothing.
 use Prim.Native.Nat.{ℕ, zero, suc, _≤_}
 use mathlib.Core.Path.{_≡_, refl, sym, ap, _∙_}
-use mathlib.Core.Bool.{Bool, true, false, _||_}
+use mathlib.Core.Bool.{Bool, true, false, cond, not, _&&_, _||_}
 use mathlib.Core.List.{List, [], _∷_}
 use native.Mathlib.Omega.{arith}
 use borrow.Author.Tests.{eqb-true}
@@ -32,7 +32,7 @@ use Rattle.claims.specs.declared.UserClaim.{UserClaim}
 use Rattle.claims.proofs.Laws.{unless-false, clear-first, clear-rest, clear-when, clear-unless}
 use Rattle.calls.specs.declared.Answer.the-variants.{Done, RefusedClaim}
 use Rattle.calls.specs.declared.Outcome.{Outcome}
-use Rattle.calls.specs.Calls.{Call, Open, Close, Select, Start, Continue, Elevate, Drop, End, Record, List′, Kill, SetWord, killOthers, isVersion, hasNamed, reach, number, effect, answerNumber, refusal, outcome}
+use Rattle.calls.specs.Calls.{Call, Open, Close, Select, Start, Continue, Elevate, Drop, End, Record, List′, Kill, SetWord, killOthers, isVersion, hasNamed, reach, number, counted, effect, protection, aheadNumber, protectedNumber, restNumber, passes, refusedAfter, charged, left, answerNumber, refusal, outcome}
 use Rattle.calls.specs.Run.{step}
 use Rattle.calls.proofs.Laws.{outcome-done, outcome-refused, answer-number}
 
@@ -150,15 +150,16 @@ module _ (st : State) (s : Session) (claim : Claim) (name : Name) (h : hasNamed 
   unfolding number
   unreached = ap (λ (n : ℕ). admitted st s claim ▸ n) (unless-false 6 h)
 
-  refused : outcome st (Kill s claim name) ≡ record { state = st; answer = RefusedClaim (admitted st s claim ▸ 6) claim }
-  unfolding refusal
-  refused = outcome-refused st (Kill s claim name) (λ e. some (clear-rest (admitted st s claim) 6 (sym unreached ∙ e))) ∙ rw unreached
-    where
-      six : ℕ
-      six = 6
+  six : _≡_ {A = ℕ} 6 0 → ⊥
+  six e = omega arith
 
-      some : six ≡ 0 → ⊥
-      some e = omega arith
+  unreached-not : number st (Kill s claim name) ≡ 0 → ⊥
+  unreached-not e = six (clear-rest (admitted st s claim) 6 (sym unreached ∙ e))
+
+  -- whatever the name: its answer, and what it leaves
+  refused : outcome st (Kill s claim name) ≡ record { state = cond (eqb (admitted st s claim) 0) (counted st s claim) st; answer = RefusedClaim (admitted st s claim ▸ 6) claim }
+  unfolding refusal protection left refusedAfter passes aheadNumber protectedNumber restNumber charged _▸_
+  refused = outcome-refused st (Kill s claim name) unreached-not ∙ rw (unreached, unless-false 6 h) (split (eqb (admitted st s claim) 0) (λ e. rw e) (λ e. rw e))
 
 module _ (st : State) (s : Session) (claim : Claim) (c : Credential) (mine : claimant st s claim ≡ c) (lacks : granted st c killOthers ≡ false) where
   own : reach st (claimant st s claim) ≡ Of c

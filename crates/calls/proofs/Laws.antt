@@ -22,41 +22,31 @@ use Rattle.claims.proofs.Laws.{admission-number, admission-credential, admissio
 use Rattle.calls.specs.declared.Answer.the-variants.{Done}
 use Rattle.calls.specs.declared.Outcome.{Outcome}
 use Rattle.calls.specs.declared.Wanted.{Wanted}
-use Rattle.calls.specs.Calls.{Call, Open, Close, Select, Start, Continue, Elevate, Drop, End, Record, List′, Kill, SetWord, saveOwn, listOthers, killOthers, setWords, isDevice, isWanted, hasNamed, lacksSavingBy, lacksSaving, isOwn, mayListBy, mayList, isShort, reachBy, reach, number, effect, refusal, answerNumber, outcome}
+use Rattle.calls.specs.Calls.{Call, End, Record, List′, Kill, SetWord, saveOwn, listOthers, killOthers, setWords, isDevice, isWanted, hasNamed, lacksSavingBy, lacksSaving, isOwn, mayListBy, mayList, isShort, reachBy, reach, number, effect, Protection, Free, Under, protection, left, refusal, answerNumber, outcome}
 
--- an accepted call does what it does; a refused one hands the state back as it was
+-- an accepted call does what it does; a refused one leaves what a refusal leaves
 pub outcome-done : (st : State) (call : Call) → number st call ≡ 0 → outcome st call ≡ record { state = effect st call; answer = Done }
 unfolding outcome
 outcome-done st call e = rw (eq-eqb (number st call) 0 e)
 
-pub outcome-refused : (st : State) (call : Call) → (number st call ≡ 0 → ⊥) → outcome st call ≡ record { state = st; answer = refusal call (number st call) }
+pub outcome-refused : (st : State) (call : Call) → (number st call ≡ 0 → ⊥) → outcome st call ≡ record { state = left st call; answer = refusal (protection call) (number st call) }
 unfolding outcome
 outcome-refused st call h = rw (ne-eqb (number st call) 0 h)
 
-pub refusal-leaves : (st : State) (call : Call) → (number st call ≡ 0 → ⊥) → outcome st call .state ≡ st
+pub refusal-leaves : (st : State) (call : Call) → (number st call ≡ 0 → ⊥) → outcome st call .state ≡ left st call
 refusal-leaves st call h = ap (λ (o : Outcome). o .state) (outcome-refused st call h)
 
 -- whatever the call, the answer has the number
-refusal-number : (call : Call) (n : ℕ) → answerNumber (refusal call n) ≡ n
+refusal-number : (w : Protection) (n : ℕ) → answerNumber (refusal w n) ≡ n
 unfolding refusal
-refusal-number (Open s) n = refl
-refusal-number (Close s) n = refl
-refusal-number (Select s byte) n = refl
-refusal-number (Start s c name) n = refl
-refusal-number (Continue s c name) n = refl
-refusal-number (Elevate s c name verdict) n = refl
-refusal-number (Drop s) n = refl
-refusal-number (End s u keep) n = refl
-refusal-number (Record s claim class) n = refl
-refusal-number (List′ s claim wanted room) n = refl
-refusal-number (Kill s claim name) n = refl
-refusal-number (SetWord s claim c word) n = refl
+refusal-number Free n = refl
+refusal-number (Under s claim) n = refl
 
 pub answer-number : (st : State) (call : Call) → answerNumber (outcome st call .answer) ≡ number st call
 answer-number st call =
     split (eqb (number st call) 0)
     (λ e. let z : number st call ≡ 0 = eqb-true (number st call) 0 e in rw (outcome-done st call z, z))
-    (λ e. let h : number st call ≡ 0 → ⊥ = eqb-false (number st call) 0 e in ap (λ (o : Outcome). answerNumber (o .answer)) (outcome-refused st call h) ∙ refusal-number call (number st call))
+    (λ e. let h : number st call ≡ 0 → ⊥ = eqb-false (number st call) 0 e in ap (λ (o : Outcome). answerNumber (o .answer)) (outcome-refused st call h) ∙ refusal-number (protection call) (number st call))
 
 -- ---- the number of a protected call, by what the check of its claim came to
 module _ (st : State) (s : Session) (claim : Claim) {by : Admission} (e : by ≡ admission st s claim) where

@@ -1,9 +1,10 @@
 pub mod Laws
+pub mod Cut
 pub mod Rules
 pub mod Facts
 pub mod Sequences
 pub mod Worked
 pub mod Orders
 pub mod Conditions
+pub mod Spending
 pub mod Unique
-pub mod Cut

@@ -125,7 +125,7 @@ records =
     ∷ (Record (session 0) (no′ 1 1) (class 5) ⇒ 9)
     ∷ (Record (session 0) (no′ 1 0) (class 5) ⇒ 8)
     ∷ (Record (session 0) (yes′ 1 0) (class 5) ⇒ 10)
-    ∷ (Record (session 0) (yes′ 1 0) (class 4) ⇒ 0)
+    ∷ (Record (session 0) (yes′ 1 1) (class 4) ⇒ 0)
     ∷ []
 
 -- the same, the claim elevated: "6 unless the session has an active elevation; the credential is that process's", which gets its class 4 only then
@@ -148,7 +148,7 @@ ends =
     ∷ (End (session 0) (userNo 1 1) true ⇒ 9)
     ∷ (End (session 0) (userNo 1 0) true ⇒ 8)
     ∷ (End (session 0) (userYes 1 0) true ⇒ 10)
-    ∷ (End (session 0) (userYes 1 0) false ⇒ 0)
+    ∷ (End (session 0) (userYes 1 1) false ⇒ 0)
     ∷ (End (session 0) (userYes 0 0) true ⇒ 0)
     ∷ []
 
@@ -160,13 +160,13 @@ lists =
     ∷ (List′ (session 0) (no′ 1 1) (Only (credential 0)) 0 ⇒ 9)
     ∷ (List′ (session 0) (no′ 1 0) (Only (credential 0)) 0 ⇒ 8)
     ∷ (List′ (session 0) (yes′ 1 0) (Only (credential 0)) 0 ⇒ 10)
-    ∷ (List′ (session 0) (yes′ 1 0) Every 0 ⇒ 10)
-    ∷ (List′ (session 0) (yes′ 1 0) (Only (credential 1)) 54 ⇒ 15)
-    ∷ (List′ (session 0) (yes′ 1 0) (Only (credential 1)) 55 ⇒ 0)
+    ∷ (List′ (session 0) (yes′ 1 1) Every 0 ⇒ 10)
+    ∷ (List′ (session 0) (yes′ 1 2) (Only (credential 1)) 54 ⇒ 15)
+    ∷ (List′ (session 0) (yes′ 1 3) (Only (credential 1)) 55 ⇒ 0)
     ∷ (List′ (session 0) (yes′ 0 0) (Only (credential 2)) 3 ⇒ 15)
-    ∷ (List′ (session 0) (yes′ 0 0) (Only (credential 2)) 4 ⇒ 0)
-    ∷ (List′ (session 0) (yes′ 0 1) Every 615 ⇒ 15)
-    ∷ (List′ (session 0) (yes′ 0 1) Every 616 ⇒ 0)
+    ∷ (List′ (session 0) (yes′ 0 1) (Only (credential 2)) 4 ⇒ 0)
+    ∷ (List′ (session 0) (yes′ 0 2) Every 615 ⇒ 15)
+    ∷ (List′ (session 0) (yes′ 0 3) Every 616 ⇒ 0)
     ∷ []
 
 -- "claim; 6 if no process that this claim may kill has the name": credential 1 lacks class 1, and P is a stranger's; credential 0 has it
@@ -175,12 +175,12 @@ kills =
     (Kill (session 0) (no′ 1 1) P ⇒ 9)
     ∷ (Kill (session 0) (no′ 1 0) P ⇒ 8)
     ∷ (Kill (session 0) (yes′ 1 0) P ⇒ 6)
-    ∷ (Kill (session 0) (yes′ 1 0) (name 10) ⇒ 6)
+    ∷ (Kill (session 0) (yes′ 1 1) (name 10) ⇒ 6)
     ∷ (Kill (session 0) (yes′ 0 0) (name 10) ⇒ 6)
-    ∷ (Kill (session 0) (yes′ 0 0) (name 1) ⇒ 0)
-    ∷ (Kill (session 0) (yes′ 0 1) Q ⇒ 0)
-    ∷ (Kill (session 0) (yes′ 0 2) R ⇒ 0)
-    ∷ (Kill (session 0) (yes′ 0 3) P ⇒ 0)
+    ∷ (Kill (session 0) (yes′ 0 1) (name 1) ⇒ 0)
+    ∷ (Kill (session 0) (yes′ 0 2) Q ⇒ 0)
+    ∷ (Kill (session 0) (yes′ 0 3) R ⇒ 0)
+    ∷ (Kill (session 0) (yes′ 0 4) P ⇒ 0)
     ∷ []
 
 -- "claim; 10 by class 3; 5": credential 1 lacks class 3
@@ -191,7 +191,7 @@ setsWords =
     ∷ (SetWord (session 0) (no′ 1 0) (credential 2) 0 ⇒ 8)
     ∷ (SetWord (session 0) (yes′ 1 0) (credential 2) 0 ⇒ 10)
     ∷ (SetWord (session 0) (yes′ 0 0) (credential 2) 0 ⇒ 5)
-    ∷ (SetWord (session 0) (yes′ 0 0) (credential 1) 0 ⇒ 0)
+    ∷ (SetWord (session 0) (yes′ 0 1) (credential 1) 0 ⇒ 0)
     ∷ []
 
 pub record Orders : Type 0 where

@@ -41,27 +41,28 @@ use Rattle.claims.specs.declared.UserClaim.{UserClaim}
 use Rattle.claims.proofs.Laws.{clear-first, clear-rest, clear-when, stop, pass, rows, admission-place}
 use Rattle.claims.proofs.Rules.{rules as claim-rules}
 use Rattle.calls.specs.declared.Answer.{Answer}
-use Rattle.calls.specs.declared.Answer.the-variants.{Done, RefusedClaim}
+use Rattle.calls.specs.declared.Answer.the-variants.{Done, Refused}
 use Rattle.calls.specs.declared.Listed.{Listed}
 use Rattle.calls.specs.declared.Outcome.{Outcome}
 use Rattle.calls.specs.declared.Wanted.{Wanted}
 use Rattle.calls.specs.declared.Wanted.the-variants.{Every, Only}
 use Rattle.calls.specs.Listing.{amongOf, rowsOf, messageLength}
-use Rattle.calls.specs.Calls.{Call, Open, Close, Select, Start, Continue, Elevate, Drop, End, Record, List′, Kill, SetWord, saveOwn, listOthers, killOthers, isDevice, isVersion, isWanted, isFull, hasNamed, namedPlace, lacksSaving, isOwn, mayList, isShort, reachBy, reach, number, withTable, withPhase, withWord, userProcess, elevation, activated, saved, oneMore, counted, ended, effect, refusal, outcome, listed, taken, fresh}
+use Rattle.calls.specs.Calls.{Call, Open, Close, Select, Start, Continue, Elevate, Drop, End, Record, List′, Kill, SetWord, saveOwn, listOthers, killOthers, isDevice, isVersion, isWanted, isFull, hasNamed, namedPlace, lacksSaving, isOwn, mayList, isShort, reachBy, reach, number, withTable, withPhase, withWord, userProcess, elevation, activated, saved, oneMore, counted, ended, effect, Protection, Free, protection, left, refusal, outcome, listed, taken, fresh}
+use Rattle.calls.proofs.Cut.{left-free}
 use Rattle.calls.proofs.Laws.{outcome-done, outcome-refused, checked-number, checked-reach, record-number, list-number, kill-number, set-word-number, end-number}
 
 -- ---- a call: refused with its number, or done
 module _ (st : State) (call : Call) {n : ℕ} {r : Outcome} (e : n ≡ number st call) where
-  pub by-refusal : {a : Answer} → (n ≡ 0 → ⊥) → refusal call n ≡ a → r ≡ record { state = st; answer = a } → r ≡ outcome st call
-  by-refusal {a} h q w = w ∙ rw (outcome-refused st call (λ z. h (e ∙ z)), ← e, q)
+  pub refused-as : (n ≡ 0 → ⊥) → {w : Protection} {x : State} → protection call ≡ w → x ≡ left st call → r ≡ record { state = x; answer = refusal w n } → r ≡ outcome st call
+  refused-as h p l q = q ∙ rw (outcome-refused st call (λ z. h (e ∙ z)), ← e, p, l)
+
+  -- one without a claim leaves the state as it was
+  pub by-refusal : (n ≡ 0 → ⊥) → protection call ≡ Free → r ≡ record { state = st; answer = Refused n } → r ≡ outcome st call
+  unfolding refusal
+  by-refusal h p q = refused-as h p (sym (left-free st call p)) q
 
   pub by-effect : {x : State} → n ≡ 0 → r ≡ record { state = x; answer = Done } → x ≡ effect st call → r ≡ outcome st call
   by-effect z w q = w ∙ rw (outcome-done st call (sym e ∙ z), q)
-
--- of a protected call: the number is that which the answer has
-pub by-refused-claim : (st : State) (call : Call) {claim : Claim} {n : ℕ} {r : Outcome} → r ≡ record { state = st; answer = RefusedClaim n claim } → n ≡ number st call → (n ≡ 0 → ⊥)
-    → refusal call n ≡ RefusedClaim n claim → r ≡ outcome st call
-by-refused-claim st call w e h q = by-refusal st call e h q w
 
 -- ---- what an accepted row of tests says of a part of it
 pub clear-begin : {n a : ℕ} (b : ℕ) → n ≡ a ▸ b → n ≡ 0 → a ≡ 0
@@ -321,16 +322,10 @@ module _ (st : State) {x : State} where
   effect-record s claim class e = e
 
 module _ (st : State) (s : Session) (claim : Claim) (wanted : Wanted) (room : ℕ) {n : ℕ} {o : Outcome} (e : n ≡ number st (List′ s claim wanted room)) where
-  pub list-refused : (n ≡ 0 → ⊥) → o ≡ record { state = st; answer = RefusedClaim n claim } → _≡_ {A = Listed} (record { outcome = o; length = 0 }) (listed st s claim wanted room)
-  unfolding listed refusal
-  list-refused h q =
-      let z : number st (List′ s claim wanted room) ≡ 0 → ⊥ = λ w. h (e ∙ w) in
-      rw (q, outcome-refused st (List′ s claim wanted room) z, ne-eqb (number st (List′ s claim wanted room)) 0 z, e)
-
   pub list-done : {x : State} {m : ℕ} → n ≡ 0 → x ≡ counted st s claim → o ≡ record { state = x; answer = Done } → m ≡ messageLength (length (rowsOf st wanted)) → _≡_ {A = Listed} (record { outcome = o; length = m }) (listed st s claim wanted room)
   unfolding listed effect
   list-done h a q m =
       let z : number st (List′ s claim wanted room) ≡ 0 = sym e ∙ h in
       rw (q, a, m, outcome-done st (List′ s claim wanted room) z, eq-eqb (number st (List′ s claim wanted room)) 0 z)
 
-pub ruleset rules = (claim-rules, by-refusal, by-refused-claim, by-effect, clear-begin, clear-second, known-stop, known-pass, phase-outside, word-outside, active-none, active-some, active-placed, named-none, named-some, named-placed, full-is, version-is, device-high, device-low, saving-kept, saving-not, wanted-every, wanted-only, among-every, among-only, own-every, own-only, list-own, list-others, length-fits, length-whole, length-is, short-is, reach-all, reach-own, named-among, next-fits, counted-is, counted-elevated, counted-user, admission-user, ended-kept, ended-removed, taken-whole, taken-zero, mapped-none, take-on, fresh-is, effect-open, effect-select, effect-close, effect-start, effect-elevate, effect-continue, effect-drop, effect-end, effect-kill, effect-set-word, effect-record, list-refused, list-done, record-number, list-number, kill-number, set-word-number, end-number)
+pub ruleset rules = (claim-rules, by-refusal, by-effect, clear-begin, clear-second, known-stop, known-pass, phase-outside, word-outside, active-none, active-some, active-placed, named-none, named-some, named-placed, full-is, version-is, device-high, device-low, saving-kept, saving-not, wanted-every, wanted-only, among-every, among-only, own-every, own-only, list-own, list-others, length-fits, length-whole, length-is, short-is, reach-all, reach-own, named-among, next-fits, counted-is, counted-elevated, counted-user, admission-user, ended-kept, ended-removed, taken-whole, taken-zero, mapped-none, take-on, fresh-is, effect-open, effect-select, effect-close, effect-start, effect-elevate, effect-continue, effect-drop, effect-end, effect-kill, effect-set-word, effect-record, list-done, record-number, list-number, kill-number, set-word-number, end-number)

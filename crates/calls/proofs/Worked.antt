@@ -1,4 +1,5 @@
--- "Sequences on both sides of each bound": the starred steps, as one table, under one statement.
+-- "Sequences on both sides of each bound": the starred steps, as one table, under one statement. Numbers are as order 3 corrects them: "step 6's last call takes
+-- number 2, step 7's second call 3, step 8's kills 4 and 5; step 10's second list takes 2, step 11's end 3, and its last next number is 4".
 -- Assumes nothing.
 use mathlib.Core.Path.{_≡_, refl}
 use mathlib.Core.Bool.{true}
@@ -29,21 +30,21 @@ listed =
     ∷ (Record (session 0) (yes′ 1 0) (class 4) ⇒ 9)
     ∷ (Record (session 0) (no′ 1 1) (class 4) ⇒ 8)
     ∷ (Record (session 0) (yes′ 1 1) (class 5) ⇒ 10)
-    ∷ (Record (session 0) (yes′ 1 1) (class 4) ⇒ 0)
-    ∷ (Record (session 0) (yes′ 1 2) (class 3) ⇒ 1)
-    ∷ (Record (session 0) (yes′ 1 2) (class 31) ⇒ 10)
-    ∷ (Kill (session 0) (yes′ 1 2) P ⇒ 6)
-    ∷ (Kill (session 0) (yes′ 1 2) Q ⇒ 6)
+    ∷ (Record (session 0) (yes′ 1 2) (class 4) ⇒ 0)
+    ∷ (Record (session 0) (yes′ 1 3) (class 3) ⇒ 1)
+    ∷ (Record (session 0) (yes′ 1 3) (class 31) ⇒ 10)
+    ∷ (Kill (session 0) (yes′ 1 4) P ⇒ 6)
+    ∷ (Kill (session 0) (yes′ 1 5) Q ⇒ 6)
     ∷ (Kill (session 0) (yes′ 0 0) R ⇒ 0)
     ∷ (Record (session 0) (yes′ 1 2) (class 4) ⇒ 6)
     ∷ (List′ (session 0) (yes′ 0 1) Every 54 ⇒ 15)
-    ∷ (List′ (session 0) (yes′ 0 1) Every 55 ⇒ 0)
+    ∷ (List′ (session 0) (yes′ 0 2) Every 55 ⇒ 0)
     ∷ []
 
 -- step 11
 abbrev continued : List Step
 continued =
-    (End (session 0) (userYes 0 2) true ⇒ 0)
+    (End (session 0) (userYes 0 3) true ⇒ 0)
     ∷ (Open (session 1) ⇒ 0)
     ∷ (Select (session 1) 0x10 ⇒ 0)
     ∷ (Continue (session 1) (credential 0) Q ⇒ 6)
@@ -54,7 +55,7 @@ continued =
 pub record Worked : Type 0 where
   pub numbers-are : Answered (fresh pairs) (listed ++ continued)
   pub listing-is : drop 2 (listing (rowsOf (after (fresh pairs) listed) Every)) ≡ 0x01 ∷ 0x00 ∷ 0x00 ∷ 0x00 ∷ 0x00 ∷ (P .bytes)
-  pub next-is : map (λ p. p .next) (standing (after (fresh pairs) (listed ++ continued) .table)) ≡ 3 ∷ []
+  pub next-is : map (λ p. p .next) (standing (after (fresh pairs) (listed ++ continued) .table)) ≡ 4 ∷ []
 
 pub worked : Worked
 unfolding computed

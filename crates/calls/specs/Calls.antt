@@ -201,7 +201,7 @@ saved p = record { credential = p .credential; kind = Saved; session = record { 
 abbrev pub oneMore : Process → Process
 oneMore p = record { credential = p .credential; kind = p .kind; session = p .session; next = p .next + 1; name = p .name }
 
--- "A call answered 0 under a user claim .. adds one to that process's next number."
+-- "adds one to that process's next number". "Elevated claims have no number"
 unfoldable pub counted : State → Session → Claim → State
 counted st s Elevated = st
 counted st s (ByUser u) =
@@ -229,22 +229,91 @@ effect st (Kill s claim name) =
     withTable (counted st s claim) (removed (counted st s claim .table) (namedPlace st name (reach st (claimant st s claim))))
 effect st (SetWord s claim c word) = withWord (counted st s claim) c word
 
--- ---- the outcome: the answer, and the next state. "A refusal leaves state .. as they were."
+-- ---- "A protected call carries a claim.": which calls are protected, and the tests of a call cut in three: those ahead of its claim's, the claim's, and those after it
+
+-- the claim of a call, with the session in which it is made
+pub data Protection : Type 0 where
+  Free : Protection
+  Under : Session → Claim → Protection
+
+unfoldable pub protection : Call → Protection
+protection (Open s) = Free
+protection (Close s) = Free
+protection (Drop s) = Free
+protection (Select s byte) = Free
+protection (Start s c name) = Free
+protection (Continue s c name) = Free
+protection (Elevate s c name verdict) = Free
+protection (End s u keep) = Under s (ByUser u)
+protection (Record s claim class) = Under s claim
+protection (List′ s claim wanted room) = Under s claim
+protection (Kill s claim name) = Under s claim
+protection (SetWord s claim c word) = Under s claim
+
+-- ahead of the claim's; all of them where there is no claim
+unfoldable pub aheadNumber : State → Call → ℕ
+aheadNumber st (Open s) = number st (Open s)
+aheadNumber st (Close s) = number st (Close s)
+aheadNumber st (Drop s) = number st (Drop s)
+aheadNumber st (Select s byte) = number st (Select s byte)
+aheadNumber st (Start s c name) = number st (Start s c name)
+aheadNumber st (Continue s c name) = number st (Continue s c name)
+aheadNumber st (Elevate s c name verdict) = number st (Elevate s c name verdict)
+aheadNumber st (End s u keep) = No.done
+aheadNumber st (Record s claim class) = No.argument unless isDevice class
+aheadNumber st (List′ s claim wanted room) = No.argument unless isWanted wanted
+aheadNumber st (Kill s claim name) = No.done
+aheadNumber st (SetWord s claim c word) = No.argument unless isCredential c
+
+-- the claim's
+unfoldable pub protectedNumber : State → Protection → ℕ
+protectedNumber st Free = No.done
+protectedNumber st (Under s claim) = admitted st s claim
+
+-- after the claim's
+unfoldable pub restNumber : State → Call → ℕ
+restNumber st (Open s) = No.done
+restNumber st (Close s) = No.done
+restNumber st (Drop s) = No.done
+restNumber st (Select s byte) = No.done
+restNumber st (Start s c name) = No.done
+restNumber st (Continue s c name) = No.done
+restNumber st (Elevate s c name verdict) = No.done
+restNumber st (End s u keep) = No.notGranted when lacksSaving st (u .credential) keep
+restNumber st (Record s claim class) = No.notGranted unless granted st (claimant st s claim) class
+restNumber st (List′ s claim wanted room) =
+    No.notGranted unless mayList st (claimant st s claim) wanted
+    ▸ No.room when isShort st wanted room
+restNumber st (Kill s claim name) = No.noProcess unless hasNamed st name (reach st (claimant st s claim))
+restNumber st (SetWord s claim c word) =
+    No.notGranted unless granted st (claimant st s claim) setWords
+    ▸ No.credential unless provisioned st c
+
+-- ---- what a refusal leaves. Order 3: "From now on a user claim that passes its check adds one even if the call is refused afterwards: by 5 in set word, 6 in
+-- kill, 10, 15, or a refusal that a later order puts after the claim."
+
+-- no test up to the claim's refuses the call
+unfoldable pub passes : State → Call → Bool
+passes st call = eqb (aheadNumber st call ▸ protectedNumber st (protection call)) No.done
+
+unfoldable pub refusedAfter : State → Call → Bool
+refusedAfter st call = passes st call && not (eqb (restNumber st call) No.done)
+
+-- the claim counted, where there is one
+unfoldable pub charged : State → Protection → State
+charged st Free = st
+charged st (Under s claim) = counted st s claim
+
+-- '"A refusal leaves state as it was" then except[s] that one number'
+unfoldable pub left : State → Call → State
+left st call = cond (refusedAfter st call) (charged st (protection call)) st
+
+-- ---- the outcome: the answer, and the next state
 
 -- "A refusal of a protected call returns its number together with the claim it was given"
-unfoldable pub refusal : Call → ℕ → Answer
-refusal (Open s) n = Refused n
-refusal (Close s) n = Refused n
-refusal (Select s byte) n = Refused n
-refusal (Start s c name) n = Refused n
-refusal (Continue s c name) n = Refused n
-refusal (Elevate s c name verdict) n = Refused n
-refusal (Drop s) n = Refused n
-refusal (End s u keep) n = RefusedClaim n (ByUser u)
-refusal (Record s claim class) n = RefusedClaim n claim
-refusal (List′ s claim wanted room) n = RefusedClaim n claim
-refusal (Kill s claim name) n = RefusedClaim n claim
-refusal (SetWord s claim c word) n = RefusedClaim n claim
+unfoldable pub refusal : Protection → ℕ → Answer
+refusal Free n = Refused n
+refusal (Under s claim) n = RefusedClaim n claim
 
 -- the page's number of each case of an answer
 abbrev pub answerNumber : Answer → ℕ
@@ -256,7 +325,7 @@ unfoldable pub outcome : State → Call → Outcome
 outcome st call =
     cond (eqb (number st call) No.done)
     (record { state = effect st call; answer = Done })
-    (record { state = st; answer = refusal call (number st call) })
+    (record { state = left st call; answer = refusal (protection call) (number st call) })
 
 -- "Returns the message's length; 0 on a refusal."
 unfoldable pub listed : State → Session → Claim → Wanted → ℕ → Listed

@@ -1,4 +1,3 @@
 pub mod Listing
 pub mod Calls
 pub mod Run
-pub mod Protected

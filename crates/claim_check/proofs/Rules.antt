@@ -2,8 +2,9 @@
 -- Assumes nothing.
 use Prim.Native.Nat.{ℕ}
 use mathlib.Core.Path.{_≡_, refl, sym, _∙_}
-use mathlib.Core.Bool.{Bool, true, false}
+use mathlib.Core.Bool.{Bool, true, false, not}
 use lib.Dec.{T, eqb, ltb}
+use borrow.Author.Tests.{eq-eqb, ne-eqb}
 use Rattle.claims.specs.declared.Admission.{Admission}
 use Rattle.claims.specs.declared.ClaimView.{ClaimView}
 use Rattle.claims.specs.declared.Claim.{Claim}
@@ -17,7 +18,7 @@ use Rattle.table.specs.declared.Found.{Found}
 use Rattle.table.specs.declared.Found.the-variants.{At, Nothing}
 use Rattle.claims.specs.Numbers.{_unless_, _▸_}
 use Rattle.claims.specs.Module.{isCredential}
-use Rattle.claims.specs.Claim.{isClaim, isSpent, claimed, speaksFor, isFound, viewedNumber, checkedNumber, checkedClaim}
+use Rattle.claims.specs.Claim.{isClaim, isSpent, claimed, speaksFor, isFound, viewedNumber, checkedNumber, checkedClaim, passedBy}
 use Rattle.claims.proofs.Laws.{stop, pass, unless-true, unless-false}
 use Rattle.claims.proofs.Rules.{rules as claims-rules, nonzero}
 
@@ -77,4 +78,14 @@ pub checked-is : (s : Session) (claim : Claim) (view : ClaimView) {n at : ℕ} {
 unfolding checkedClaim
 checked-is s claim view a b c = rw (a, c, b)
 
-pub ruleset rules = (claims-rules, spent-is, elevated-fine, user-fine, claimed-elevation, claimed-user, speaks-owner, speaks-itself, missing-stop, found-pass, missing-last, found-last, viewed-elevated, viewed-user, checked-is)
+-- ---- whether it passed
+module _ (by : Admission) (n : ℕ) where
+  pub passed-asked : by .number ≡ 0 → not (eqb n 1) ≡ passedBy by n
+  unfolding passedBy
+  passed-asked z = rw (eq-eqb (by .number) 0 z)
+
+  pub passed-not : (by .number ≡ 0 → ⊥) → eqb (by .number) 0 ≡ passedBy by n
+  unfolding passedBy
+  passed-not h = rw (ne-eqb (by .number) 0 h)
+
+pub ruleset rules = (claims-rules, spent-is, elevated-fine, user-fine, claimed-elevation, claimed-user, speaks-owner, speaks-itself, missing-stop, found-pass, missing-last, found-last, viewed-elevated, viewed-user, checked-is, passed-asked, passed-not)

@@ -10,6 +10,8 @@ use Rattle.claim_check.proofs.speaks_for.Kinds as speaks-for-kinds
 use Rattle.claim_check.proofs.speaks_for.Reads as speaks-for
 use Rattle.claim_check.proofs.check_claim.Kinds as check-claim-kinds
 use Rattle.claim_check.proofs.check_claim.Reads as check-claim
+use Rattle.claim_check.proofs.passed_by.Kinds as passed-by-kinds
+use Rattle.claim_check.proofs.passed_by.Reads as passed-by
 
 pub is-spent-once : OneAnswer 0 is-spent-kinds.ps is-spent-kinds.r is-spent.Post
 is-spent-once κs a x y s t p q = p ∙ sym q
@@ -22,3 +24,6 @@ speaks-for-once κs a x y s t p q = p ∙ sym q
 
 pub check-claim-once : OneAnswer 0 check-claim-kinds.ps check-claim-kinds.r check-claim.Post
 check-claim-once κs a x y s t p q = p ∙ sym q
+
+pub passed-by-once : OneAnswer 0 passed-by-kinds.ps passed-by-kinds.r passed-by.Post
+passed-by-once κs a x y s t p q = p ∙ sym q

@@ -1,6 +1,6 @@
 // The check of a claim, on what a state tells of it: once for all protected calls, wherever the state lies.
 ghost use mathlib.Core.Path.{_≡_};
-ghost use Rattle.claims.specs.Claim.{isClaim, isSpent, turnNumber, claimed, speaksFor, viewedNumber, checkedNumber, checkedClaim};
+ghost use Rattle.claims.specs.Claim.{isClaim, isSpent, turnNumber, claimed, speaksFor, viewedNumber, checkedNumber, checkedClaim, passedBy};
 use claims::ARGUMENT;
 use claims::Admission;
 use claims::CREDENTIAL;
@@ -135,4 +135,11 @@ pub fn check_claim(s: Session, claim: Claim, view: ClaimView) -> Admission
         credential: c,
         word: view.word,
     }
+}
+
+// Whether a claim passed its check, by what that came to and the number of its call: ahead of a claim a call is refused with 1 alone, and after it never.
+pub fn passed_by(by: Admission, n: u8) -> bool
+    ensures { λ r. ⌜ r ≡ passedBy by n ⌝ }
+{
+    by.number == DONE && n != ARGUMENT
 }

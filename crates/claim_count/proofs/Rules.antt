@@ -2,24 +2,31 @@
 -- Assumes nothing.
 use Prim.Native.Nat.{ℕ, _+_, _<_}
 use mathlib.Core.Path.{_≡_, refl, sym, ap, _∙_}
-use mathlib.Core.Bool.{Bool, true, false}
+use mathlib.Core.Bool.{Bool, true, false, not}
 use native.Mathlib.Omega.{arith}
-use borrow.Author.Tests.{eqb-false, ne-eqb}
+use borrow.Author.Tests.{eqb-false, eq-eqb, ne-eqb, not-true, not-false}
 use mir.Val.{Fits}
 use mir.Syntax.{w16}
+use Rattle.lists.proofs.Tests.{split}
 use Rattle.names.specs.declared.Session.{Session}
 use Rattle.table.specs.Table.{processAt, replaced}
 use Rattle.table.specs.declared.Process.{Process}
 use Rattle.table.specs.declared.Table.{Table}
-use Rattle.claims.specs.Claim.{isSpent, admission}
+use Rattle.claims.specs.Claim.{isSpent, admission, passedBy}
 use Rattle.claims.specs.declared.Admission.{Admission}
 use Rattle.claims.specs.declared.Claim.{Claim}
 use Rattle.claims.specs.declared.Claim.the-variants.{Elevated, ByUser}
 use Rattle.claims.specs.declared.State.{State}
 use Rattle.claims.specs.declared.UserClaim.{UserClaim}
-use Rattle.calls.specs.Calls.{withTable, oneMore, counted}
-use Rattle.calls.proofs.Rules.{next-fits, counted-is, counted-elevated, rules as call-rules}
-use Rattle.claim_count.specs.Count.{countedAt, countedBy}
+use Rattle.claims.proofs.Laws.{passed-admitted}
+use Rattle.calls.specs.Calls.{Call, List′, number, withTable, oneMore, counted, Under, protection, passes, charged, left, refusal, outcome, listed}
+use Rattle.calls.specs.declared.Answer.the-variants.{RefusedClaim}
+use Rattle.calls.specs.declared.Listed.{Listed}
+use Rattle.calls.specs.declared.Outcome.{Outcome}
+use Rattle.calls.specs.declared.Wanted.{Wanted}
+use Rattle.calls.proofs.Cut.{left-stopped, left-passed, passed-by}
+use Rattle.calls.proofs.Rules.{refused-as, next-fits, counted-is, counted-elevated, rules as call-rules}
+use Rattle.claim_count.specs.Count.{countedAt, countedBy, chargedBy}
 
 -- ---- the next number of the process at a place
 module _ (st : State) (at : ℕ) {p : Process} {b : Bool} (q : p ≡ processAt (st .table) at) (e : b ≡ isSpent (p .next)) where
@@ -61,10 +68,44 @@ module _ (st : State) (s : Session) {by : Admission} where
   by-place Elevated e z = counted-elevated st s refl
   by-place (ByUser u) e z = at-place u e z
 
-  pub admitted-at : (u : UserClaim) {r : State} → by ≡ admission st s (ByUser u) → by .number ≡ 0 → r ≡ countedAt st (by .place) → r ≡ counted st s (ByUser u)
-  admitted-at u e z q = q ∙ at-place u e z
+  -- and so it is where the number of the call is 0
+  pub charged-done : (claim : Claim) {n : ℕ} {r : State} → by ≡ admission st s claim → by .number ≡ 0 → n ≡ 0 → r ≡ chargedBy st claim by n → r ≡ counted st s claim
+  unfolding chargedBy passedBy
+  charged-done claim e z y q = q ∙ rw (eq-eqb (by .number) 0 z, y) (by-place claim e z)
 
-  pub admitted-by : (claim : Claim) {r : State} → by ≡ admission st s claim → by .number ≡ 0 → r ≡ countedBy st claim (by .place) → r ≡ counted st s claim
-  admitted-by claim e z q = q ∙ by-place claim e z
+-- ---- by what the claim's check came to, and the call's number
+module _ (st : State) (claim : Claim) (by : Admission) (n : ℕ) {b : Bool} (e : b ≡ passedBy by n) where
+  pub charge-stopped : not b ≡ true → st ≡ chargedBy st claim by n
+  unfolding chargedBy
+  charge-stopped k = rw (← e, not-true b k)
 
-pub ruleset rules = (call-rules, count-spent, count-fits, count-more, count-elevated, count-user, admitted-at, admitted-by)
+  pub charge-passed : {r : State} → not b ≡ false → r ≡ countedBy st claim (by .place) → r ≡ chargedBy st claim by n
+  unfolding chargedBy
+  charge-passed k q = q ∙ rw (← e, not-false b k)
+
+-- ---- what a refused call under the claim leaves
+module _ (st : State) (call : Call) {s : Session} {claim : Claim} (w : protection call ≡ Under s claim) {by : Admission} (e : by ≡ admission st s claim) where
+  charged-left : {n : ℕ} {r : State} → n ≡ number st call → (n ≡ 0 → ⊥) → r ≡ chargedBy st claim by n → r ≡ left st call
+  unfolding chargedBy charged
+  charged-left {n} {r} m h q =
+      let z : number st call ≡ 0 → ⊥ = λ y. h (m ∙ y) in
+      let p : passedBy by n ≡ passes st call = ap (passedBy by) m ∙ passed-by st call w e in
+      split (passes st call)
+      (λ y.
+      let a : by .number ≡ 0 = passed-admitted by n (sym p) y in
+      q ∙ rw (p, y, by-place st s claim e a, left-passed st call y z, w))
+      (λ y. q ∙ rw (p, y) (sym (left-stopped st call y)))
+
+-- so of a call that answers its number with the claim
+module _ (st : State) {claim : Claim} {n : ℕ} {x : State} {o : Outcome} (w : o ≡ record { state = x; answer = RefusedClaim n claim }) {by : Admission} (q : x ≡ chargedBy st claim by n) where
+  pub by-refused-claim : (call : Call) {s : Session} → by ≡ admission st s claim → n ≡ number st call → (n ≡ 0 → ⊥) → protection call ≡ Under s claim → o ≡ outcome st call
+  unfolding refusal
+  by-refused-claim call e m h p = refused-as st call m h p (charged-left st call p e m h q) w
+
+  pub list-refused : (s : Session) (wanted : Wanted) (room : ℕ) → by ≡ admission st s claim → n ≡ number st (List′ s claim wanted room) → (n ≡ 0 → ⊥)
+      → _≡_ {A = Listed} (record { outcome = o; length = 0 }) (listed st s claim wanted room)
+  unfolding listed protection
+  list-refused s wanted room e m h =
+      rw (by-refused-claim (List′ s claim wanted room) e m h refl, ne-eqb (number st (List′ s claim wanted room)) 0 (λ y. h (m ∙ y)))
+
+pub ruleset rules = (call-rules, count-spent, count-fits, count-more, count-elevated, count-user, charged-done, charge-stopped, charge-passed, by-refused-claim, list-refused)

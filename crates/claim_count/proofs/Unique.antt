@@ -1,14 +1,9 @@
--- No second answer meets the contract of any public function of this crate.
+-- No second answer meets the contract of the public function of this crate.
 -- Assumes nothing.
 use mathlib.Core.Path.{sym, _∙_}
 use Rattle.lists.proofs.Once.{OneAnswer}
-use Rattle.claim_count.proofs.counted_at.Kinds as counted-at-kinds
-use Rattle.claim_count.proofs.counted_at.Reads as counted-at
-use Rattle.claim_count.proofs.counted_by.Kinds as counted-by-kinds
-use Rattle.claim_count.proofs.counted_by.Reads as counted-by
+use Rattle.claim_count.proofs.charged_by.Kinds as charged-by-kinds
+use Rattle.claim_count.proofs.charged_by.Reads as charged-by
 
-pub counted-at-once : OneAnswer 0 counted-at-kinds.ps counted-at-kinds.r counted-at.Post
-counted-at-once κs a x y s t p q = p ∙ sym q
-
-pub counted-by-once : OneAnswer 0 counted-by-kinds.ps counted-by-kinds.r counted-by.Post
-counted-by-once κs a x y s t p q = p ∙ sym q
+pub charged-by-once : OneAnswer 0 charged-by-kinds.ps charged-by-kinds.r charged-by.Post
+charged-by-once κs a x y s t p q = p ∙ sym q

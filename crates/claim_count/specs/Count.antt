@@ -1,9 +1,9 @@
--- The claim counted at a place, whatever stands there: where the claim was admitted and the place is its process's, this is what document 01's
--- calls count (`counted`).
+-- The claim counted at a place, whatever stands there: where the claim passed its check and the place is its process's, this is what the calls count (`counted`).
 use Prim.Native.Nat.{ℕ}
 use mathlib.Core.Bool.{cond}
 use Rattle.table.specs.Table.{processAt, replaced}
-use Rattle.claims.specs.Claim.{isSpent}
+use Rattle.claims.specs.Claim.{isSpent, passedBy}
+use Rattle.claims.specs.declared.Admission.{Admission}
 use Rattle.claims.specs.declared.Claim.{Claim}
 use Rattle.claims.specs.declared.Claim.the-variants.{Elevated, ByUser}
 use Rattle.claims.specs.declared.State.{State}
@@ -16,7 +16,11 @@ countedAt st at =
     st
     (withTable st (replaced (st .table) at (oneMore (processAt (st .table) at))))
 
--- "A call answered 0 under a user claim .. adds one": an elevated claim has no number
+-- "a user claim that passes its check adds one": an elevated claim has no number
 unfoldable pub countedBy : State → Claim → ℕ → State
 countedBy st Elevated at = st
 countedBy st (ByUser u) at = countedAt st at
+
+-- the state that a call under the claim goes on with, or that its refusal leaves: by what the claim's check came to, and the call's number
+unfoldable pub chargedBy : State → Claim → Admission → ℕ → State
+chargedBy st claim by n = cond (passedBy by n) (countedBy st claim (by .place)) st

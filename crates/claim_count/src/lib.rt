@@ -1,10 +1,11 @@
-// An admitted claim counted: a user claim adds one to its process's next number.
+// A claim that passed its check counted: a user claim adds one to its process's next number.
 ghost use mathlib.Core.Path.{_≡_};
-ghost use Rattle.claim_count.specs.Count.{countedAt, countedBy};
+ghost use Rattle.claim_count.specs.Count.{countedAt, countedBy, chargedBy};
+use claims::Admission;
 use claims::Claim;
 use claims::State;
 
-pub fn counted_at(st: State, at: usize) -> State
+fn counted_at(st: State, at: usize) -> State
     ensures { λ r. ⌜ r ≡ countedAt st at ⌝ }
 {
     let t = st.table;
@@ -16,11 +17,21 @@ pub fn counted_at(st: State, at: usize) -> State
     effects::with_table(st, table_change::replaced(t, at, p))
 }
 
-pub fn counted_by(st: State, claim: Claim, at: usize) -> State
+fn counted_by(st: State, claim: Claim, at: usize) -> State
     ensures { λ r. ⌜ r ≡ countedBy st claim at ⌝ }
 {
     match claim {
         Claim::Elevated => st,
         Claim::ByUser(_) => counted_at(st, at),
     }
+}
+
+// The state that a protected call goes on with, or leaves where it is refused with `n`: the claim is counted where it passed its check.
+pub fn charged_by(st: State, claim: Claim, by: Admission, n: u8) -> State
+    ensures { λ r. ⌜ r ≡ chargedBy st claim by n ⌝ }
+{
+    if !claim_check::passed_by(by, n) {
+        return st;
+    }
+    counted_by(st, claim, by.place)
 }

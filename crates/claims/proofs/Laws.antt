@@ -8,7 +8,7 @@ use lib.Dec.{T, eqb, ltb, ltb→lt}
 use borrow.Author.Tests.{eq-eqb, ne-eqb, eqb-true}
 use Rattle.lists.proofs.Tests.{split}
 use lib.ListN.{List·getD-eq-default}
-use Rattle.lists.proofs.Tests.{clash}
+use Rattle.lists.proofs.Tests.{clash, and-left}
 use Rattle.names.specs.declared.Credential.{Credential}
 use Rattle.names.specs.declared.Session.{Session}
 use Rattle.table.specs.Table.{standing, freePlace, processAt, isActive, foundPlace, firstPlace, findActive}
@@ -25,7 +25,7 @@ use Rattle.claims.specs.declared.Phase.{Phase}
 use Rattle.claims.specs.declared.State.{State}
 use Rattle.claims.specs.Numbers.{_when_, _unless_, _▸_}
 use Rattle.claims.specs.Module.{phaseOf, provisioned, wordOf, hasActive, activePlace, activeProcess}
-use Rattle.claims.specs.Claim.{phaseNumber, entered, isClaim, elevatedNumber, userNumber, claimNumber, admitted, elevatedCredential, claimant, claimed, speaksFor, processFound, claimView, isFound, viewedNumber, checkedNumber, checkedClaim, admission}
+use Rattle.claims.specs.Claim.{phaseNumber, entered, elevatedNumber, userNumber, claimNumber, admitted, elevatedCredential, claimant, claimed, speaksFor, processFound, claimView, isFound, viewedNumber, checkedNumber, checkedClaim, admission, passedBy}
 
 -- ---- a row of tests
 module _ {n : ℕ} (m : ℕ) where
@@ -178,3 +178,8 @@ module _ (st : State) (s : Session) (claim : Claim) where
   admission-place z =
       place-found st (claimed s claim) (findActive (st .table) (claimed s claim)) refl
       (found-active st (claimed s claim) (findActive (st .table) (claimed s claim)) refl ∙ claim-stands st s claim z)
+
+-- a claim that passed its check was admitted
+pub passed-admitted : (by : Admission) (n : ℕ) {passed : Bool} → passed ≡ passedBy by n → passed ≡ true → by .number ≡ 0
+unfolding passedBy
+passed-admitted by n p e = eqb-true (by .number) 0 (and-left (eqb (by .number) 0) (not (eqb n 1)) (sym p ∙ e))

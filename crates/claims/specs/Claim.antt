@@ -1,6 +1,6 @@
 -- "The claim": its check, once for all protected calls
 use Prim.Native.Nat.{ℕ}
-use mathlib.Core.Bool.{Bool, true, false}
+use mathlib.Core.Bool.{Bool, true, false, not, _&&_}
 use lib.Dec.{eqb}
 use Rattle.names.specs.declared.Credential.{Credential}
 use Rattle.names.specs.declared.Session.{Session}
@@ -139,3 +139,7 @@ checkedClaim s claim view =
 
 unfoldable pub admission : State → Session → Claim → Admission
 admission st s claim = checkedClaim s claim (claimView st s claim)
+
+-- whether a claim passed its check, by what that came to and the number of its call: ahead of a claim a call is refused with 1 alone, and after it never
+unfoldable pub passedBy : Admission → ℕ → Bool
+passedBy by n = eqb (by .number) No.done && not (eqb n No.argument)

@@ -9,12 +9,13 @@ use Rattle.names.specs.declared.Name.{Name}
 use Rattle.table.specs.Table.{standing}
 use Rattle.claims.specs.declared.Claim.the-variants.{Elevated}
 use Rattle.claims.specs.declared.Grants.{Grants}
-use Rattle.calls.specs.Calls.{Call, Open, Close, Select, Start, Continue, Elevate, Drop, End, Record, Kill, fresh}
+use Rattle.calls.specs.Calls.{Call, Open, Close, Select, Start, Continue, Elevate, Drop, End, Record, List′, Kill, SetWord, fresh}
 use Rattle.calls.specs.Run.{run}
-use Rattle.calls.proofs.Sequences.{name, session, credential, class, userYes, yes′, computed}
+use Rattle.calls.specs.declared.Wanted.the-variants.{Every}
+use Rattle.calls.proofs.Sequences.{name, session, credential, class, userYes, yes′, no′, computed}
 use Rattle.history.specs.History.{Event, history}
-use Rattle.history.specs.Lives.{Life, Gone, Live, Raised, Kept, counts, ends, shuts, drops, resumes, after, onward, follow, told, nobody}
-use Rattle.history.specs.Demand.{by-end, by-record, TwoRecords}
+use Rattle.history.specs.Lives.{Life, Gone, Live, Raised, Kept, counts, ends, shuts, drops, resumes, after, charges, tellsPassed, onward, follow, told, nobody}
+use Rattle.history.specs.Demand.{TwoPassed}
 use Rattle.history.proofs.Told.{live-not-gone}
 
 -- two names that differ in their last byte
@@ -54,7 +55,7 @@ continued =
     saved
     ++ (Open (session 1) ∷ Select (session 1) 0x10 ∷ Continue (session 1) (credential 0) P ∷ recorded 1 0 3 ∷ [])
 
--- a kill under another's claim, and a second one, which finds nothing
+-- a kill under another's claim, and a second one, which finds nothing and is counted all the same
 abbrev killed : List Call
 killed =
     continued
@@ -69,6 +70,24 @@ raised =
     killed
     ++ (Elevate (session 1) (credential 0) P true ∷ Record (session 1) Elevated (class 4) ∷ [])
 
+-- refused one after another, P's by 10, its claim's 9 and 8, 1, 15 and 5, Q's by 6: 10, 15, 5 and 6 came after a claim that passed. Others' by 2 and by their claim's 5
+abbrev refused : List Call
+refused =
+    Open (session 0)
+    ∷ Select (session 0) 0x10
+    ∷ Start (session 0) (credential 0) P
+    ∷ Start (session 0) (credential 1) Q
+    ∷ Record (session 0) (yes′ 0 0) (class 5)
+    ∷ Record (session 0) (yes′ 0 0) (class 4)
+    ∷ Record (session 0) (no′ 0 1) (class 4)
+    ∷ Record (session 0) (yes′ 0 1) (class 3)
+    ∷ List′ (session 0) (yes′ 0 1) Every 105
+    ∷ Kill (session 0) (yes′ 1 0) (name 0x13)
+    ∷ Kill (session 1) (yes′ 1 1) P
+    ∷ SetWord (session 0) (yes′ 2 1) (credential 2) 0
+    ∷ SetWord (session 0) (yes′ 0 2) (credential 2) 0
+    ∷ []
+
 -- what the history of some calls tells of both names
 pub record Told (calls : List Call) (p q : Life) : Type 0 where
   pub of-P : told nobody (history (fresh grants) calls) P ≡ p
@@ -79,15 +98,17 @@ pub record Examples : Type 0 where
   pub after-start : Told started (Live (session 0) (credential 0) (1 ∷ 0 ∷ [])) Gone
   pub after-save : Told saved (Kept (credential 0) (2 ∷ 1 ∷ 0 ∷ [])) Gone
   pub after-continue : Told continued (Live (session 1) (credential 0) (3 ∷ 2 ∷ 1 ∷ 0 ∷ [])) Gone
-  pub after-kill : Told killed Gone (Live (session 1) (credential 1) (0 ∷ []))
-  pub after-again : Told again (Live (session 1) (credential 0) (0 ∷ [])) (Live (session 1) (credential 1) (0 ∷ []))
-  pub after-elevation : Told raised (Raised (session 1)) (Live (session 1) (credential 1) (0 ∷ []))
-  pub after-drop : Told (raised ++ (Drop (session 1) ∷ [])) Gone (Live (session 1) (credential 1) (0 ∷ []))
+  pub after-kill : Told killed Gone (Live (session 1) (credential 1) (1 ∷ 0 ∷ []))
+  pub after-again : Told again (Live (session 1) (credential 0) (0 ∷ [])) (Live (session 1) (credential 1) (1 ∷ 0 ∷ []))
+  pub after-elevation : Told raised (Raised (session 1)) (Live (session 1) (credential 1) (1 ∷ 0 ∷ []))
+  pub after-drop : Told (raised ++ (Drop (session 1) ∷ [])) Gone (Live (session 1) (credential 1) (1 ∷ 0 ∷ []))
   pub after-close : Told (again ++ (Close (session 1) ∷ [])) Gone Gone
+  pub refused-are : map (λ (e : Event). e .answered) (history (fresh grants) refused) ≡ 0 ∷ 0 ∷ 0 ∷ 0 ∷ 10 ∷ 9 ∷ 8 ∷ 1 ∷ 15 ∷ 6 ∷ 2 ∷ 5 ∷ 5 ∷ []
+  pub after-refused : Told refused (Live (session 0) (credential 0) (2 ∷ 1 ∷ 0 ∷ [])) (Live (session 0) (credential 1) (0 ∷ []))
   pub next-is : map (λ p. p .next) (standing (run (fresh grants) continued .table)) ≡ 4 ∷ []
 
 pub examples : Examples
-unfolding computed history counts ends shuts drops resumes after onward follow
+unfolding computed history counts ends shuts drops resumes after charges tellsPassed onward follow
 examples =
     record {
       numbers-are = refl;
@@ -99,30 +120,32 @@ examples =
       after-elevation = record { of-P = refl; of-Q = refl };
       after-drop = record { of-P = refl; of-Q = refl };
       after-close = record { of-P = refl; of-Q = refl };
+      refused-are = refl;
+      after-refused = record { of-P = refl; of-Q = refl };
       next-is = refl;
     }
 
--- ---- two accepted records of one process, as demand 3's `once` speaks of them: the second of them removes it
-abbrev recordedAndEnded : List Call
-recordedAndEnded =
+-- ---- two claims of one process that passed, as demand 3's `once` speaks of them: the call of the first is refused with 10, and the second removes the process
+abbrev refusedAndEnded : List Call
+refusedAndEnded =
     Open (session 0)
     ∷ Select (session 0) 0x10
     ∷ Start (session 0) (credential 0) P
-    ∷ recorded 0 0 0
+    ∷ Record (session 0) (yes′ 0 0) (class 5)
     ∷ End (session 0) (userYes 0 1) false
     ∷ []
 
-two-records : TwoRecords nobody (history (fresh grants) recordedAndEnded) P
-unfolding computed history counts ends shuts drops resumes after onward follow
-two-records =
+two-passed : TwoPassed nobody (history (fresh grants) refusedAndEnded) P
+unfolding computed history counts ends shuts drops resumes after charges tellsPassed onward follow
+two-passed =
     record {
       before = history (fresh grants) (Open (session 0) ∷ Select (session 0) 0x10 ∷ Start (session 0) (credential 0) P ∷ []);
-      first = record { call = recorded 0 0 0; answered = 0 };
+      first = record { call = Record (session 0) (yes′ 0 0) (class 5); answered = 10 };
       between = [];
       second = record { call = End (session 0) (userYes 0 1) false; answered = 0 };
       rest = [];
       are = refl;
-      one = record { session = session 0; claim = userYes 0 0; carried = by-record (class 4); accepted = refl; before = []; lives = refl };
+      one = record { session = session 0; claim = userYes 0 0; carried = refl; told = refl; before = []; lives = refl };
       stays = (live-not-gone, tt);
-      two = record { session = session 0; claim = userYes 0 1; carried = by-end false; accepted = refl; before = 0 ∷ []; lives = refl };
+      two = record { session = session 0; claim = userYes 0 1; carried = refl; told = refl; before = 0 ∷ []; lives = refl };
     }

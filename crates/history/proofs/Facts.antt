@@ -27,7 +27,7 @@ use Rattle.lists.specs.Each.{Each}
 use Rattle.lists.proofs.Each.{Stands, found, each-fails}
 use Rattle.facts.specs.Facts.{processes}
 
-closed-not : (phase : Phase) → isClosed phase ≡ true → isChosen phase ≡ false
+pub closed-not : (phase : Phase) → isClosed phase ≡ true → isChosen phase ≡ false
 unfolding isClosed isChosen
 closed-not Closed e = refl
 closed-not Opened e = refl
@@ -69,7 +69,7 @@ module _ (st : State) where
   abbrev pub ActiveStands : Active → Type 0
   ActiveStands which = Stands (isActive which) (processes st) freePlace (activePlace st which)
 
-  stands : (which : Active) → hasActive st which ≡ true → ActiveStands which
+  pub stands : (which : Active) → hasActive st which ≡ true → ActiveStands which
   unfolding hasActive activePlace
   stands which h = found (isActive which) (processes st) freePlace h
 
@@ -83,7 +83,7 @@ module _ (st : State) where
   Admitted s Elevated = Unit {0}
   Admitted s (ByUser u) = Claimed s u
 
-  passed : (s : Session) (claim : Claim) → admitted st s claim ≡ 0 → Admitted s claim
+  pub passed : (s : Session) (claim : Claim) → admitted st s claim ≡ 0 → Admitted s claim
   unfolding admitted claimNumber userNumber turnNumber isSpent
   passed s Elevated e = tt
   passed s (ByUser u) e =

@@ -24,24 +24,26 @@ use Rattle.table.specs.declared.Among.the-variants.{SavedOf}
 use Rattle.table.specs.declared.Process.{Process}
 use Rattle.table.proofs.Laws.{standing-appended, standing-replaced, standing-removed, standing-without-session}
 use Rattle.table.proofs.Searched.{named-name, named-among, saved-of}
-use Rattle.claims.specs.Module.{activePlace, activeProcess}
+use Rattle.claims.specs.Module.{hasActive, activePlace, activeProcess}
 use Rattle.claims.specs.Claim.{claimant}
 use Rattle.claims.specs.declared.Claim.{Claim}
 use Rattle.claims.specs.declared.Claim.the-variants.{Elevated, ByUser}
 use Rattle.claims.specs.declared.State.{State}
 use Rattle.claims.specs.declared.UserClaim.{UserClaim}
-use Rattle.calls.specs.Calls.{Call, Open, Close, Drop, Select, Start, Continue, Elevate, End, Record, List′, Kill, SetWord, number, withTable, userProcess, elevation, activated, saved, oneMore, namedPlace, reach, counted, ended, effect, answerNumber, outcome}
+use Rattle.calls.specs.Calls.{Call, Open, Close, Drop, Select, Start, Continue, Elevate, End, Record, List′, Kill, SetWord, number, withTable, userProcess, elevation, activated, saved, oneMore, namedPlace, reach, counted, ended, effect, Protection, Free, Under, protection, protectedNumber, passes, charged, answerNumber, outcome}
 use Rattle.calls.specs.Run.{step, run}
+use Rattle.calls.proofs.Cut.{passed-claim, left-stopped, left-passed}
 use Rattle.calls.proofs.Laws.{answer-number}
 use Rattle.lists.specs.Each.{Each}
 use Rattle.history.specs.History.{Event, history}
-use Rattle.history.specs.Lives.{Life, Gone, Live, Kept, counts, ends, shuts, drops, resumes, after, onward, follow, down}
+use Rattle.history.specs.Lives.{Life, Gone, Live, Kept, counts, ends, shuts, drops, resumes, after, charges, tellsPassed, onward, follow, down}
 use Rattle.history.specs.Demand.{life, lifeOf, look}
 use Rattle.facts.specs.Facts.{processes, Rules}
-use Rattle.lists.proofs.Each.{Stands, each-imp, each-all, pairs-imp}
-use Rattle.history.proofs.Facts.{Added, Continued, ActiveStands, Admitted, Facts, facts}
+use Rattle.lists.proofs.Each.{Stands, each-fails, each-imp, each-all, pairs-imp}
+use Rattle.history.proofs.Facts.{Added, Continued, ActiveStands, Admitted, Facts, facts, passed}
+use Rattle.history.proofs.Read.{active-passed, reading}
 use Rattle.history.proofs.Keeping.{active-more, named-more, unnamed, rest-apart, kept-counted, stands-counted, step-accepted, step-refused, rules-step}
-use Rattle.history.proofs.Looked.{Distinct, Fixed, is-name, other-name, look-set, look-remove, look-reject, look-append}
+use Rattle.history.proofs.Looked.{Distinct, Fixed, look-fixed, is-name, other-name, look-set, look-remove, look-reject, look-append}
 
 -- ---- what an automaton's step does to a process's life, at the process that is meant and at another
 module _ (s : Session) (u : UserClaim) (t : Session) (d : Credential) (i : ℕ) where
@@ -245,14 +247,52 @@ module _ (n : Name) (st : State) (v : Rules st) where
 abbrev pub event : State → Call → Event
 event st call = record { call = call; answered = answerNumber (outcome st call .answer) }
 
-pub follows-step : (n : Name) (st : State) (v : Rules st) (call : Call) → onward n (event st call) (look n (processes st)) ≡ look n (processes (step st call))
-unfolding onward
-follows-step n st v call =
-    split (eqb (number st call) 0)
-    (λ e.
-    let z = eqb-true (number st call) 0 e in
-    rw (answer-number st call, e, step-accepted st call z) (sym (follows n st v call (facts st call z))))
-    (λ e. rw (answer-number st call, e, step-refused st call (eqb-false (number st call) 0 e)))
+module _ (n : Name) (st : State) (v : Rules st) where
+  abbrev was : Life
+  was = look n (processes st)
+
+  -- a claim of no process that stands
+  idle-counts : (s : Session) (u : UserClaim) → hasActive st (UserOf s (u .credential)) ≡ false → counts s (ByUser u) was ≡ was
+  unfolding hasActive isActive counts
+  idle-counts s u h =
+      sym
+      (look-fixed n (counts s (ByUser u)) refl (processes st)
+      (each-imp (λ p e q. counts-other s u (p .session) (p .credential) (p .next) (p .kind) e) (each-fails (isActive (UserOf s (u .credential))) (processes st) h)))
+
+  -- a claim that passed, and one that did not
+  follows-charged : (w : Protection) → protectedNumber st w ≡ 0 → charges w was ≡ look n (processes (charged st w))
+  unfolding charges charged protectedNumber
+  follows-charged Free e = refl
+  follows-charged (Under s claim) e = sym (follows-counted n st v s claim (passed st s claim e))
+
+  follows-passed : (call : Call) → passes st call ≡ true → (w : Protection) → protection call ≡ w → cond (tellsPassed (number st call)) (charges w was) was ≡ charges w was
+  unfolding charges counts
+  follows-passed call p Free e = split (tellsPassed (number st call)) (λ t. rw t) (λ t. rw t)
+  follows-passed call p (Under s Elevated) e = split (tellsPassed (number st call)) (λ t. rw t) (λ t. rw t)
+  follows-passed call p (Under s (ByUser u)) e = rw (reading st v call s u e (active-passed st call s u e p), p)
+
+  follows-stopped : (call : Call) → passes st call ≡ false → (w : Protection) → protection call ≡ w → cond (tellsPassed (number st call)) (charges w was) was ≡ was
+  unfolding charges counts
+  follows-stopped call p Free e = split (tellsPassed (number st call)) (λ t. rw t) (λ t. rw t)
+  follows-stopped call p (Under s Elevated) e = split (tellsPassed (number st call)) (λ t. rw t) (λ t. rw t)
+  follows-stopped call p (Under s (ByUser u)) e =
+      split (hasActive st (UserOf s (u .credential)))
+      (λ h. rw (reading st v call s u e h, p))
+      (λ h. split (tellsPassed (number st call)) (λ t. rw t (idle-counts s u h)) (λ t. rw t))
+
+  pub follows-step : (call : Call) → onward n (event st call) (look n (processes st)) ≡ look n (processes (step st call))
+  unfolding onward
+  follows-step call =
+      split (eqb (number st call) 0)
+      (λ e.
+      let z = eqb-true (number st call) 0 e in
+      rw (answer-number st call, e, step-accepted st call z) (sym (follows n st v call (facts st call z))))
+      (λ e.
+      let z = eqb-false (number st call) 0 e in
+      rw (answer-number st call, e, step-refused st call z)
+      (split (passes st call)
+      (λ p. rw (left-passed st call p z) (follows-passed call p (protection call) refl ∙ follows-charged (protection call) (passed-claim st call p)))
+      (λ p. rw (left-stopped st call p) (follows-stopped call p (protection call) refl))))
 
 -- any calls, from any state that keeps the rules
 pub followed : (n : Name) (st : State) (calls : List Call) → Rules st → follow n (history st calls) (look n (processes st)) ≡ look n (processes (run st calls))

@@ -203,7 +203,9 @@ around st (SetWord s claim c word) f =
 
 pub owners-step : (st : State) (call : Call) → SameOwners st (step st call)
 owners-step st call =
-    step-by st call (SameOwners st) (record { as-many = refl; same = λ c. refl }) (λ z. around st call (facts st call z) .owners)
+    step-by st call (SameOwners st) (record { as-many = refl; same = λ c. refl })
+    (λ s claim f. around-counted {F = Unit {0}} st s claim .owners)
+    (λ z. around st call (facts st call z) .owners)
 
 -- ---- the form
 module _ (st : State) (v : IsState st) where
@@ -249,8 +251,13 @@ module _ (st : State) (v : IsState st) where
             };
       }
 
+-- a record does nothing but count its claim
+state-counted : (st : State) → IsState st → (s : Session) (claim : Claim) → Admitted st s claim → IsState (counted st s claim)
+unfolding effect
+state-counted st v s claim f = state-effect st v (Record s claim (record { 0 = 4 })) f tt
+
 pub state-step : (st : State) (call : Call) → Fits call → IsState st → IsState (step st call)
-state-step st call w v = step-by st call IsState v (λ z. state-effect st v call (facts st call z) w)
+state-step st call w v = step-by st call IsState v (state-counted st v) (λ z. state-effect st v call (facts st call z) w)
 
 pub state-run : (st : State) (calls : List Call) → Each Fits calls → IsState st → IsState (run st calls)
 unfolding run

@@ -28,15 +28,16 @@ use Rattle.claims.specs.declared.Claim.{Claim}
 use Rattle.claims.specs.declared.Claim.the-variants.{Elevated, ByUser}
 use Rattle.claims.specs.declared.Phase.the-variants.{Closed, Opened}
 use Rattle.claims.specs.declared.State.{State}
-use Rattle.calls.specs.Calls.{Call, Open, Close, Drop, Select, Start, Continue, Elevate, End, Record, List′, Kill, SetWord, withTable, userProcess, elevation, activated, saved, oneMore, namedPlace, counted, ended, effect, number, reach}
+use Rattle.calls.specs.Calls.{Call, Open, Close, Drop, Select, Start, Continue, Elevate, End, Record, List′, Kill, SetWord, withTable, userProcess, elevation, activated, saved, oneMore, namedPlace, counted, ended, effect, number, reach, Protection, Free, Under, protection, protectedNumber, refusedAfter, charged, left}
 use Rattle.calls.specs.declared.Outcome.{Outcome}
 use Rattle.calls.specs.Run.{step, run}
+use Rattle.calls.proofs.Cut.{after-passed}
 use Rattle.calls.proofs.Laws.{outcome-done, refusal-leaves}
 use Rattle.lists.specs.Each.{Each}
 use Rattle.facts.specs.Facts.{processes, Owned, Apart, Rules}
 use Rattle.facts.proofs.Laws.{apart-turn}
 use Rattle.lists.proofs.Each.{Stands, stands-set, each-imp, each-imp₂, each-at, each-remove, each-left, pairs-rest}
-use Rattle.history.proofs.Facts.{Added, Continued, Admitted, Facts, facts}
+use Rattle.history.proofs.Facts.{Added, Continued, Admitted, Facts, facts, passed}
 use Rattle.history.proofs.Tables.{rules-append, rules-set, rules-remove, rules-reject, rules-idle, rules-chosen, rules-word, idle}
 
 -- ---- of which process a process can be the active one
@@ -203,24 +204,34 @@ module _ (st : State) (v : Rules st) where
   kept (SetWord s claim c word) f =
       rules-word (counted st s claim) (kept-counted st v s claim (f .admission)) c word (provisioned-counted st s claim c ∙ f .owner)
 
--- ---- a call, refused or not: by what it does where it is accepted
+-- ---- a call, refused or not: by what it does where it is accepted, and by the claim counted where it is refused after it
 module _ (st : State) (call : Call) where
   pub step-accepted : number st call ≡ 0 → step st call ≡ effect st call
   unfolding step
   step-accepted e = ap (λ (o : Outcome). o .state) (outcome-done st call e)
 
-  pub step-refused : (number st call ≡ 0 → ⊥) → step st call ≡ st
+  pub step-refused : (number st call ≡ 0 → ⊥) → step st call ≡ left st call
   unfolding step
   step-refused e = refusal-leaves st call e
 
-  pub step-by : (P : State → Type 0) → P st → (number st call ≡ 0 → P (effect st call)) → P (step st call)
-  step-by P p k =
-      split (eqb (number st call) 0)
-      (λ e. let z = eqb-true (number st call) 0 e in subst P (sym (step-accepted z)) (k z))
-      (λ e. subst P (sym (step-refused (eqb-false (number st call) 0 e))) p)
+  module _ (P : State → Type 0) (p : P st) (c : (s : Session) (claim : Claim) → Admitted st s claim → P (counted st s claim)) where
+    by-charged : (w : Protection) → protectedNumber st w ≡ 0 → P (charged st w)
+    unfolding charged protectedNumber
+    by-charged Free e = p
+    by-charged (Under s claim) e = c s claim (passed st s claim e)
+
+    by-left : P (left st call)
+    unfolding left
+    by-left = split (refusedAfter st call) (λ r. rw r (by-charged (protection call) (after-passed st call r))) (λ r. rw r p)
+
+    pub step-by : (number st call ≡ 0 → P (effect st call)) → P (step st call)
+    step-by k =
+        split (eqb (number st call) 0)
+        (λ e. let z = eqb-true (number st call) 0 e in subst P (sym (step-accepted z)) (k z))
+        (λ e. subst P (sym (step-refused (eqb-false (number st call) 0 e))) by-left)
 
 pub rules-step : (st : State) (call : Call) → Rules st → Rules (step st call)
-rules-step st call v = step-by st call Rules v (λ z. kept st v call (facts st call z))
+rules-step st call v = step-by st call Rules v (kept-counted st v) (λ z. kept st v call (facts st call z))
 
 pub rules-run : (st : State) (calls : List Call) → Rules st → Rules (run st calls)
 unfolding run

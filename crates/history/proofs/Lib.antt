@@ -1,11 +1,13 @@
 pub mod Facts
 pub mod Tables
+pub mod Read
 pub mod Keeping
 pub mod Form
 pub mod Looked
 pub mod Followed
 pub mod Told
 pub mod Once
+pub mod Again
 pub mod Theorems
 pub mod Examples
 pub mod Wrong

@@ -43,7 +43,7 @@ module _ (n : Name) where
   others x e h = each-imp (λ p d. differ-iff (p .name) n .1 (λ q. d (same-iff (x .name) n .0 e ∙ sym q))) h
 
   module _ (g : Life → Life) (z : g Gone ≡ Gone) where
-    look-fixed : (l : List Process) → Each (Fixed n g) l → look n l ≡ g (look n l)
+    pub look-fixed : (l : List Process) → Each (Fixed n g) l → look n l ≡ g (look n l)
     look-fixed [] h = sym z
     look-fixed (x ∷ l) (each-cons p h) =
         split (sameName (x .name) n) (λ e. rw e (sym (p e))) (λ e. rw e (look-fixed l h))

@@ -4,7 +4,7 @@
 use Prim.Native.Nat.{ℕ, _≤_, _<_}
 use mathlib.Core.Path.{_≡_, refl, ap, _∙_}
 use mathlib.Core.Logic.{_≢_}
-use mathlib.Core.Bool.{false}
+use mathlib.Core.Bool.{true, false}
 use mathlib.Core.List.{List, [], _∷_, _++_, map}
 use native.Mathlib.Omega.{arith}
 use lib.Dec.{eqb}
@@ -29,7 +29,7 @@ use Rattle.claims.specs.declared.Claim.{Claim}
 use Rattle.claims.specs.declared.Grants.{Grants}
 use Rattle.claims.specs.declared.State.{State}
 use Rattle.claims.specs.declared.UserClaim.{UserClaim}
-use Rattle.calls.specs.Calls.{Call, List′, Start, number, listed, fresh}
+use Rattle.calls.specs.Calls.{Call, List′, Start, number, passes, listed, fresh}
 use Rattle.calls.specs.Listing.{amongOf, rowOf, rowsOf, messageLength}
 use Rattle.calls.specs.Run.{step, run, numbers}
 use Rattle.calls.specs.declared.Wanted.{Wanted}
@@ -37,7 +37,7 @@ use Rattle.calls.proofs.Laws.{answer-number}
 use Rattle.facts.specs.Facts.{processes, Rules, at}
 use Rattle.facts.proofs.Laws as Facts
 use Rattle.history.specs.History.{Event, history, callsIn}
-use Rattle.history.specs.Lives.{Life, Live, after, onward, follow, told, nobody, accepted, count, down}
+use Rattle.history.specs.Lives.{Life, Live, after, onward, follow, told, nobody, passed, count, down}
 use Rattle.history.specs.Demand.{Carries, Demand3, ByPlaces, look, Tells, IsClaimOf, SameOwners}
 use Rattle.history.proofs.Tables.{rules-fresh}
 use Rattle.history.proofs.Keeping.{rules-run}
@@ -92,17 +92,17 @@ module _ (first : State) (rules : Rules first) (tell : Name → Life) (tells : T
   pub tells-from : Tells (told tell (history first calls)) (run first calls)
   tells-from = look-tells last kept after-all told-is
 
-  -- every number was accepted in its turn
-  pub in-turn-from : (n : Name) → accepted (told tell (history first calls) n) ≡ down (count (told tell (history first calls) n))
+  -- every number passed in its turn
+  pub in-turn-from : (n : Name) → passed (told tell (history first calls) n) ≡ down (count (told tell (history first calls) n))
   in-turn-from = Told.in-turn last kept after-all told-is
 
-  -- the next call under a user claim, if it is accepted, is one of the process that the search finds, by the history alone, and its number is the count so far
-  pub claim-from : (s : Session) (u : UserClaim) (call : Call) → Carries s u call → number (run first calls) call ≡ 0 → IsClaimOf (told tell (history first calls)) s u (activeProcess (run first calls) (UserOf s (u .credential)) .name)
+  -- the next call under a user claim, if that passes, is one of the process that the search finds, by the history alone, and its number is the count so far
+  pub claim-from : (s : Session) (u : UserClaim) (call : Call) → Carries s u call → passes (run first calls) call ≡ true → IsClaimOf (told tell (history first calls)) s u (activeProcess (run first calls) (UserOf s (u .credential)) .name)
   claim-from = claim-told last kept after-all told-is
 
-  -- so it is none of those that were accepted since the start
-  pub new-from : (s : Session) (u : UserClaim) (call : Call) → Carries s u call → number (run first calls) call ≡ 0 → Each (λ n. u .number ≢ n) (accepted (told tell (history first calls) (activeProcess (run first calls) (UserOf s (u .credential)) .name)))
-  unfolding accepted
+  -- so its number is none of those that passed since the start
+  pub new-from : (s : Session) (u : UserClaim) (call : Call) → Carries s u call → passes (run first calls) call ≡ true → Each (λ n. u .number ≢ n) (passed (told tell (history first calls) (activeProcess (run first calls) (UserOf s (u .credential)) .name)))
+  unfolding passed
   new-from s u call k e =
       rw (claim-from s u call k e .is)
       (each-imp (λ n (h : n < u .number) (q : u .number ≡ n). omega arith) (down-below (u .number) (u .number) (omega arith)))

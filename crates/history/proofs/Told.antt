@@ -26,12 +26,15 @@ use Rattle.table.proofs.Searched.{user-of}
 use Rattle.claims.specs.Module.{activePlace, activeProcess}
 use Rattle.claims.specs.declared.State.{State}
 use Rattle.claims.specs.declared.UserClaim.{UserClaim}
-use Rattle.calls.specs.Calls.{Call, number}
+use Rattle.claims.specs.declared.Claim.the-variants.{ByUser}
+use Rattle.calls.specs.Calls.{Call, passes}
 use Rattle.facts.specs.Facts.{processes, Rules}
 use Rattle.facts.proofs.Laws.{apart-turn}
-use Rattle.history.specs.Lives.{Life, Gone, Live, accepted, count, down}
-use Rattle.history.specs.Demand.{Carries, by-end, by-record, by-list, by-kill, by-set-word, life, lifeOf, look, Tells, IsClaimOf}
-use Rattle.history.proofs.Facts.{Claimed, facts}
+use Rattle.history.specs.Lives.{Life, Gone, Live, passed, count, down}
+use Rattle.history.specs.Demand.{Carries, life, lifeOf, look, Tells, IsClaimOf}
+use Rattle.history.proofs.Facts as Facts
+use Rattle.history.proofs.Facts.{Claimed}
+use Rattle.history.proofs.Read.{claim-passed}
 use Rattle.history.proofs.Looked.{Distinct, look-none}
 
 pub live-not-gone : {s : Session} {c : Credential} {ns : List ℕ} → Live s c ns ≡ Gone → ⊥
@@ -60,26 +63,26 @@ unfolding any firstIndex
 look-first n [] h = clash h refl
 look-first n (p ∷ l) h = split (sameName (p .name) n) (λ e. rw e) (λ e. rw e (look-first n l (rw e at h)))
 
-life-down : (k : Kind) (s : Session) (c : Credential) (n : ℕ) → accepted (life k s c n) ≡ down (count (life k s c n))
-unfolding accepted
+life-down : (k : Kind) (s : Session) (c : Credential) (n : ℕ) → passed (life k s c n) ≡ down (count (life k s c n))
+unfolding passed
 life-down User s c n = ap down (sym (length-down n))
 life-down Elevation s c n = refl
 life-down Saved s c n = ap down (sym (length-down n))
 
-look-down : (n : Name) (l : List Process) → accepted (look n l) ≡ down (count (look n l))
-unfolding accepted
+look-down : (n : Name) (l : List Process) → passed (look n l) ≡ down (count (look n l))
+unfolding passed
 look-down n [] = refl
 look-down n (p ∷ l) =
     split (sameName (p .name) n) (λ e. rw e (life-down (p .kind) (p .session) (p .credential) (p .next))) (λ e. rw e (look-down n l))
 
 next-is : (k : Kind) (s : Session) (c : Credential) (n : ℕ) → isElevation k ≡ false → n ≡ count (life k s c n)
-unfolding accepted
+unfolding passed
 next-is User s c n e = sym (length-down n)
 next-is Elevation s c n e = clash refl e
 next-is Saved s c n e = sym (length-down n)
 
 -- a name that it says is live in a session under a credential is that of the active process there
-record LiveAt (n : Name) (l : List Process) (s : Session) (c : Credential) : Type 0 where
+pub record LiveAt (n : Name) (l : List Process) (s : Session) (c : Credential) : Type 0 where
   pub place : ℕ
   pub within : place < length l
   pub named : getD l place freePlace .name .bytes ≡ n .bytes
@@ -93,7 +96,7 @@ live-active User t d i s c ns e =
 live-active Elevation t d i s c ns e = cc
 live-active Saved t d i s c ns e = cc
 
-look-live : (n : Name) (l : List Process) (s : Session) (c : Credential) (ns : List ℕ) → look n l ≡ Live s c ns → LiveAt n l s c
+pub look-live : (n : Name) (l : List Process) (s : Session) (c : Credential) (ns : List ℕ) → look n l ≡ Live s c ns → LiveAt n l s c
 unfolding isActive
 look-live n [] s c ns e = absurd (live-not-gone (sym e))
 look-live n (p ∷ l) s c ns e =
@@ -138,18 +141,11 @@ module _ (st : State) (v : Rules st) (tell : Name → Life) (is : (n : Name) →
   pub numbers-told : Each (λ p. isElevation (p .kind) ≡ false → p .next ≡ count (tell (p .name))) (processes st)
   numbers-told = each-imp (λ p e h. rw e (next-is (p .kind) (p .session) (p .credential) (p .next) h)) (look-tells .stands)
 
-  pub in-turn : (n : Name) → accepted (tell n) ≡ down (count (tell n))
+  pub in-turn : (n : Name) → passed (tell n) ≡ down (count (tell n))
   in-turn n = rw (is n) (look-down n (processes st))
 
-  -- ---- an accepted call under a user claim
-  claimed : (s : Session) (u : UserClaim) (call : Call) → Carries s u call → number st call ≡ 0 → Claimed st s u
-  claimed s u call (by-end keep) e = facts st call e
-  claimed s u call (by-record class) e = facts st call e
-  claimed s u call (by-list wanted room) e = facts st call e
-  claimed s u call (by-kill name) e = facts st call e .admission
-  claimed s u call (by-set-word c word) e = facts st call e .admission
-
-  module _ (s : Session) (u : UserClaim) (call : Call) (k : Carries s u call) (e : number st call ≡ 0) where
+  -- ---- a call under a user claim that passed
+  module _ (s : Session) (u : UserClaim) (call : Call) (k : Carries s u call) (e : passes st call ≡ true) where
     -- is one of the process that the search finds, by what is told alone, and its number is the count so far
     pub claim-told : IsClaimOf tell s u (activeProcess st (UserOf s (u .credential)) .name)
     unfolding activeProcess processAt
@@ -163,7 +159,7 @@ module _ (st : State) (v : Rules st) (tell : Name → Life) (is : (n : Name) →
         }
       where
         f : Claimed st s u
-        f = claimed s u call k e
+        f = Facts.passed st s (ByUser u) (claim-passed st call s u k e)
 
         only : (other : Name) → LiveAt other (processes st) s (u .credential) → other .bytes ≡ getD (processes st) (activePlace st (UserOf s (u .credential))) freePlace .name .bytes
         only other r =
@@ -177,7 +173,7 @@ module _ (st : State) (v : Rules st) (tell : Name → Life) (is : (n : Name) →
 
     -- so of whichever name is told to be live there, its number is the count
     pub turn-told : (n : Name) (ns : List ℕ) → tell n ≡ Live s (u .credential) ns → u .number ≡ count (tell n)
-    unfolding accepted
+    unfolding passed
     turn-told n ns h =
         let name : Name = activeProcess st (UserOf s (u .credential)) .name in
         let m : n ≡ name = same→name n name (same-iff n name .1 (claim-told .only n ns h)) in

@@ -1,6 +1,6 @@
--- "one that serves the first record and afterwards only answers falls to the next number, as does an invented number, by demand 3's history": of each such
--- build, calls after which demand 3 is false of the history that they have with it and the state that it is left in. As edits of the code:
--- `first_record_only` and `invented_next_number` in outcomes/must-fail, `number_not_tested` in claims/must-fail.
+-- "one that serves the first record and afterwards only answers falls to the next number, as does an invented number, by demand 3's history"; and one whose
+-- refusals spend nothing. Of each such build, calls after which demand 3 is false of the history that they have with it and the state that it is left in. As edits
+-- of the code: `first_record_only` and `invented_next_number` of claim_count, `number_not_tested` of claim_check, `refused_record_not_counted` of outcomes_standing.
 -- Assumes nothing.
 use Prim.Native.Nat.{ℕ}
 use mathlib.Core.Path.{_≡_, refl}
@@ -18,12 +18,12 @@ use Rattle.claims.specs.declared.Claim.{Claim}
 use Rattle.claims.specs.declared.Claim.the-variants.{Elevated, ByUser}
 use Rattle.claims.specs.declared.Class.{Class}
 use Rattle.claims.specs.declared.State.{State}
-use Rattle.calls.specs.Calls.{Call, Open, Close, Drop, Select, Start, Continue, Elevate, End, Record, List′, Kill, SetWord, number, withTable, effect, fresh}
+use Rattle.calls.specs.Calls.{Call, Open, Close, Drop, Select, Start, Continue, Elevate, End, Record, List′, Kill, SetWord, number, withTable, effect, protection, fresh}
 use Rattle.calls.specs.Run.{step}
 use Rattle.calls.proofs.Sequences.{P, pairs, session, credential, class, userYes, yes′, computed}
 use Rattle.history.specs.History.{Event}
-use Rattle.history.specs.Lives.{Gone, Live, told, nobody, accepted, counts, ends, shuts, drops, resumes, after, onward, follow}
-use Rattle.history.specs.Demand.{by-record, TwoRecords, Demand3}
+use Rattle.history.specs.Lives.{Gone, Live, told, nobody, passed, counts, ends, shuts, drops, resumes, after, charges, tellsPassed, onward, follow}
+use Rattle.history.specs.Demand.{TwoPassed, Demand3}
 use Rattle.history.proofs.Told.{live-not-gone}
 
 -- a build: what it answers, and the state that it leaves
@@ -77,7 +77,8 @@ module _ (build : Build) (calls : List Call) (n : ℕ) (ns : List ℕ) where
       → told nobody events P ≡ Live (session 0) (credential 1) ns
       → told nobody (events ++ (sent ∷ [])) P ≡ Live (session 0) (credential 1) (n ∷ ns)
       → (onward P sent (told nobody events P) ≡ Gone → ⊥)
-      → TwoRecords nobody (said build (fresh pairs) (started (calls ++ (recorded n ∷ recorded n ∷ [])))) P
+      → TwoPassed nobody (said build (fresh pairs) (started (calls ++ (recorded n ∷ recorded n ∷ [])))) P
+  unfolding protection tellsPassed
   sent-twice are lives again stays =
       record {
         before = events;
@@ -86,9 +87,9 @@ module _ (build : Build) (calls : List Call) (n : ℕ) (ns : List ℕ) where
         second = sent;
         rest = [];
         are = are;
-        one = record { session = session 0; claim = userYes 1 n; carried = by-record (class 4); accepted = refl; before = ns; lives = lives };
+        one = record { session = session 0; claim = userYes 1 n; carried = refl; told = refl; before = ns; lives = lives };
         stays = (stays, tt);
-        two = record { session = session 0; claim = userYes 1 n; carried = by-record (class 4); accepted = refl; before = n ∷ ns; lives = again };
+        two = record { session = session 0; claim = userYes 1 n; carried = refl; told = refl; before = n ∷ ns; lives = again };
       }
 
 -- ---- it answers as it should, and does nothing any more once the process of session 0 and credential 1 has one record
@@ -100,12 +101,12 @@ firstOnly = record { answers = number; leaves = λ st call. cond (isServed st) s
 
 -- after two records the next number is 1, and the history counts 2
 pub first-only-fails : Fails firstOnly (started (recorded 0 ∷ recorded 1 ∷ []))
-unfolding computed accepted counts ends shuts drops resumes after onward follow
+unfolding computed passed counts ends shuts drops resumes after charges tellsPassed onward follow
 first-only-fails d = let z : _≡_ {A = ℕ} 1 2 = each-at 0 freePlace (omega arith) (d .numbers) refl in absurd (omega arith)
 
 -- and the second may be sent again
 pub first-only-twice : Fails firstOnly (started (recorded 0 ∷ recorded 1 ∷ recorded 1 ∷ []))
-unfolding computed accepted counts ends shuts drops resumes after onward follow sent-twice
+unfolding computed passed counts ends shuts drops resumes after charges tellsPassed onward follow sent-twice
 first-only-twice d = d .once P (sent-twice firstOnly (recorded 0 ∷ []) 1 (0 ∷ []) refl refl refl live-not-gone) refl
 
 -- ---- it does not ask for the number
@@ -117,7 +118,7 @@ untested = record { answers = answersUntested; leaves = λ st call. cond (eqb (a
 
 -- a record may be sent again
 pub untested-fails : Fails untested (started (recorded 7 ∷ recorded 7 ∷ []))
-unfolding computed accepted counts ends shuts drops resumes after onward follow sent-twice
+unfolding computed passed counts ends shuts drops resumes after charges tellsPassed onward follow sent-twice
 untested-fails d = d .once P (sent-twice untested [] 7 [] refl refl refl live-not-gone) refl
 
 -- ---- it invents the next number: 8 after each record
@@ -137,5 +138,14 @@ invented =
 
 -- after one record the next number is 8, and the history counts 1
 pub invented-fails : Fails invented (started (recorded 0 ∷ []))
-unfolding computed accepted counts ends shuts drops resumes after onward follow
+unfolding computed passed counts ends shuts drops resumes after charges tellsPassed onward follow
 invented-fails d = let z : _≡_ {A = ℕ} 8 1 = each-at 0 freePlace (omega arith) (d .numbers) refl in absurd (omega arith)
+
+-- ---- it leaves the state as it was on every refusal
+abbrev unspent : Build
+unspent = record { answers = number; leaves = λ st call. cond (eqb (number st call) 0) (effect st call) st }
+
+-- credential 1 lacks class 5: after a record that got 10 the next number is 0, and the history counts 1
+pub unspent-fails : Fails unspent (started (Record (session 0) (yes′ 1 0) (class 5) ∷ []))
+unfolding computed passed counts ends shuts drops resumes after charges tellsPassed onward follow
+unspent-fails d = let z : _≡_ {A = ℕ} 0 1 = each-at 0 freePlace (omega arith) (d .numbers) refl in absurd (omega arith)

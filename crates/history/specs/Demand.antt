@@ -3,7 +3,7 @@
 use Prim.Native.Nat.{ℕ, _≤_}
 use mathlib.Core.Path.{_≡_}
 use mathlib.Core.Logic.{_≢_}
-use mathlib.Core.Bool.{Bool, false, cond}
+use mathlib.Core.Bool.{true, false, cond}
 use mathlib.Core.List.{List, [], _∷_, _++_}
 use lib.ListN.{length}
 use Rattle.lists.specs.Each.{Each}
@@ -15,36 +15,30 @@ use Rattle.names.specs.declared.Name.{Name}
 use Rattle.names.specs.declared.Session.{Session}
 use Rattle.table.specs.Table.{isElevation}
 use Rattle.table.specs.declared.Process.{Process}
-use Rattle.claims.specs.Numbers as No
 use Rattle.claims.specs.Module.{provisioned}
 use Rattle.claims.specs.declared.Claim.{Claim}
 use Rattle.claims.specs.declared.Claim.the-variants.{ByUser}
-use Rattle.claims.specs.declared.Class.{Class}
 use Rattle.claims.specs.declared.State.{State}
 use Rattle.claims.specs.declared.UserClaim.{UserClaim}
-use Rattle.calls.specs.Calls.{Call, End, Record, List′, Kill, SetWord, listed}
+use Rattle.calls.specs.Calls.{Call, Under, protection, listed}
 use Rattle.calls.specs.declared.Wanted.{Wanted}
 use Rattle.facts.specs.Facts.{processes, Rules, IsTaken, at, RulesByPlaces}
 use Rattle.history.specs.History.{Event}
-use Rattle.history.specs.Lives.{Life, Gone, Live, Raised, Kept, accepted, count, onward, told, down}
+use Rattle.history.specs.Lives.{Life, Gone, Live, Raised, Kept, count, tellsPassed, onward, told, down}
 
--- ---- accepted records
+-- ---- claims that passed
 
 -- a call under a user claim in a session
-pub data Carries (s : Session) (u : UserClaim) : Call → Type 0 where
-  by-end : (keep : Bool) → Carries s u (End s u keep)
-  by-record : (class : Class) → Carries s u (Record s (ByUser u) class)
-  by-list : (wanted : Wanted) (room : ℕ) → Carries s u (List′ s (ByUser u) wanted room)
-  by-kill : (name : Name) → Carries s u (Kill s (ByUser u) name)
-  by-set-word : (c : Credential) (word : ℕ) → Carries s u (SetWord s (ByUser u) c word)
+abbrev pub Carries : Session → UserClaim → Call → Type 0
+Carries s u call = protection call ≡ Under s (ByUser u)
 
--- "A call answered 0 under a user claim is what demand 3 calls an accepted record": the event is one of the process that has this life, which is
--- the active one of the claim's session and credential
-pub record IsRecordOf (life : Life) (e : Event) : Type 0 where
+-- "accepted claims plus these": the claim of the event passed its check, and is one of the process that has this life, which is the active one of the claim's
+-- session and credential
+pub record IsPassedOf (life : Life) (e : Event) : Type 0 where
   pub session : Session
   pub claim : UserClaim
   pub carried : Carries session claim (e .call)
-  pub accepted : e .answered ≡ No.done
+  pub told : tellsPassed (e .answered) ≡ true
   pub before : List ℕ
   pub lives : life ≡ Live session (claim .credential) before
 
@@ -53,26 +47,26 @@ abbrev pub Stays : Name → List Event → Life → Type 0
 Stays name [] life = Unit {0}
 Stays name (e ∷ events) life = (onward name e life ≢ Gone) × Stays name events (onward name e life)
 
--- two accepted records of one process, none of the events from the first to the second removing it; the second itself may
-pub record TwoRecords (tell : Name → Life) (events : List Event) (name : Name) : Type 0 where
+-- two claims of one process that passed, none of the events from the first to the second removing it; the second itself may
+pub record TwoPassed (tell : Name → Life) (events : List Event) (name : Name) : Type 0 where
   pub before : List Event
   pub first : Event
   pub between : List Event
   pub second : Event
   pub rest : List Event
   pub are : events ≡ before ++ (first ∷ (between ++ (second ∷ rest)))
-  pub one : IsRecordOf (told tell before name) first
+  pub one : IsPassedOf (told tell before name) first
   pub stays : Stays name (first ∷ between) (told tell before name)
-  pub two : IsRecordOf (told tell (before ++ (first ∷ between)) name) second
+  pub two : IsPassedOf (told tell (before ++ (first ∷ between)) name) second
 
 -- ---- the demand
 pub record Demand3 (tell : Name → Life) (events : List Event) (st : State) : Type 0 where
   -- places, names, owners and sessions
   pub rules : Rules st
-  -- "the next number of each equal to the count of records accepted under it, taken from the history of calls"
+  -- "the next number of each equal to the count of records accepted under it, taken from the history of calls"; order 3: "counts accepted claims plus these"
   pub numbers : Each (λ p. isElevation (p .kind) ≡ false → p .next ≡ count (told tell events (p .name))) (processes st)
-  -- "between a start and that process's removal no number is accepted twice"
-  pub once : (name : Name) (v : TwoRecords tell events name) → v .one .claim .number ≢ v .two .claim .number
+  -- "between a start and that process's removal no number is accepted twice": none passes a claim's check twice, though the call was refused afterwards
+  pub once : (name : Name) (v : TwoPassed tell events name) → v .one .claim .number ≢ v .two .claim .number
   -- "and no listing exceeds 616 bytes"
   pub listing : (s : Session) (claim : Claim) (wanted : Wanted) (room : ℕ) → listed st s claim wanted room .length ≤ 616
 
@@ -83,7 +77,7 @@ pub record ByPlaces (tell : Name → Life) (events : List Event) (st : State) : 
 
 -- ---- what is told of a name is what the table has
 
--- what a process that stands is, in the words of a life: its session, its credential, and every number below its next accepted once, in order
+-- what a process that stands is, in the words of a life: its session, its credential, and every number below its next passed once, in order
 abbrev pub life : Kind → Session → Credential → ℕ → Life
 life User s c next = Live s c (down next)
 life Elevation s c next = Raised s

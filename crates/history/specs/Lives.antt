@@ -1,7 +1,7 @@
--- What a history tells of the process of a name: one name followed through the events, with the numbers accepted under its process since
--- its start. It looks at the calls and the numbers that they were answered, and at no state.
+-- What a history tells of the process of a name: one name followed through the events, with the numbers of the claims that passed under its process
+-- since its start. It looks at the calls and the numbers that they were answered, and at no state.
 use Prim.Native.Nat.{ℕ, zero, suc}
-use mathlib.Core.Bool.{Bool, cond, _&&_}
+use mathlib.Core.Bool.{Bool, cond, not, _&&_, _||_}
 use mathlib.Core.List.{List, [], _∷_}
 use lib.Dec.{eqb}
 use lib.ListN.{length}
@@ -12,26 +12,26 @@ use Rattle.names.specs.declared.Session.{Session}
 use Rattle.claims.specs.Numbers as No
 use Rattle.claims.specs.declared.Claim.{Claim}
 use Rattle.claims.specs.declared.Claim.the-variants.{Elevated, ByUser}
-use Rattle.calls.specs.Calls.{Call, Open, Close, Drop, Select, Start, Continue, Elevate, End, Record, List′, Kill, SetWord}
+use Rattle.calls.specs.Calls.{Call, Open, Close, Drop, Select, Start, Continue, Elevate, End, Record, List′, Kill, SetWord, Protection, Free, Under, protection}
 use Rattle.history.specs.History.{Event}
 
 -- no process has the name; an active user process of a session and a credential has it; the elevation of a session; a credential's saved
--- process. A user process has the numbers that were accepted under it since its start, the last first
+-- process. A user process has the numbers that passed under it since its start, the last first
 pub data Life : Type 0 where
   Gone : Life
   Live : Session → Credential → List ℕ → Life
   Raised : Session → Life
   Kept : Credential → List ℕ → Life
 
--- the numbers accepted since the start, the last first, and how many they are
-unfoldable pub accepted : Life → List ℕ
-accepted Gone = []
-accepted (Live s c ns) = ns
-accepted (Raised s) = []
-accepted (Kept c ns) = ns
+-- the numbers that passed since the start, the last first, and how many they are
+unfoldable pub passed : Life → List ℕ
+passed Gone = []
+passed (Live s c ns) = ns
+passed (Raised s) = []
+passed (Kept c ns) = ns
 
 abbrev pub count : Life → ℕ
-count life = length (accepted life)
+count life = length (passed life)
 
 -- ---- what becomes of the process of a name by an accepted call. An active one stands in session t and, a user process, is credential d's
 
@@ -42,8 +42,7 @@ sameSession s t = eqb (t .0) (s .0)
 abbrev pub isUserOf : Session → Credential → Session → Credential → Bool
 isUserOf s c t d = sameSession s t && eqb (d .0) (c .0)
 
--- "A call answered 0 under a user claim is what demand 3 calls an accepted record": it is one of the process that is active in the claim's
--- session under the claim's credential. "Elevated claims have no number"
+-- a claim that passed is one of the process that is active in the claim's session under the claim's credential. "Elevated claims have no number"
 unfoldable pub counts : Session → Claim → Life → Life
 counts s Elevated life = life
 counts s (ByUser u) Gone = Gone
@@ -94,9 +93,31 @@ after name (List′ s claim wanted room) life = counts s claim life
 after name (Kill s claim old) life = cond (sameName old name) Gone (counts s claim life)
 after name (SetWord s claim c word) life = counts s claim life
 
--- by an event: a refused call counts nothing and removes nothing
+-- ---- by a call that is refused. "demand 3 counts accepted claims plus these"
+
+-- what its claim counts, where it passed
+unfoldable pub charges : Protection → Life → Life
+charges Free life = life
+charges (Under s claim) life = counts s claim life
+
+-- whether it passed, by the number that the call was answered, where the claim's process stands: 1, 2 and 3 come ahead of the claim, 13, 9 and 8 are its own. Where
+-- that process stands its own 5 and 6 are not given, and every other number comes after it. Theorem `reading`
+unfoldable pub tellsPassed : ℕ → Bool
+tellsPassed n =
+    not
+    (eqb n No.argument
+    || eqb n No.session
+    || eqb n No.noVersion
+    || eqb n No.spent
+    || eqb n No.outOfTurn
+    || eqb n No.verdict)
+
+-- by an event: a refused call removes nothing
 unfoldable pub onward : Name → Event → Life → Life
-onward name e life = cond (eqb (e .answered) No.done) (after name (e .call) life) life
+onward name e life =
+    cond (eqb (e .answered) No.done)
+    (after name (e .call) life)
+    (cond (tellsPassed (e .answered)) (charges (protection (e .call)) life) life)
 
 -- by events, one after another
 unfoldable pub follow : Name → List Event → Life → Life
@@ -111,7 +132,7 @@ told tell events name = follow name events (tell name)
 abbrev pub nobody : Name → Life
 nobody name = Gone
 
--- n - 1, .., 1, 0: what was accepted where every number came in its turn and n is the next
+-- n - 1, .., 1, 0: what passed where every number came in its turn and n is the next
 abbrev pub down : ℕ → List ℕ
 down zero = []
 down (suc n) = n ∷ down n

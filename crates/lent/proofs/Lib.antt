@@ -1,3 +1,4 @@
 pub mod Images
 pub mod Theorems
+pub mod Refusals
 pub mod Examples

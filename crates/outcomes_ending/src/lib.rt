@@ -1,4 +1,4 @@
-// The protected calls that end a process: state in by value, answer and state out by value. Each asks its tests for the number, and does what it does where that is 0.
+// The protected calls that end a process: state in by value, answer and state out by value. Each asks its tests for the number, counts the claim where it passed, and does what it does where the number is 0.
 ghost use mathlib.Core.Path.{_≡_};
 ghost use Rattle.calls.specs.Calls.{End, Kill, outcome};
 use calls::Outcome;
@@ -14,13 +14,14 @@ use names::Session;
 pub fn end(st: State, s: Session, u: UserClaim, keep: bool) -> Outcome
     ensures { λ r. ⌜ r ≡ outcome st (End s u keep) ⌝ }
 {
-    let by = claim_admission::admit(st, s, Claim::ByUser(u));
+    let claim = Claim::ByUser(u);
+    let by = claim_admission::admit(st, s, claim);
     let n = calls_protected::end_number(by, keep);
+    let counted = claim_count::charged_by(st, claim, by, n);
     if n != DONE {
-        return effects::refused_claim(st, n, Claim::ByUser(u));
+        return effects::refused_claim(counted, n, claim);
     }
-    let next = claim_count::counted_at(st, by.place);
-    effects::accepted(effects::ended(next, by.place, keep))
+    effects::accepted(effects::ended(counted, by.place, keep))
 }
 
 // ---- kill
@@ -30,11 +31,11 @@ pub fn kill(st: State, s: Session, claim: Claim, name: Name) -> Outcome
 {
     let by = claim_admission::admit(st, s, claim);
     let n = calls_protected::kill_number(st, by, name);
+    let next = claim_count::charged_by(st, claim, by, n);
     if n != DONE {
-        return effects::refused_claim(st, n, claim);
+        return effects::refused_claim(next, n, claim);
     }
     let at = calls_table::named_place(st, name, calls_protected::reach(by));
-    let next = claim_count::counted_by(st, claim, by.place);
     let t = next.table;
     effects::accepted(effects::with_table(next, table_removal::removed(t, at)))
 }

@@ -1,4 +1,4 @@
-// The protected calls that leave every process standing: state in by value, answer and state out by value. Each asks its tests for the number, and does what it does where that is 0.
+// The protected calls that leave every process standing: state in by value, answer and state out by value. Each asks its tests for the number, counts the claim where it passed, and does what it does where the number is 0.
 ghost use mathlib.Core.Path.{_≡_};
 ghost use Rattle.calls.specs.Calls.{Record, SetWord, outcome, listed};
 use calls::Listed;
@@ -18,10 +18,11 @@ pub fn record(st: State, s: Session, claim: Claim, class: Class) -> Outcome
 {
     let by = claim_admission::admit(st, s, claim);
     let n = calls_protected::record_number(by, class);
+    let counted = claim_count::charged_by(st, claim, by, n);
     if n != DONE {
-        return effects::refused_claim(st, n, claim);
+        return effects::refused_claim(counted, n, claim);
     }
-    effects::accepted(claim_count::counted_by(st, claim, by.place))
+    effects::accepted(counted)
 }
 
 // ---- list
@@ -32,14 +33,15 @@ pub fn list(st: State, s: Session, claim: Claim, wanted: Wanted, room: usize) ->
 {
     let by = claim_admission::admit(st, s, claim);
     let n = calls_listing::list_number(st, by, wanted, room);
+    let counted = claim_count::charged_by(st, claim, by, n);
     if n != DONE {
         return Listed {
-            outcome: effects::refused_claim(st, n, claim),
+            outcome: effects::refused_claim(counted, n, claim),
             length: 0,
         };
     }
     Listed {
-        outcome: effects::accepted(claim_count::counted_by(st, claim, by.place)),
+        outcome: effects::accepted(counted),
         length: calls_listing::message_length(st, wanted),
     }
 }
@@ -51,12 +53,9 @@ pub fn set_word(st: State, s: Session, claim: Claim, target: Credential, word: u
 {
     let by = claim_admission::admit(st, s, claim);
     let n = calls_protected::set_word_number(st, by, target);
+    let next = claim_count::charged_by(st, claim, by, n);
     if n != DONE {
-        return effects::refused_claim(st, n, claim);
+        return effects::refused_claim(next, n, claim);
     }
-    effects::accepted(effects::with_word(
-        claim_count::counted_by(st, claim, by.place),
-        target,
-        word,
-    ))
+    effects::accepted(effects::with_word(next, target, word))
 }

@@ -12,13 +12,13 @@ use Rattle.calls.specs.Calls.{Call, Open, Select, Start, Continue, End, Record,
 use Rattle.calls.specs.Run.{run}
 use Rattle.calls.proofs.Sequences.{P, Q, session, credential, class, userYes, yes′, computed}
 use Rattle.history.specs.History.{Event, history}
-use Rattle.history.specs.Lives.{Life, Gone, Live, Kept, accepted, count, told, counts, ends, shuts, drops, resumes, after, onward, follow}
+use Rattle.history.specs.Lives.{Life, Gone, Live, Kept, passed, count, told, counts, ends, shuts, drops, resumes, after, charges, tellsPassed, onward, follow}
 use Rattle.image.specs.Image.{numbersIn, maskIn, rowCountIn, grantsSaid, grantsIn, savedFrom, keptIn, restored, imageLong, headFits, wordFits, isKeepable, differ, isImage, imageBytes, imageOf, numbersBytes, maskOf, wordIn, savedOf, savedBytes}
 use Rattle.resumed.specs.Resumed.{toldSince, starts, isNew, toldBy}
 
 -- all that the examples compute with
 unfoldable pub opened : Type 1
-unfolding computed history counts ends shuts drops resumes after onward follow accepted starts isNew numberOf numberAt rows every pairwise numbersIn maskIn rowCountIn grantsSaid grantsIn savedFrom keptIn restored imageLong headFits wordFits isKeepable differ isImage imageBytes imageOf numbersBytes maskOf wordIn savedOf savedBytes
+unfolding computed history counts ends shuts drops resumes after charges tellsPassed onward follow passed starts isNew numberOf numberAt rows every pairwise numbersIn maskIn rowCountIn grantsSaid grantsIn savedFrom keptIn restored imageLong headFits wordFits isKeepable differ isImage imageBytes imageOf numbersBytes maskOf wordIn savedOf savedBytes
 opened = Type 0
 
 -- credential 0 has the classes 0 to 4, no other is provisioned; P is saved, with next number 3

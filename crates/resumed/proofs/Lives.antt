@@ -1,4 +1,4 @@
--- The automaton of a name alone: numbers that were accepted before stay below those that come, and a start forgets them.
+-- The automaton of a name alone: numbers that passed before stay below those that come, and a start forgets them.
 -- Assumes nothing.
 use Prim.Native.Nat.{ℕ, _+_}
 use mathlib.Core.Path.{_≡_, refl, ap, _∙_}
@@ -15,20 +15,20 @@ use Rattle.names.specs.declared.Name.{Name}
 use Rattle.names.specs.declared.Session.{Session}
 use Rattle.claims.specs.declared.Claim.{Claim}
 use Rattle.claims.specs.declared.Claim.the-variants.{Elevated, ByUser}
-use Rattle.calls.specs.Calls.{Call, Open, Close, Drop, Select, Start, Continue, Elevate, End, Record, List′, Kill, SetWord}
+use Rattle.calls.specs.Calls.{Call, Open, Close, Drop, Select, Start, Continue, Elevate, End, Record, List′, Kill, SetWord, Protection, Free, Under, protection}
 use Rattle.history.specs.History.{Event}
-use Rattle.history.specs.Lives.{Life, Gone, Live, Raised, Kept, accepted, count, sameSession, isUserOf, counts, ends, shuts, drops, resumes, after, onward, follow}
+use Rattle.history.specs.Lives.{Life, Gone, Live, Raised, Kept, passed, count, sameSession, isUserOf, counts, ends, shuts, drops, resumes, after, charges, tellsPassed, onward, follow}
 use Rattle.resumed.specs.Resumed.{bare, starts, begins, isNew}
 
--- a life after one that had these numbers accepted
+-- a life after one that had these numbers
 abbrev pub onto : List ℕ → Life → Life
 onto old Gone = Gone
 onto old (Live s c ns) = Live s c (ns ++ old)
 onto old (Raised s) = Raised s
 onto old (Kept c ns) = Kept c (ns ++ old)
 
-pub onto-bare : (life : Life) → onto (accepted life) (bare life) ≡ life
-unfolding accepted
+pub onto-bare : (life : Life) → onto (passed life) (bare life) ≡ life
+unfolding passed
 onto-bare Gone = refl
 onto-bare (Live s c ns) = refl
 onto-bare (Raised s) = refl
@@ -42,7 +42,7 @@ isUsers (Raised s) = false
 isUsers (Kept c ns) = true
 
 pub count-onto : (old : List ℕ) (life : Life) → isUsers (onto old life) ≡ true → count (onto old life) ≡ length old + count life
-unfolding accepted
+unfolding passed
 count-onto old Gone h = clash h refl
 count-onto old (Live s c ns) h = simp length-append (omega arith)
 count-onto old (Raised s) h = clash h refl
@@ -102,10 +102,17 @@ module _ (old : List ℕ) where
   after-onto n (Kill s claim m) h life = split (sameName m n) (λ e. rw e) (λ e. rw e (counts-onto s claim life))
   after-onto n (SetWord s claim c word) h life = counts-onto s claim life
 
+  charges-onto : (w : Protection) (life : Life) → charges w (onto old life) ≡ onto old (charges w life)
+  unfolding charges
+  charges-onto Free life = refl
+  charges-onto (Under s claim) life = counts-onto s claim life
+
   onward-onto : (n : Name) (e : Event) → begins n e ≡ false → (life : Life) → onward n e (onto old life) ≡ onto old (onward n e life)
   unfolding onward
   onward-onto n e h life =
-      split (eqb (e .answered) 0) (λ q. rw q (after-onto n (e .call) (rw q at h) life)) (λ q. rw q)
+      split (eqb (e .answered) 0)
+      (λ q. rw q (after-onto n (e .call) (rw q at h) life))
+      (λ q. split (tellsPassed (e .answered)) (λ t. rw (q, t) (charges-onto (protection (e .call)) life)) (λ t. rw (q, t)))
 
   pub follow-onto : (n : Name) (events : List Event) → isNew events n ≡ false → (life : Life) → follow n events (onto old life) ≡ onto old (follow n events life)
   unfolding follow isNew any
@@ -168,9 +175,17 @@ after-gone n (List′ s claim wanted room) h = counts-gone s claim
 after-gone n (Kill s claim m) h = split (sameName m n) (λ e. rw e) (λ e. rw e (counts-gone s claim))
 after-gone n (SetWord s claim c word) h = counts-gone s claim
 
+charges-gone : (w : Protection) → charges w Gone ≡ Gone
+unfolding charges
+charges-gone Free = refl
+charges-gone (Under s claim) = counts-gone s claim
+
 onward-gone : (n : Name) (e : Event) → begins n e ≡ false → onward n e Gone ≡ Gone
 unfolding onward
-onward-gone n e h = split (eqb (e .answered) 0) (λ q. rw q (after-gone n (e .call) (rw q at h))) (λ q. rw q)
+onward-gone n e h =
+    split (eqb (e .answered) 0)
+    (λ q. rw q (after-gone n (e .call) (rw q at h)))
+    (λ q. split (tellsPassed (e .answered)) (λ t. rw (q, t) (charges-gone (protection (e .call)))) (λ t. rw (q, t)))
 
 pub follow-gone : (n : Name) (events : List Event) → isNew events n ≡ false → follow n events Gone ≡ Gone
 unfolding follow isNew any

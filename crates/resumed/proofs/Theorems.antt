@@ -27,17 +27,17 @@ use Rattle.claims.specs.Module.{provisioned, activeProcess}
 use Rattle.claims.specs.declared.Grants.{Grants}
 use Rattle.claims.specs.declared.State.{State}
 use Rattle.claims.specs.declared.UserClaim.{UserClaim}
-use Rattle.calls.specs.Calls.{Call, number, fresh}
+use Rattle.calls.specs.Calls.{Call, passes, fresh}
 use Rattle.calls.specs.Run.{run}
 use Rattle.facts.specs.Facts.{processes, isRunning, Owned, Rules, IsState}
 use Rattle.history.specs.History.{Event, history}
-use Rattle.history.specs.Lives.{Life, Gone, Live, Raised, Kept, accepted, count, follow, told, nobody, down}
+use Rattle.history.specs.Lives.{Life, Gone, Live, Raised, Kept, passed, count, follow, told, nobody, down}
 use Rattle.history.specs.Demand.{life, lifeOf, look, Carries, Tells, IsClaimOf, Demand3}
 use Rattle.history.specs.Fits.{Fits, Eight}
 use Rattle.history.proofs.Looked.{look-reject}
 use Rattle.history.proofs.Form.{state-run, state-fresh}
 use Rattle.history.proofs.Told.{live-not-gone, length-down, down-below, tells-look, look-tells}
-use Rattle.history.proofs.Once.{record-number}
+use Rattle.history.proofs.Once.{passed-number}
 use Rattle.history.proofs.Theorems.{demand3-from, tells-from, in-turn-from, claim-from, new-from}
 use Rattle.image.specs.Image.{savedAt, savedSize, isKept, savedOf, rowCountIn, savedFrom, keptIn, isImage, restored, cycled, numbersBytes, wordSize, imageOf, imageBytes}
 use Rattle.image.proofs.Rows.{select-reject}
@@ -50,17 +50,17 @@ users User s c n e = refl
 users Elevation s c n e = clash refl e
 users Saved s c n e = refl
 
--- what was accepted since, above what was before
+-- what passed since, above what was before
 count-since : (tell : Name → Life) (events : List Event) (n : Name) → isUsers (told tell events n) ≡ true → count (told tell events n) ≡ cond (isNew events n) 0 (count (tell n)) + count (toldSince tell events n)
 count-since tell events n h =
     split
     (isNew events n)
     (λ e. rw (e, follow-new n events e (tell n) (bare (tell n))) (omega arith))
     (λ e.
-    let both : told tell events n ≡ onto (accepted (tell n)) (toldSince tell events n) =
-    ap (follow n events) (sym (onto-bare (tell n))) ∙ follow-onto (accepted (tell n)) n events e (bare (tell n))
+    let both : told tell events n ≡ onto (passed (tell n)) (toldSince tell events n) =
+    ap (follow n events) (sym (onto-bare (tell n))) ∙ follow-onto (passed (tell n)) n events e (bare (tell n))
     in
-    rw e (ap count both ∙ count-onto (accepted (tell n)) (toldSince tell events n) (rw both at h)))
+    rw e (ap count both ∙ count-onto (passed (tell n)) (toldSince tell events n) (rw both at h)))
 
 -- a process that is live and was not started since has all of them
 not-below : (tell : Name → Life) (events : List Event) (n : Name) (s : Session) (c : Credential) (ns : List ℕ) → told tell events n ≡ Live s c ns → isNew events n ≡ false → count (tell n) ≤ count (told tell events n)
@@ -82,14 +82,14 @@ module _ (first : State) (rules : Rules first) (tell : Name → Life) (tells : T
             (d .numbers);
         not-below =
             λ n v old.
-            let is = record-number first rules tell tells calls n (v .before) (v .rest) (v .event) (v .are) (v .one) in
+            let is = passed-number first rules tell tells calls n (v .before) (v .rest) (v .event) (v .are) (v .one) in
             let low = not-below tell (v .before) n (v .one .session) (v .one .claim .credential) (v .one .before) (v .one .lives) old in
             omega (arith, is, low);
       }
 
-  -- the next call under a user claim, if it is accepted
-  pub claim-told-from : (s : Session) (u : UserClaim) (call : Call) → Carries s u call → number (run first calls) call ≡ 0 → IsClaimFrom tell (history first calls) s u (activeProcess (run first calls) (UserOf s (u .credential)) .name)
-  unfolding accepted
+  -- the next call under a user claim, if that passes
+  pub claim-told-from : (s : Session) (u : UserClaim) (call : Call) → Carries s u call → passes (run first calls) call ≡ true → IsClaimFrom tell (history first calls) s u (activeProcess (run first calls) (UserOf s (u .credential)) .name)
+  unfolding passed
   claim-told-from s u call k e =
       let name : Name = activeProcess (run first calls) (UserOf s (u .credential)) .name in
       let claim : IsClaimOf (told tell (history first calls)) s u name = claim-from first rules tell tells calls s u call k e in
@@ -136,7 +136,7 @@ module _ (b : List ℕ) (g : Bytes b) (e : isImage b ≡ true) where
       (subst (λ l. Each (λ p. toldBy b (p .name) ≡ lifeOf p) l) (stands-is b) (image-tells .stands))
 
   pub from-image : FromImage b
-  unfolding accepted
+  unfolding passed
   from-image =
       record {
         rows = rows-tell;
@@ -148,7 +148,7 @@ module _ (b : List ℕ) (g : Bytes b) (e : isImage b ≡ true) where
   pub image-demand3 : (calls : List Call) → Demand3From (toldBy b) (history (restored b) calls) (run (restored b) calls)
   image-demand3 = demand3-told (restored b) (image-state b g e .rules) (toldBy b) image-tells
 
-  pub image-claim : (calls : List Call) (s : Session) (u : UserClaim) (call : Call) → Carries s u call → number (run (restored b) calls) call ≡ 0 → IsClaimFrom (toldBy b) (history (restored b) calls) s u (activeProcess (run (restored b) calls) (UserOf s (u .credential)) .name)
+  pub image-claim : (calls : List Call) (s : Session) (u : UserClaim) (call : Call) → Carries s u call → passes (run (restored b) calls) call ≡ true → IsClaimFrom (toldBy b) (history (restored b) calls) s u (activeProcess (run (restored b) calls) (UserOf s (u .credential)) .name)
   image-claim = claim-told-from (restored b) (image-state b g e .rules) (toldBy b) image-tells
 
 -- ---- a power cycle
@@ -213,7 +213,7 @@ module _ (first : State) (v : IsState first) (tell : Name → Life) (tells : Tel
   rules-again : Rules again
   rules-again = rw (state-restored last) (rules-cycled (run first calls) (last .rules))
 
-  module _ (more : List Call) (s : Session) (u : UserClaim) (call : Call) (k : Carries s u call) (e : number (run again more) call ≡ 0) where
+  module _ (more : List Call) (s : Session) (u : UserClaim) (call : Call) (k : Carries s u call) (e : passes (run again more) call ≡ true) where
     abbrev name : Name
     name = activeProcess (run again more) (UserOf s (u .credential)) .name
 
@@ -226,8 +226,8 @@ module _ (first : State) (v : IsState first) (tell : Name → Life) (tells : Tel
           live-not-gone
           (sym (after .claim .is) ∙ ap (follow name (history again more)) (told-through name ∙ z) ∙ follow-gone name (history again more) old)
 
-      above : (is : Life) → told tell (history first calls) name ≡ is → accepted is ≡ down (count is) → Each (λ n. n < u .number) (accepted is)
-      unfolding accepted
+      above : (is : Life) → told tell (history first calls) name ≡ is → passed is ≡ down (count is) → Each (λ n. n < u .number) (passed is)
+      unfolding passed
       above Gone is turn = each-nil
       above (Live t d ns) is turn = absurd (not-gone (rw is))
       above (Raised t) is turn = each-nil
@@ -236,8 +236,8 @@ module _ (first : State) (v : IsState first) (tell : Name → Life) (tells : Tel
           let kept : toldBy image name ≡ Kept d ns = told-through name ∙ rw is in
           subst (λ (l : List ℕ). Each (λ n. n < u .number) l) (sym turn) (down-below (length ns) (u .number) (rw kept at low))
 
-      -- so of a process that was saved then, no number that was accepted before is accepted after
-      pub claim-through : Each (λ n. n < u .number) (accepted (told tell (history first calls) name))
+      -- so of a process that was saved then, no number that passed before passes after
+      pub claim-through : Each (λ n. n < u .number) (passed (told tell (history first calls) name))
       claim-through = above (told tell (history first calls) name) refl (in-turn-from first (v .rules) tell tells calls name)
 
 -- ---- "the fresh module being the case of an image without rows"

@@ -13,9 +13,8 @@ use Rattle.calls.specs.Calls.{Call, Open, Select, Continue}
 use Rattle.calls.specs.Run.{run}
 use Rattle.calls.proofs.Sequences.{P, session, credential, class, userYes}
 use Rattle.history.specs.History.{history}
-use Rattle.history.specs.Demand.{by-record}
 use Rattle.image.specs.Image.{grantsIn, keptIn, moduleOf}
-use Rattle.resumed.specs.Resumed.{ARecord, Demand3From, toldBy}
+use Rattle.resumed.specs.Resumed.{OnePassed, Demand3From, toldBy}
 use Rattle.resumed.proofs.Examples.{opened, image, recorded}
 
 abbrev numbered : ℕ → Process → Process
@@ -35,7 +34,7 @@ abbrev sent : ℕ → List Call
 sent n = continued (recorded n ∷ [])
 
 -- from 0: a record with number 0 is accepted
-old : ARecord (toldBy image) (history (goneOnFrom 0) (sent 0)) P
+old : OnePassed (toldBy image) (history (goneOnFrom 0) (sent 0)) P
 unfolding opened
 old =
     record {
@@ -43,7 +42,7 @@ old =
       event = record { call = recorded 0; answered = 0 };
       rest = [];
       are = refl;
-      one = record { session = session 0; claim = userYes 0 0; carried = by-record (class 4); accepted = refl; before = 2 ∷ 1 ∷ 0 ∷ []; lives = refl };
+      one = record { session = session 0; claim = userYes 0 0; carried = refl; told = refl; before = 2 ∷ 1 ∷ 0 ∷ []; lives = refl };
     }
 
 pub from-0-fails : Fails 0 (sent 0)

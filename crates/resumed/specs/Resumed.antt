@@ -18,20 +18,20 @@ use Rattle.claims.specs.declared.UserClaim.{UserClaim}
 use Rattle.calls.specs.Calls.{Call, Open, Close, Drop, Select, Start, Continue, Elevate, End, Record, List′, Kill, SetWord}
 use Rattle.facts.specs.Facts.{processes}
 use Rattle.history.specs.History.{Event}
-use Rattle.history.specs.Lives.{Life, Gone, Live, Raised, Kept, accepted, count, told, down}
-use Rattle.history.specs.Demand.{look, IsRecordOf, IsClaimOf, Demand3}
+use Rattle.history.specs.Lives.{Life, Gone, Live, Raised, Kept, passed, count, told, down}
+use Rattle.history.specs.Demand.{look, IsPassedOf, IsClaimOf, Demand3}
 use Rattle.image.specs.Image.{keptIn}
 
--- ---- what is accepted from now on
+-- ---- what passes from now on
 
--- a life without the numbers that were accepted before
+-- a life without the numbers that passed before
 abbrev pub bare : Life → Life
 bare Gone = Gone
 bare (Live s c ns) = Live s c []
 bare (Raised s) = Raised s
 bare (Kept c ns) = Kept c []
 
--- what is told of each name where only the events count: the numbers accepted since
+-- what is told of each name where only the events count: the numbers that passed since
 abbrev pub toldSince : (Name → Life) → List Event → Name → Life
 toldSince tell events = told (λ name. bare (tell name)) events
 
@@ -56,29 +56,29 @@ begins name e = eqb (e .answered) No.done && starts name (e .call)
 unfoldable pub isNew : List Event → Name → Bool
 isNew events name = any (begins name) events
 
--- an accepted record of the process of a name
-pub record ARecord (tell : Name → Life) (events : List Event) (name : Name) : Type 0 where
+-- a claim of the process of a name that passed
+pub record OnePassed (tell : Name → Life) (events : List Event) (name : Name) : Type 0 where
   pub before : List Event
   pub event : Event
   pub rest : List Event
   pub are : events ≡ before ++ (event ∷ rest)
-  pub one : IsRecordOf (told tell before name) event
+  pub one : IsPassedOf (told tell before name) event
 
 -- ---- the demand, from what was told before
 pub record Demand3From (tell : Name → Life) (events : List Event) (st : State) : Type 0 where
   pub demand3 : Demand3 tell events st
-  -- the number that the process had before, where it is the same one, and the records accepted under it since
+  -- the number that the process had before, where it is the same one, and the claims that passed under it since
   pub numbers : Each (λ p. isElevation (p .kind) ≡ false → p .next ≡ cond (isNew events (p .name)) 0 (count (tell (p .name))) + count (toldSince tell events (p .name))) (processes st)
-  -- and no record of it below that number is accepted
-  pub not-below : (name : Name) (v : ARecord tell events name) → isNew (v .before) name ≡ false → count (tell name) ≤ v .one .claim .number
+  -- and no claim of it below that number passes
+  pub not-below : (name : Name) (v : OnePassed tell events name) → isNew (v .before) name ≡ false → count (tell name) ≤ v .one .claim .number
 
--- a user claim in a session that is accepted after the events is one of the process of this name
+-- a user claim in a session that passes after the events is one of the process of this name
 pub record IsClaimFrom (tell : Name → Life) (events : List Event) (s : Session) (u : UserClaim) (name : Name) : Type 0 where
   pub claim : IsClaimOf (told tell events) s u name
   -- its number is the count so far
   pub number : u .number ≡ count (told tell events name)
-  -- none of those that were accepted
-  pub new : Each (λ n. u .number ≢ n) (accepted (told tell events name))
+  -- none of those that passed
+  pub new : Each (λ n. u .number ≢ n) (passed (told tell events name))
   -- and not below the number that the process had before, where it is the same one
   pub not-below : isNew events name ≡ false → count (tell name) ≤ u .number
 
@@ -86,13 +86,13 @@ pub record IsClaimFrom (tell : Name → Life) (events : List Event) (s : Session
 abbrev pub toldBy : List ℕ → Name → Life
 toldBy image name = look name (keptIn image)
 
--- of a row's name, that its process is saved, with every number below the row's taken as accepted; any other name is gone
+-- of a row's name, that its process is saved, with every number below the row's taken as passed; any other name is gone
 pub record FromImage (image : List ℕ) : Type 0 where
   pub rows : Each (λ p. toldBy image (p .name) ≡ Kept (p .credential) (down (p .next))) (keptIn image)
   pub numbers : Each (λ p. count (toldBy image (p .name)) ≡ p .next) (keptIn image)
   pub others : (name : Name) → Each (λ p. p .name .bytes ≢ name .bytes) (keptIn image) → toldBy image name ≡ Gone
 
--- ---- a power cycle: active processes are gone; saved ones stay, with every number that was accepted
+-- ---- a power cycle: active processes are gone; saved ones stay, with every number that passed
 abbrev pub cut : Life → Life
 cut Gone = Gone
 cut (Live s c ns) = Gone

@@ -1,14 +1,12 @@
 -- A call made on a slice, and the count where it lies: in a slice that holds a state, it makes the bytes of the counted state.
 -- Assumes nothing.
-use Prim.Native.Nat.{ℕ, _+_, _<_, _≤_}
+use Prim.Native.Nat.{ℕ, _+_, _<_}
 use mathlib.Core.Path.{_≡_, sym, ap, _∙_}
 use mathlib.Core.Bool.{Bool, true, false, not}
 use mathlib.Core.List.{List}
-use native.Mathlib.Omega.{arith}
 use lib.ListN.{length}
 use borrow.Author.Tests.{not-false}
 use Rattle.rows.specs.Bytes.{Bytes}
-use Rattle.lists.specs.Lists.{firstIndex}
 use Rattle.lists.proofs.Lists.{first-inside}
 use Rattle.lists.proofs.Tests.{and-right}
 use Rattle.names.specs.declared.Session.{Session}
@@ -22,8 +20,8 @@ use Rattle.claims.specs.declared.Claim.{Claim}
 use Rattle.claims.specs.declared.Claim.the-variants.{Elevated, ByUser}
 use Rattle.claims.specs.declared.State.{State}
 use Rattle.claims.proofs.Laws.{claim-stands}
-use Rattle.calls.specs.Calls.{Call, number, counted, outcome}
-use Rattle.calls.proofs.Laws.{refusal-leaves}
+use Rattle.calls.specs.Calls.{Call, number, counted, passes, outcome}
+use Rattle.calls.proofs.Cut.{outcome-stopped}
 use Rattle.layout.specs.Layout.{stateOf, stateBytes, holdsState}
 use Rattle.layout.proofs.InPlace.{next-held}
 use Rattle.layout.proofs.Laws.{one-form}
@@ -45,17 +43,13 @@ pub made-holds : {fine h : Bool} {before : List ℕ} → Ready fine before h →
 unfolding isMade
 made-holds {fine} {h} {before} e k = and-right fine (holdsState before) (sym (e .is) ∙ not-false h k)
 
--- what a refused call leaves stands in the slice already, so nothing need be written
-pub refusal-bytes : {fine h : Bool} {before : List ℕ} → Ready fine before h → not h ≡ false → (call : Call) → (number (stateOf before) call ≡ 0 → ⊥)
+-- what a call leaves whose claim did not pass stands in the slice already, so nothing need be written
+pub stopped-bytes : {fine h : Bool} {before : List ℕ} → Ready fine before h → not h ≡ false → (call : Call) → passes (stateOf before) call ≡ false
     → stateBytes (outcome (stateOf before) call .state) ≡ before
-refusal-bytes {fine} {h} {before} e k call n = ap stateBytes (refusal-leaves (stateOf before) call n) ∙ one-form before (made-holds e k) (e .bytes)
-
-pub entry-refused : (fine : Bool) (before : List ℕ) (call : Call) {h : Bool} → Ready fine before h → not h ≡ false → {n : ℕ} → n ≡ number (stateOf before) call → (n ≡ 0 → ⊥)
-    → Entry fine before call n before
-entry-refused fine before call {h} e k q z = entry-made fine before call (sym (e .is) ∙ not-false h k) q (sym (refusal-bytes e k call (λ w. z (q ∙ w))))
+stopped-bytes {fine} {h} {before} e k call p = ap stateBytes (outcome-stopped (stateOf before) call p) ∙ one-form before (made-holds e k) (e .bytes)
 
 -- ---- the count
-inside : (st : State) (which : Active) → hasActive st which ≡ true → activePlace st which < length (standing (st .table))
+pub inside : (st : State) (which : Active) → hasActive st which ≡ true → activePlace st which < length (standing (st .table))
 unfolding hasActive activePlace
 inside st which h = first-inside (isActive which) (standing (st .table)) h
 

@@ -14,21 +14,21 @@ use Rattle.table.specs.declared.Active.the-variants.{UserOf}
 use Rattle.table.specs.declared.Process.{Process}
 use Rattle.claims.specs.Numbers.{_unless_, _▸_}
 use Rattle.claims.specs.Module.{wordGrants, activeProcess}
-use Rattle.claims.specs.Claim.{claimed, admission}
+use Rattle.claims.specs.Claim.{claimed, admission, passedBy}
 use Rattle.claims.specs.declared.Admission.{Admission}
 use Rattle.claims.specs.declared.Claim.{Claim}
 use Rattle.claims.specs.declared.Claim.the-variants.{Elevated, ByUser}
 use Rattle.claims.specs.declared.Class.{Class}
 use Rattle.claims.specs.declared.UserClaim.{UserClaim}
-use Rattle.claims.proofs.Laws.{admission-next, admission-is}
-use Rattle.calls.specs.Calls.{Call, number, Record, isDevice, effect}
-use Rattle.calls.specs.declared.Outcome.{Outcome}
-use Rattle.calls.proofs.Laws.{outcome-done, checked-number, record-number}
-use Rattle.calls.proofs.Rules.{clear-second, claim-place, next-fits, rules as call-rules}
+use Rattle.claims.proofs.Laws.{admission-next, admission-is, passed-admitted}
+use Rattle.calls.specs.Calls.{number, Record, isDevice, effect, protection, passes}
+use Rattle.calls.proofs.Cut.{only-counted, passed-by}
+use Rattle.calls.proofs.Laws.{checked-number, record-number}
+use Rattle.calls.proofs.Rules.{claim-place, next-fits, rules as call-rules}
 use Rattle.layout.specs.Layout.{stateOf, stateBytes, holdsState, nextWritten}
 use Rattle.state_record.specs.Entry.{isMade, Ready, Entry}
 use Rattle.state_record.specs.Recorded.{countedIn}
-use Rattle.state_record.proofs.Laws.{entry-none, entry-made, made-holds, entry-refused, counted-held}
+use Rattle.state_record.proofs.Laws.{entry-none, entry-made, made-holds, stopped-bytes, counted-held}
 
 -- ---- the count
 module _ (b : List ℕ) (s : Session) (u : UserClaim) {by : Admission} (e : by ≡ admission (stateOf b) s (ByUser u)) (z : by .number ≡ 0) where
@@ -57,27 +57,29 @@ module _ (b : List ℕ) (s : Session) {claim : Claim} where
 
 -- ---- the record
 module _ (b : List ℕ) (s : Session) (claim : Claim) (class : Class) {h : Bool} (e : Ready true b h) where
-  abbrev call : Call
-  call = Record s claim class
-
   pub record-none : not h ≡ true → Entry true b (Record s claim class) 1 b
-  record-none k = entry-none true b call (sym (e .is) ∙ not-true h k)
+  record-none k = entry-none true b (Record s claim class) (sym (e .is) ∙ not-true h k)
 
   module _ (k : not h ≡ false) {by : Admission} (a : by ≡ admission (stateOf b) s claim) {n : ℕ} (c : n ≡ 1 unless isDevice class ▸ by .number ▸ 10 unless wordGrants (by .word) class) where
     q : n ≡ number (stateOf b) (Record s claim class)
     q = record-number (stateOf b) s claim a class c
 
-    pub record-refused : (n ≡ 0 → ⊥) → Entry true b (Record s claim class) n b
-    record-refused z = entry-refused true b call e k q z
+    -- by whether the claim passed
+    module _ {p : Bool} (y : p ≡ passedBy by n) where
+      passed : p ≡ passes (stateOf b) (Record s claim class)
+      unfolding protection
+      passed = y ∙ ap (passedBy by) q ∙ passed-by (stateOf b) (Record s claim class) refl a
 
-    pub record-done : {after : List ℕ} → n ≡ 0 → after ≡ countedIn b s claim → Entry true b (Record s claim class) 0 after
-    unfolding effect
-    record-done z w =
-        let m : number (stateOf b) call ≡ 0 = sym q ∙ z in
-        entry-made true b call (sym (e .is) ∙ not-false h k) (sym m)
-        (w
-        ∙ counted-held b (e .bytes) (made-holds e k) s claim (sym (checked-number (stateOf b) s claim a) ∙ clear-second (1 unless isDevice class) (10 unless wordGrants (by .word) class) c z)
-        ∙ ap (λ (o : Outcome). stateBytes (o .state)) (sym (outcome-done (stateOf b) call m)))
+      pub record-stopped : p ≡ false → Entry true b (Record s claim class) n b
+      record-stopped z = entry-made true b (Record s claim class) (sym (e .is) ∙ not-false h k) q (sym (stopped-bytes e k (Record s claim class) (sym passed ∙ z)))
+
+      pub record-passed : {after : List ℕ} → p ≡ true → after ≡ countedIn b s claim → Entry true b (Record s claim class) n after
+      unfolding protection effect
+      record-passed z w =
+          entry-made true b (Record s claim class) (sym (e .is) ∙ not-false h k) q
+          (w
+          ∙ counted-held b (e .bytes) (made-holds e k) s claim (sym (checked-number (stateOf b) s claim a) ∙ passed-admitted by n y z)
+          ∙ ap stateBytes (sym (only-counted (stateOf b) (Record s claim class) refl refl (sym passed ∙ z))))
 
 -- ---- whether a call is made
 module _ {fine : Bool} (b : List ℕ) (g : Bytes b) where
@@ -89,4 +91,4 @@ module _ {fine : Bool} (b : List ℕ) (g : Bytes b) where
   unfolding isMade
   ready-not f = record { is = rw f; bytes = g }
 
-pub ruleset rules = (call-rules, one-more-fits, count-written, count-elevated, count-by-user, record-none, record-refused, record-done, admission-is)
+pub ruleset rules = (call-rules, one-more-fits, count-written, count-elevated, count-by-user, record-none, record-stopped, record-passed, passed-admitted, admission-is)

@@ -1,4 +1,4 @@
--- The count of a record, where the next number of its process lies in a slice.
+-- The count of a claim, where the next number of its process lies in a slice.
 use Prim.Native.Nat.{ℕ, _+_}
 use mathlib.Core.List.{List}
 use Rattle.names.specs.declared.Session.{Session}
@@ -8,7 +8,7 @@ use Rattle.claims.specs.declared.Claim.{Claim}
 use Rattle.claims.specs.declared.Claim.the-variants.{Elevated, ByUser}
 use Rattle.layout.specs.Layout.{stateOf, nextWritten}
 
--- "it adds one to that process's next number". "Elevated claims have no number"
+-- "adds one to that process's next number". "Elevated claims have no number"
 unfoldable pub countedIn : List ℕ → Session → Claim → List ℕ
 countedIn b s Elevated = b
 countedIn b s (ByUser u) =

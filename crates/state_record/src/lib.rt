@@ -11,7 +11,6 @@ use claims::ARGUMENT;
 use claims::Admission;
 use claims::Claim;
 use claims::Class;
-use claims::DONE;
 use claims::UserClaim;
 use names::Session;
 
@@ -46,7 +45,8 @@ fn admit(state: &[u8], s: Session, claim: Claim) -> Admission
     claim_check::check_claim(s, claim, state_find::claim_view(state, s, claim))
 }
 
-// The number of a record; where that is 0 and the claim is a user's, its process's next number is one more. A slice that holds no state is refused.
+// The number of a record. Where its claim passed, refused afterwards or not, and is a user's, its process's next number is one more. A slice that holds no state
+// is refused.
 pub fn record(state: &mut [u8], s: Session, claim: Claim, class: Class) -> u8
     ensures { λ r. ⌜ Entry true (now (state .entry)) (Record s claim class) r (now (state .exit)) ⌝ }
 {
@@ -55,9 +55,8 @@ pub fn record(state: &mut [u8], s: Session, claim: Claim, class: Class) -> u8
     }
     let by = admit(state, s, claim);
     let answer = calls_protected::record_number(by, class);
-    if answer != DONE {
-        return answer;
+    if claim_check::passed_by(by, answer) {
+        count(state, s, claim, by);
     }
-    count(state, s, claim, by);
-    DONE
+    answer
 }

@@ -1,27 +1,40 @@
 -- The laws that close the needs of this crate's functions by `search rules`: each premise is as a place's record has it.
 -- Assumes nothing.
 use Prim.Native.Nat.{ℕ}
-use mathlib.Core.Path.{_≡_, sym, ap, _∙_}
+use mathlib.Core.Path.{_≡_, _∙_}
+use mathlib.Core.Bool.{Bool, true, false}
 use mathlib.Core.List.{List}
 use borrow.Author.Needs.{needs}
-use borrow.Author.Tests.{ne-eqb}
+use Rattle.claims.specs.declared.Claim.{Claim}
 use Rattle.claims.specs.declared.State.{State}
 use Rattle.calls.specs.Calls.{answerNumber}
 use Rattle.calls.specs.declared.Answer.{Answer}
+use Rattle.calls.specs.declared.Answer.the-variants.{Done, Refused, RefusedClaim}
 use Rattle.calls.specs.declared.Outcome.{Outcome}
 use Rattle.layout.specs.Layout.{stateWritten}
-use Rattle.state_store.specs.Stored.{storedBytes, Stored}
+use Rattle.state_store.specs.Stored.{mayChange, storedBytes, Stored}
 
-module _ (before : List ℕ) (o : Outcome) {a : Answer} {n : ℕ} (e : a ≡ o .answer) (q : n ≡ answerNumber a) where
-  number-stored : answerNumber (o .answer) ≡ n
-  number-stored = sym (q ∙ ap answerNumber e)
+-- ---- whether the state may have changed
+module _ {answer : Answer} where
+  pub change-done : answer ≡ Done → true ≡ mayChange answer
+  unfolding mayChange
+  change-done e = rw e
 
-  pub stored-done : {after : List ℕ} {x : State} → n ≡ 0 → x ≡ o .state → after ≡ stateWritten before x → Stored before o 0 after
+  pub change-refused : {n : ℕ} → answer ≡ Refused n → false ≡ mayChange answer
+  unfolding mayChange
+  change-refused e = rw e
+
+  pub change-claim : {n : ℕ} {claim : Claim} → answer ≡ RefusedClaim n claim → true ≡ mayChange answer
+  unfolding mayChange
+  change-claim e = rw e
+
+module _ (before : List ℕ) (o : Outcome) {n : ℕ} (q : n ≡ answerNumber (o .answer)) {b : Bool} (e : b ≡ mayChange (o .answer)) where
+  pub stored-written : {after : List ℕ} {x : State} → b ≡ true → x ≡ o .state → after ≡ stateWritten before x → Stored before o n after
   unfolding storedBytes
-  stored-done z s w = record { number-is = sym (number-stored ∙ z); bytes-are = w ∙ rw (number-stored, z, s) }
+  stored-written z s w = record { number-is = q; bytes-are = w ∙ rw (← e, z, s) }
 
-  pub stored-refused : (n ≡ 0 → ⊥) → Stored before o n before
+  pub stored-left : b ≡ false → Stored before o n before
   unfolding storedBytes
-  stored-refused h = record { number-is = sym number-stored; bytes-are = rw (number-stored, ne-eqb n 0 h) }
+  stored-left z = record { number-is = q; bytes-are = rw (← e, z) }
 
-pub ruleset rules = (needs, stored-done, stored-refused)
+pub ruleset rules = (needs, change-done, change-refused, change-claim, stored-written, stored-left)

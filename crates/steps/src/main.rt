@@ -1,5 +1,5 @@
-// Document 01's worked steps 1 to 13, through the compiled calls: a line for each step, with the number of each call. What it writes is
-// compared with the file stdout beside it.
+// Document 01's worked steps 1 to 13, with the numbers as order 3 corrects them, through the compiled calls: a line for each step, with the number of each
+// call. Then step 13 by refusals, and the relay's attack. What it writes is compared with the file stdout beside it.
 use calls::Outcome;
 use calls::Wanted;
 use claims::Claim;
@@ -151,23 +151,23 @@ fn step6(st: State) -> State {
     };
     let a = told(outcomes_standing::record(st, Session(0), Claim::ByUser(unsigned), Class(4)));
     let b = record(a, 1, 1, 5);
-    let c = record(b, 1, 1, 4);
+    let c = record(b, 1, 2, 4);
     end_line();
     c
 }
 
 fn step7(st: State) -> State {
     begin(7);
-    let a = record(st, 1, 2, 3);
-    let b = record(a, 1, 2, 31);
+    let a = record(st, 1, 3, 3);
+    let b = record(a, 1, 3, 31);
     end_line();
     b
 }
 
 fn step8(st: State) -> State {
     begin(8);
-    let a = kill(st, 0, 1, 2, p());
-    let b = kill(a, 0, 1, 2, q());
+    let a = kill(st, 0, 1, 4, p());
+    let b = kill(a, 0, 1, 5, q());
     end_line();
     b
 }
@@ -181,11 +181,11 @@ fn step9(st: State) -> State {
 }
 
 // The number of each listing, and the length of its message.
-fn list(st: State, room: usize) -> State {
+fn list(st: State, number: u16, room: usize) -> State {
     let listed = outcomes_standing::list(
         st,
         Session(0),
-        Claim::ByUser(by(0, 1)),
+        Claim::ByUser(by(0, number)),
         Wanted::Every,
         room,
     );
@@ -198,8 +198,8 @@ fn list(st: State, room: usize) -> State {
 
 fn step10(st: State) -> State {
     begin(10);
-    let a = list(st, 54);
-    let b = list(a, 55);
+    let a = list(st, 1, 54);
+    let b = list(a, 2, 55);
     end_line();
     b
 }
@@ -207,7 +207,7 @@ fn step10(st: State) -> State {
 // The numbers, and the next number of the one process.
 fn step11(st: State) -> State {
     begin(11);
-    let a = told(outcomes_ending::end(st, Session(0), by(0, 2), true));
+    let a = told(outcomes_ending::end(st, Session(0), by(0, 3), true));
     let b = told(outcomes_session::open_session(a, Session(1)));
     let c = told(outcomes_session::select_version(b, Session(1), 0x10));
     let d = told(outcomes_unprotected::continue_saved(c, Session(1), Credential(0), q()));
@@ -239,32 +239,32 @@ fn step12(st: State) -> State {
     let t = a.table;
     say(table::size(t) as u64);
     let b = start(a, 0, 1, r());
-    let c = kill(b, 1, 0, 3, name(0x33, 5));
+    let c = kill(b, 1, 0, 4, name(0x33, 5));
     let d = start(c, 0, 1, r());
     end_line();
     d
 }
 
-// Numbers 0 to 65,534 of credential 1, each in turn: how many are done.
-fn spend(st: State) -> State {
+// Numbers 0 to 65,534 of credential 1, each in turn, with that class: how many get that number.
+fn spend(st: State, class: u8, number: u8) -> State {
     let mut next = st;
-    let mut done: u64 = 0;
+    let mut got: u64 = 0;
     let mut i: u16 = 0;
     while i < 65535 {
         let outcome = outcomes_standing::record(
             next,
             Session(0),
             Claim::ByUser(by(1, i)),
-            Class(4),
+            Class(class),
         );
         let answer = outcome.answer;
         next = outcome.state;
-        if calls::answer_number(answer) == claims::DONE {
-            done += 1;
+        if calls::answer_number(answer) == number {
+            got += 1;
         }
         i += 1;
     }
-    say(done);
+    say(got);
     next
 }
 
@@ -286,10 +286,22 @@ fn spent(st: State) {
     say(refused);
 }
 
-fn step13(st: State) {
+fn step13(st: State, class: u8, number: u8) {
     begin(13);
-    let a = spend(st);
+    let a = spend(st, class, number);
     spent(a);
+    end_line();
+}
+
+// A kill that has got 6 is sent again, once the named process has started.
+fn relay(st: State) {
+    io::write_all(STDOUT_FILENO, b"relay:");
+    let a = told(outcomes_session::open_session(st, Session(0)));
+    let b = told(outcomes_session::select_version(a, Session(0), 0x10));
+    let c = start(b, 0, 0, p());
+    let d = kill(c, 0, 0, 0, q());
+    let e = start(d, 0, 1, q());
+    kill(e, 0, 0, 0, q());
     end_line();
 }
 
@@ -297,5 +309,8 @@ fn main() {
     let a = step4(step3(step2(step1(fresh()))));
     let b = step8(step7(step6(step5(a))));
     let c = step11(step10(step9(b)));
-    step13(step12(c));
+    let d = step12(c);
+    step13(d, 4, claims::DONE);
+    step13(d, 5, claims::NOT_GRANTED);
+    relay(fresh());
 }

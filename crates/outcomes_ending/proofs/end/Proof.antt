@@ -1,4 +1,4 @@
-use Rattle.calls.specs.Calls.{refusal}
+use Rattle.calls.specs.Calls.{protection}
 use Rattle.claim_count.proofs.Rules.{rules}
 use Rattle.outcomes_ending.proofs.end.Statement.{statement}
 use Rattle.outcomes_ending.proofs.end.Tie as tie
@@ -9,15 +9,15 @@ admit-requires c κs = search rules
 end-number-requires : tie.Need-end-number-requires
 end-number-requires c κs = search rules
 
+charged-by-requires : tie.Need-charged-by-requires
+charged-by-requires c κs = search rules
+
 refused-claim-requires : tie.Need-refused-claim-requires
 refused-claim-requires c κs = search rules
 
 returns : tie.Need-returns
-unfolding refusal
+unfolding protection
 returns c = search rules
-
-counted-at-requires : tie.Need-counted-at-requires
-counted-at-requires c κs = search rules
 
 ended-requires : tie.Need-ended-requires
 ended-requires c κs = search rules
@@ -34,9 +34,9 @@ end-spec =
     (tie.spec
     admit-requires
     end-number-requires
+    charged-by-requires
     refused-claim-requires
     returns
-    counted-at-requires
     ended-requires
     accepted-requires
     returns-2)

@@ -1,4 +1,4 @@
-use Rattle.calls.specs.Calls.{refusal}
+use Rattle.calls.specs.Calls.{protection}
 use Rattle.claim_count.proofs.Rules.{rules}
 use Rattle.outcomes_ending.proofs.kill.Statement.{statement}
 use Rattle.outcomes_ending.proofs.kill.Tie as tie
@@ -9,11 +9,14 @@ admit-requires c κs = search rules
 kill-number-requires : tie.Need-kill-number-requires
 kill-number-requires c κs = search rules
 
+charged-by-requires : tie.Need-charged-by-requires
+charged-by-requires c κs = search rules
+
 refused-claim-requires : tie.Need-refused-claim-requires
 refused-claim-requires c κs = search rules
 
 returns : tie.Need-returns
-unfolding refusal
+unfolding protection
 returns c = search rules
 
 reach-requires : tie.Need-reach-requires
@@ -21,9 +24,6 @@ reach-requires c κs = search rules
 
 named-place-requires : tie.Need-named-place-requires
 named-place-requires c κs = search rules
-
-counted-by-requires : tie.Need-counted-by-requires
-counted-by-requires c κs = search rules
 
 removed-requires : tie.Need-removed-requires
 removed-requires c κs = search rules
@@ -43,11 +43,11 @@ kill-spec =
     (tie.spec
     admit-requires
     kill-number-requires
+    charged-by-requires
     refused-claim-requires
     returns
     reach-requires
     named-place-requires
-    counted-by-requires
     removed-requires
     with-table-requires
     accepted-requires

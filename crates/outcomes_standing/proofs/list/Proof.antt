@@ -8,14 +8,14 @@ admit-requires c κs = search rules
 list-number-requires : tie.Need-list-number-requires
 list-number-requires c κs = search rules
 
+charged-by-requires : tie.Need-charged-by-requires
+charged-by-requires c κs = search rules
+
 refused-claim-requires : tie.Need-refused-claim-requires
 refused-claim-requires c κs = search rules
 
 returns : tie.Need-returns
 returns c = search rules
-
-counted-by-requires : tie.Need-counted-by-requires
-counted-by-requires c κs = search rules
 
 accepted-requires : tie.Need-accepted-requires
 accepted-requires c κs = search rules
@@ -32,9 +32,9 @@ list-spec =
     (tie.spec
     admit-requires
     list-number-requires
+    charged-by-requires
     refused-claim-requires
     returns
-    counted-by-requires
     accepted-requires
     message-length-requires
     returns-2)

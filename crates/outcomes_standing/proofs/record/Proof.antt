@@ -1,4 +1,4 @@
-use Rattle.calls.specs.Calls.{refusal}
+use Rattle.calls.specs.Calls.{protection}
 use Rattle.claim_count.proofs.Rules.{rules}
 use Rattle.outcomes_standing.proofs.record.Statement.{statement}
 use Rattle.outcomes_standing.proofs.record.Tie as tie
@@ -9,15 +9,15 @@ admit-requires c κs = search rules
 record-number-requires : tie.Need-record-number-requires
 record-number-requires c κs = search rules
 
+charged-by-requires : tie.Need-charged-by-requires
+charged-by-requires c κs = search rules
+
 refused-claim-requires : tie.Need-refused-claim-requires
 refused-claim-requires c κs = search rules
 
 returns : tie.Need-returns
-unfolding refusal
+unfolding protection
 returns c = search rules
-
-counted-by-requires : tie.Need-counted-by-requires
-counted-by-requires c κs = search rules
 
 accepted-requires : tie.Need-accepted-requires
 accepted-requires c κs = search rules
@@ -31,8 +31,8 @@ record-spec =
     (tie.spec
     admit-requires
     record-number-requires
+    charged-by-requires
     refused-claim-requires
     returns
-    counted-by-requires
     accepted-requires
     returns-2)

@@ -1,4 +1,4 @@
-use Rattle.calls.specs.Calls.{refusal}
+use Rattle.calls.specs.Calls.{protection}
 use Rattle.claim_count.proofs.Rules.{rules}
 use Rattle.outcomes_standing.proofs.set_word.Statement.{statement}
 use Rattle.outcomes_standing.proofs.set_word.Tie as tie
@@ -9,15 +9,15 @@ admit-requires c κs = search rules
 set-word-number-requires : tie.Need-set-word-number-requires
 set-word-number-requires c κs = search rules
 
+charged-by-requires : tie.Need-charged-by-requires
+charged-by-requires c κs = search rules
+
 refused-claim-requires : tie.Need-refused-claim-requires
 refused-claim-requires c κs = search rules
 
 returns : tie.Need-returns
-unfolding refusal
+unfolding protection
 returns c = search rules
-
-counted-by-requires : tie.Need-counted-by-requires
-counted-by-requires c κs = search rules
 
 with-word-requires : tie.Need-with-word-requires
 with-word-requires c κs = search rules
@@ -34,9 +34,9 @@ set-word-spec =
     (tie.spec
     admit-requires
     set-word-number-requires
+    charged-by-requires
     refused-claim-requires
     returns
-    counted-by-requires
     with-word-requires
     accepted-requires
     returns-2)

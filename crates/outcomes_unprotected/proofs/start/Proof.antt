@@ -1,4 +1,4 @@
-use Rattle.calls.specs.Calls.{refusal}
+use Rattle.calls.specs.Calls.{protection}
 use Rattle.calls.proofs.Rules.{rules}
 use Rattle.outcomes_unprotected.proofs.start.Statement.{statement}
 use Rattle.outcomes_unprotected.proofs.start.Tie as tie
@@ -10,7 +10,7 @@ refused-requires : tie.Need-refused-requires
 refused-requires c κs = search rules
 
 returns : tie.Need-returns
-unfolding refusal
+unfolding protection
 returns c = search rules
 
 user-process-requires : tie.Need-user-process-requires

@@ -1,4 +1,3 @@
-use Rattle.calls.specs.Calls.{number}
 use Rattle.state_record.proofs.Rules.{rules}
 use Rattle.state_record.proofs.record.Statement.{statement}
 use Rattle.state_record.proofs.record.Tie as tie
@@ -18,15 +17,17 @@ admit-requires c κs = search rules
 record-number-requires : tie.Need-record-number-requires
 record-number-requires c κs = search rules
 
+passed-by-requires : tie.Need-passed-by-requires
+passed-by-requires c κs = search rules
+
+count-requires : tie.Need-count-requires
+count-requires c κs = search rules
+
 same-length-2 : tie.Need-same-length-2
 same-length-2 c = search rules
 
 returns-2 : tie.Need-returns-2
 returns-2 c = search rules
-
-count-requires : tie.Need-count-requires
-unfolding number
-count-requires c κs = search rules
 
 same-length-3 : tie.Need-same-length-3
 same-length-3 c = search rules
@@ -43,8 +44,9 @@ record-spec =
     returns
     admit-requires
     record-number-requires
+    passed-by-requires
+    count-requires
     same-length-2
     returns-2
-    count-requires
     same-length-3
     returns-3)

@@ -5,20 +5,20 @@ use Rattle.state_store.proofs.store.Tie as tie
 answer-number-requires : tie.Need-answer-number-requires
 answer-number-requires c κs = search rules
 
-cast-result : tie.Need-cast-result
-cast-result c = search rules
+cast-n : tie.Need-cast-n
+cast-n c = search rules
 
-returns : tie.Need-returns
-returns c = search rules
+may-change-requires : tie.Need-may-change-requires
+may-change-requires c κs = search rules
 
 write-requires : tie.Need-write-requires
 write-requires c κs = search rules
 
-cast-result-2 : tie.Need-cast-result-2
-cast-result-2 c = search rules
-
 same-length : tie.Need-same-length
 same-length c = search rules
+
+returns : tie.Need-returns
+returns c = search rules
 
 returns-2 : tie.Need-returns-2
 returns-2 c = search rules
@@ -28,9 +28,9 @@ store-spec =
     tie.close
     (tie.spec
     answer-number-requires
-    cast-result
-    returns
+    cast-n
+    may-change-requires
     write-requires
-    cast-result-2
     same-length
+    returns
     returns-2)

@@ -6,10 +6,10 @@ use Rattle.steps.proofs.spend.Statement.{statement}
 use Rattle.steps.proofs.spend.Tie as tie
 
 abbrev Inv-loop : tie.InvT-loop
-Inv-loop next₀ done₀ i₀ next done i = (i ≤ 65535) × (done ≤ i)
+Inv-loop class number next₀ got₀ i₀ next got i = (i ≤ 65535) × (got ≤ i)
 
 abbrev μ-loop : tie.MeasureT-loop
-μ-loop next₀ done₀ i₀ next done i = 65535 - i
+μ-loop class number next₀ got₀ i₀ next got i = 65535 - i
 
 loop-holds : tie.Need-loop-holds Inv-loop μ-loop
 loop-holds c = search needs
@@ -23,8 +23,8 @@ record-requires c κs = search needs
 answer-number-requires : tie.Need-answer-number-requires Inv-loop μ-loop
 answer-number-requires c κs = search needs
 
-add-done : tie.Need-add-done Inv-loop μ-loop
-add-done c = search needs
+add-got : tie.Need-add-got Inv-loop μ-loop
+add-got c = search needs
 
 add-i : tie.Need-add-i Inv-loop μ-loop
 add-i c = search needs
@@ -51,7 +51,7 @@ spend-spec =
     by-requires
     record-requires
     answer-number-requires
-    add-done
+    add-got
     add-i
     loop-less
     loop-again

@@ -1,0 +1,200 @@
+//! Rows of calls whose numbers are known: a process spent, and the relay's attack of document 02.
+
+use crate::call::{Answer, Call};
+use crate::sides::Pair;
+use slavotuk::entries::RawClaim;
+use slavotuk_model::image::LONGEST;
+use slavotuk_model::layout::STATE_LENGTH;
+use slavotuk_model::module::{CREDENTIALS, NAME_LENGTH, SPENT};
+
+/// The calls of a test that knows their numbers, on both sides.
+struct Known {
+    pair: Pair,
+    made: u64,
+}
+
+impl Known {
+    /// A module of credentials 0 to 6, with session 0 open and a process of credential 1 in it.
+    fn started(word: u32) -> Result<Known, String> {
+        let mut known = Known {
+            pair: Pair::of(&[0; STATE_LENGTH]),
+            made: 0,
+        };
+        let mut provisioned = vec![1; CREDENTIALS];
+        provisioned[UNPROVISIONED as usize] = 0;
+        let words = vec![word; CREDENTIALS];
+        known.expect(Call::Fresh { provisioned, words }, 0)?;
+        known.enter()?;
+        known.expect(start(1), 0)?;
+        Ok(known)
+    }
+
+    fn enter(&mut self) -> Result<(), String> {
+        let (session, version) = (0, 0x10);
+        self.expect(Call::Open { session }, 0)?;
+        self.expect(Call::Select { session, version }, 0)?;
+        Ok(())
+    }
+
+    fn expect(&mut self, call: Call, number: u32) -> Result<Answer, String> {
+        match self.pair.call(&call) {
+            Ok(answer) if answer.number == number => {
+                self.made += 1;
+                Ok(answer)
+            }
+            Ok(answer) => Err(format!("{call}: both answer {answer}, {number} is right")),
+            Err(difference) => Err(format!("{call}: {difference}")),
+        }
+    }
+
+    /// Writes an image and restores it.
+    fn power_cycle(&mut self) -> Result<(), String> {
+        let call = Call::Image {
+            image: vec![0xee; LONGEST].into(),
+            length: 0,
+        };
+        let answer = self.expect(call, 0)?;
+        let Call::Image { image, length } = answer.made else {
+            return Err("another call was answered".to_string());
+        };
+        let image = image.as_ref()[..length].to_vec();
+        self.expect(Call::Restore { image }, 0)?;
+        Ok(())
+    }
+}
+
+const UNPROVISIONED: u32 = 7;
+
+/// The name of a credential's process.
+fn name_of(credential: u32) -> Vec<u8> {
+    vec![credential as u8; NAME_LENGTH]
+}
+
+fn start(credential: u32) -> Call {
+    Call::Start {
+        session: 0,
+        credential,
+        name: name_of(credential),
+    }
+}
+
+fn kill(number: u16, of: u32) -> Call {
+    Call::Kill {
+        session: 0,
+        claim: RawClaim::user(1, number),
+        name: name_of(of),
+    }
+}
+
+/// One process from its first number to its last, by accepted calls and by every refusal after the claim, 65,534 by a 10: every number passes its check in turn,
+/// and then none.
+pub fn run_to_spent() -> Result<String, String> {
+    let mut made = 0;
+    for (word, calls) in [(u32::MAX, &GRANTED), (16, &NOT_GRANTED)] {
+        let mut known = Known::started(word)?;
+        known.expect(start(2), 0)?;
+        let call = |number: u16| calls[usize::from(number) % calls.len()];
+        for number in 0..SPENT {
+            let (answer, call) = call(number);
+            known.expect(call(number), answer)?;
+        }
+        for number in 0..=SPENT {
+            let (_, call) = call(number);
+            known.expect(call(number), 13)?;
+        }
+        known.expect(Call::Close { session: 0 }, 0)?;
+        made += known.made;
+    }
+    Ok(format!(
+        "numbers 0 to 65534 of two processes taken in turn, by accepted calls and by every refusal after the claim, then all refused: {made} calls"
+    ))
+}
+
+/// A call under a number of credential 1, with its answer.
+type Numbered = (u32, fn(u16) -> Call);
+
+/// Every class is granted.
+const GRANTED: [Numbered; 6] = [
+    (0, |number| record(number, 4)),
+    (0, |number| list(number, 1, 60)),
+    (0, |number| set_word(number, 2)),
+    (15, |number| list(number, 1, 54)),
+    (6, |number| kill(number, 9)),
+    (5, |number| set_word(number, UNPROVISIONED)),
+];
+
+/// Class 4 alone is granted.
+const NOT_GRANTED: [Numbered; 6] = [
+    (0, |number| record(number, 4)),
+    (6, |number| kill(number, 2)),
+    (10, |number| record(number, 5)),
+    (10, |number| list(number, 2, 60)),
+    (10, |number| set_word(number, 1)),
+    (10, keep),
+];
+
+fn record(number: u16, class: u32) -> Call {
+    Call::Record {
+        session: 0,
+        claim: RawClaim::user(1, number),
+        class,
+    }
+}
+
+fn list(number: u16, wanted: u32, room: usize) -> Call {
+    Call::List {
+        session: 0,
+        claim: RawClaim::user(1, number),
+        wanted,
+        response: vec![0xee; room].into(),
+        length: 1,
+    }
+}
+
+fn set_word(number: u16, target: u32) -> Call {
+    Call::SetWord {
+        session: 0,
+        claim: RawClaim::user(1, number),
+        target,
+        word: number.into(),
+    }
+}
+
+fn keep(number: u16) -> Call {
+    Call::End {
+        session: 0,
+        credential: 1,
+        number,
+        verdict: 1,
+        keep: 1,
+    }
+}
+
+/// A relay keeps a kill that got 6, and sends it again once the named process has started: at once, and after a power cycle.
+pub fn run_the_relays_attack() -> Result<String, String> {
+    let mut made = 0;
+    for power_cycle in [false, true] {
+        let mut known = Known::started(u32::MAX)?;
+        known.expect(kill(0, 2), 6)?;
+        if power_cycle {
+            known.expect(keep(1), 0)?;
+            known.power_cycle()?;
+            known.enter()?;
+            let (session, credential, name) = (0, 1, name_of(1));
+            let taken_up = Call::Continue {
+                session,
+                credential,
+                name,
+            };
+            known.expect(taken_up, 0)?;
+        }
+        known.expect(start(2), 0)?;
+        known.expect(kill(0, 2), 9)?;
+        let next = if power_cycle { 2 } else { 1 };
+        known.expect(kill(next, 2), 0)?;
+        made += known.made;
+    }
+    Ok(format!(
+        "a kill that got 6, sent again after the start of the process it names, gets 9, after a power cycle too: {made} calls"
+    ))
+}

@@ -1,0 +1,149 @@
+-- A call whose claim passed is sent again while the claim's process stands: "the relay's second sending gets 9", or 13 where the process is spent by then.
+-- Assumes nothing.
+use Prim.Native.Nat.{ℕ, _<_}
+use mathlib.Core.Path.{_≡_, refl, sym, ap, subst, _∙_}
+use mathlib.Core.Logic.{_⊎_, inl, inr}
+use mathlib.Core.Bool.{true, false}
+use mathlib.Core.List.{List, _∷_}
+use native.Mathlib.Omega.{arith}
+use lib.Dec.{eqb}
+use lib.ListN.{getD}
+use Rattle.lists.proofs.Tests.{split, clash}
+use Rattle.lists.proofs.Each.{each-at}
+use Rattle.names.specs.declared.Name.{Name}
+use Rattle.names.specs.declared.Session.{Session}
+use Rattle.table.specs.Table.{freePlace}
+use Rattle.table.specs.declared.Active.the-variants.{UserOf}
+use Rattle.table.specs.declared.Process.{Process}
+use Rattle.table.proofs.Searched.{user-of}
+use Rattle.claims.specs.Numbers as No
+use Rattle.claims.specs.Numbers.{_when_, _unless_, _▸_}
+use Rattle.claims.specs.Module.{isHandle, phaseOf, isClosed, isChosen, hasActive, activePlace, activeProcess}
+use Rattle.claims.specs.Claim.{phaseNumber, entered, isClaim, isSpent, turnNumber, userNumber, claimNumber, admitted}
+use Rattle.claims.specs.declared.Claim.the-variants.{ByUser}
+use Rattle.claims.specs.declared.State.{State}
+use Rattle.claims.specs.declared.UserClaim.{UserClaim}
+use Rattle.claims.proofs.Laws.{pass, unless-true, when-false, clear-first, clear-rest, clear-unless}
+use Rattle.calls.specs.Calls.{Call, Open, Close, Drop, Select, Start, Continue, Elevate, End, Record, List′, Kill, SetWord, number, protection, aheadNumber, protectedNumber, passes}
+use Rattle.calls.specs.Run.{step, run}
+use Rattle.calls.proofs.Cut.{passed-ahead, number-stop, number-stopped}
+use Rattle.facts.specs.Facts.{processes, Rules}
+use Rattle.history.specs.History.{history}
+use Rattle.history.specs.Lives.{Life, Live, told, follow}
+use Rattle.history.specs.Demand.{Carries, Stays, look, Tells}
+use Rattle.history.proofs.Facts.{stands, closed-not}
+use Rattle.history.proofs.Read.{claim-passed, owner}
+use Rattle.history.proofs.Keeping.{rules-step, rules-run}
+use Rattle.history.proofs.Followed.{event, followed}
+use Rattle.history.proofs.Told.{tells-look}
+use Rattle.history.proofs.Once.{live-active, took-two}
+
+-- ---- what a claim that passed says of itself, whatever the state
+module _ (st : State) (s : Session) (u : UserClaim) (z : admitted st s (ByUser u) ≡ 0) where
+  in-range : isClaim (ByUser u) ≡ true
+  unfolding admitted
+  in-range = clear-unless No.argument tt _ (clear-first _ _ z)
+
+  is-handle : isHandle s ≡ true
+  unfolding admitted entered phaseNumber
+  is-handle = clear-unless No.argument tt _ (clear-first _ _ (clear-first _ _ (clear-rest _ _ z)))
+
+  signed : u .verdict ≡ true
+  unfolding admitted claimNumber userNumber turnNumber
+  signed = clear-unless No.verdict tt _ (clear-rest _ _ (clear-rest _ _ (clear-rest _ _ (clear-rest _ _ (clear-rest _ _ (clear-rest _ _ z))))))
+
+-- the tests ahead of a claim ask nothing of the state
+ahead-same : (st last : State) (call : Call) (s : Session) (u : UserClaim) → Carries s u call → aheadNumber last call ≡ aheadNumber st call
+unfolding protection aheadNumber
+ahead-same st last (Open t) s u e = cc
+ahead-same st last (Close t) s u e = cc
+ahead-same st last (Drop t) s u e = cc
+ahead-same st last (Select t byte) s u e = cc
+ahead-same st last (Start t c name) s u e = cc
+ahead-same st last (Continue t c name) s u e = cc
+ahead-same st last (Elevate t c name verdict) s u e = cc
+ahead-same st last (End t w keep) s u e = refl
+ahead-same st last (Record t claim class) s u e = refl
+ahead-same st last (List′ t claim wanted room) s u e = refl
+ahead-same st last (Kill t claim name) s u e = refl
+ahead-same st last (SetWord t claim c word) s u e = refl
+
+claim-is : (st : State) (call : Call) (s : Session) (u : UserClaim) → Carries s u call → protectedNumber st (protection call) ≡ admitted st s (ByUser u)
+unfolding protectedNumber
+claim-is st call s u k = rw k
+
+-- ---- where the claim's process stands, the check of such a claim asks for its turn alone
+module _ (st : State) (v : Rules st) (s : Session) (u : UserClaim) (range : isClaim (ByUser u) ≡ true) (handle : isHandle s ≡ true) (h : hasActive st (UserOf s (u .credential)) ≡ true) where
+  chosen : isChosen (phaseOf st s) ≡ true
+  chosen =
+      let f = stands st (UserOf s (u .credential)) h in
+      let x : Process = getD (processes st) (activePlace st (UserOf s (u .credential))) freePlace in
+      let user = user-of x s (u .credential) (f .passes) in
+      rw (user .session) at (each-at _ freePlace (f .inside) (v .each) .seated (rw (user .kind)))
+
+  entered-is : entered st s ≡ 0
+  unfolding entered phaseNumber
+  entered-is =
+      let unclosed : isClosed (phaseOf st s) ≡ false = split (isClosed (phaseOf st s)) (λ e. clash chosen (closed-not (phaseOf st s) e)) (λ e. e) in
+      pass _ (unless-true No.argument handle) ∙ pass _ (when-false No.session unclosed) ∙ unless-true No.noVersion chosen
+
+  turn-alone : admitted st s (ByUser u) ≡ turnNumber (activeProcess st (UserOf s (u .credential)) .next) u
+  unfolding admitted claimNumber userNumber
+  turn-alone =
+      pass _ (unless-true No.argument range)
+      ∙ pass _ entered-is
+      ∙ pass _ (unless-true No.credential (owner st v s u h))
+      ∙ pass _ (unless-true No.noProcess h)
+
+turn-of : (next : ℕ) (u : UserClaim) → u .verdict ≡ true → (turnNumber next u ≡ 0 → ⊥) → (turnNumber next u ≡ 9) ⊎ (turnNumber next u ≡ 13)
+unfolding turnNumber _when_ _unless_ _▸_
+turn-of next u w h =
+    split (isSpent next)
+    (λ e. inr (rw e))
+    (λ e. split (eqb (u .number) next) (λ q. absurd (h (rw (e, q, w)))) (λ q. inl (rw (e, q))))
+
+-- ---- from any state that keeps the rules, told so: the call is made there, and its claim passes; calls follow; its process is not removed, and is active in the
+-- same session
+module _ (st : State) (v : Rules st) (tell : Name → Life) (tells : Tells tell st) (call : Call) (s : Session) (u : UserClaim) (k : Carries s u call) (p : passes st call ≡ true) (more : List Call) where
+  abbrev next : State
+  next = step st call
+
+  abbrev last : State
+  last = run next more
+
+  module _ (name : Name) (ns ms : List ℕ) (was : tell name ≡ Live s (u .credential) ns)
+      (stays : Stays name (history st (call ∷ more)) (tell name)) (there : told tell (history st (call ∷ more)) name ≡ Live s (u .credential) ms) where
+    at-first : look name (processes st) ≡ Live s (u .credential) ns
+    at-first = sym (tells-look tell st tells name) ∙ was
+
+    at-last : look name (processes last) ≡ Live s (u .credential) ms
+    unfolding run
+    at-last = sym (followed name st (call ∷ more) v) ∙ ap (follow name (history st (call ∷ more))) (sym (tells-look tell st tells name)) ∙ there
+
+    rules-last : Rules last
+    rules-last = rules-run next more (rules-step st call v)
+
+    not-again : passes last call ≡ false
+    not-again =
+        split (passes last call)
+        (λ q.
+        let less : u .number < u .number =
+        took-two name st v s s u u call call more
+        (record { carried = k; told = p; before = ns; lives = at-first })
+        (subst (λ o. Stays name (event st call ∷ history next more) o) (tells-look tell st tells name) (unfold history in stays))
+        (record { carried = k; told = q; before = ms; lives = at-last })
+        in
+        absurd (omega arith))
+        (λ q. q)
+
+    pub sent-again : (number (run st (call ∷ more)) call ≡ 9) ⊎ (number (run st (call ∷ more)) call ≡ 13)
+    unfolding run
+    sent-again =
+        let z : admitted st s (ByUser u) ≡ 0 = claim-passed st call s u k p in
+        let turn : admitted last s (ByUser u) ≡ turnNumber (activeProcess last (UserOf s (u .credential)) .next) u =
+        turn-alone last rules-last s u (in-range st s u z) (is-handle st s u z) (live-active name last s (u .credential) ms at-last)
+        in
+        let is : number last call ≡ turnNumber (activeProcess last (UserOf s (u .credential)) .next) u =
+        number-stop last call not-again ∙ pass _ (ahead-same st last call s u k ∙ passed-ahead st call p) ∙ claim-is last call s u k ∙ turn
+        in
+        rw is (turn-of _ u (signed st s u z) (λ y. number-stopped last call not-again (is ∙ y)))

@@ -1,0 +1,101 @@
+-- From the number that a call was answered, whether its claim passed: the reading that the history makes, and that it is right.
+-- Assumes nothing.
+use Prim.Native.Nat.{ℕ}
+use mathlib.Core.Path.{_≡_, refl}
+use mathlib.Core.Bool.{Bool, true, false, not}
+use lib.Dec.{eqb}
+use lib.ListN.{getD}
+use borrow.Author.Tests.{eqb-false}
+use Rattle.lists.proofs.Tests.{split}
+use Rattle.lists.proofs.Each.{each-at}
+use Rattle.names.specs.declared.Session.{Session}
+use Rattle.table.specs.Table.{freePlace}
+use Rattle.table.specs.declared.Active.the-variants.{UserOf}
+use Rattle.table.specs.declared.Process.{Process}
+use Rattle.table.proofs.Searched.{user-of}
+use Rattle.claims.specs.Numbers.{_when_, _unless_, _▸_}
+use Rattle.claims.specs.Module.{provisioned, hasActive, activePlace}
+use Rattle.claims.specs.Claim.{phaseNumber, entered, turnNumber, userNumber, claimNumber, admitted, claimed}
+use Rattle.claims.specs.declared.Claim.the-variants.{ByUser}
+use Rattle.claims.specs.declared.State.{State}
+use Rattle.claims.specs.declared.UserClaim.{UserClaim}
+use Rattle.claims.proofs.Laws.{claim-stands}
+use Rattle.calls.specs.Calls.{Call, number, aheadNumber, protectedNumber, passes}
+use Rattle.calls.proofs.Cut.{upTo, passed-claim, number-passed, number-stop, rest-by, ahead-one}
+use Rattle.facts.specs.Facts.{processes, Rules}
+use Rattle.history.specs.Lives.{tellsPassed}
+use Rattle.history.specs.Demand.{Carries}
+use Rattle.history.proofs.Facts.{stands}
+
+-- a number that is no refusal, or one that tells of a claim that did not pass
+abbrev Early : ℕ → Type 0
+Early n = (n ≡ 0 → ⊥) → tellsPassed n ≡ false
+
+early-when : (n : ℕ) (b : Bool) → tellsPassed n ≡ false → Early (n when b)
+unfolding _when_
+early-when n true e h = e
+early-when n false e h = absurd (h refl)
+
+early-unless : (n : ℕ) (b : Bool) → tellsPassed n ≡ false → Early (n unless b)
+unfolding _unless_
+early-unless n true e h = absurd (h refl)
+early-unless n false e h = e
+
+-- a test that does not hold
+early-held : (n : ℕ) {b : Bool} → b ≡ true → Early (n unless b)
+unfolding _unless_
+early-held n e h = absurd (h (rw e))
+
+early-then : (n m : ℕ) → Early n → Early m → Early (n ▸ m)
+unfolding _▸_
+early-then n m a b h = split (eqb n 0) (λ e. rw e (b (rw e at h))) (λ e. rw e (a (eqb-false n 0 e)))
+
+-- ---- where the credential is provisioned and has that process, what the check of a user claim answers
+module _ (st : State) (s : Session) (u : UserClaim) (owner : provisioned st (u .credential) ≡ true) (active : hasActive st (UserOf s (u .credential)) ≡ true) where
+  early-turn : (next : ℕ) → Early (turnNumber next u)
+  unfolding turnNumber tellsPassed
+  early-turn next = early-then _ _ (early-when 13 _ refl) (early-then _ _ (early-unless 9 _ refl) (early-unless 8 _ refl))
+
+  early-entered : Early (entered st s)
+  unfolding entered phaseNumber tellsPassed
+  early-entered = early-then _ _ (early-unless 1 _ refl) (early-then _ _ (early-when 2 _ refl) (early-unless 3 _ refl))
+
+  early-admitted : Early (admitted st s (ByUser u))
+  unfolding admitted claimNumber userNumber tellsPassed
+  early-admitted =
+      early-then _ _ (early-unless 1 _ refl)
+      (early-then _ _ early-entered (early-then _ _ (early-held 5 owner) (early-then _ _ (early-held 6 active) (early-turn _))))
+
+  -- and what a call under it answers up to the claim
+  early-up-to : (call : Call) → Carries s u call → Early (upTo st call)
+  unfolding protectedNumber tellsPassed
+  early-up-to call w =
+      early-then (aheadNumber st call) _
+      (λ h. rw (ahead-one st call w h))
+      (rw w early-admitted)
+
+-- a user claim that passed is one of a process that stands
+module _ (st : State) (call : Call) (s : Session) (u : UserClaim) (w : Carries s u call) (p : passes st call ≡ true) where
+  pub claim-passed : admitted st s (ByUser u) ≡ 0
+  unfolding protectedNumber
+  claim-passed = rw w at (passed-claim st call p)
+
+  pub active-passed : hasActive st (UserOf s (u .credential)) ≡ true
+  unfolding claimed
+  active-passed = claim-stands st s (ByUser u) claim-passed
+
+module _ (st : State) (v : Rules st) where
+  -- whoever has an active process is provisioned
+  pub owner : (s : Session) (u : UserClaim) → hasActive st (UserOf s (u .credential)) ≡ true → provisioned st (u .credential) ≡ true
+  owner s u h =
+      let f = stands st (UserOf s (u .credential)) h in
+      let x : Process = getD (processes st) (activePlace st (UserOf s (u .credential))) freePlace in
+      rw (user-of x s (u .credential) (f .passes) .credential) at (each-at _ freePlace (f .inside) (v .each) .owner)
+
+  -- where a user claim's process stands, a call under the claim is answered 1, 2, 3, 13, 9 or 8 exactly where the claim did not pass
+  pub reading : (call : Call) (s : Session) (u : UserClaim) → Carries s u call → hasActive st (UserOf s (u .credential)) ≡ true → tellsPassed (number st call) ≡ passes st call
+  unfolding tellsPassed
+  reading call s u w h =
+      split (passes st call)
+      (λ p. rw (p, number-passed st call p) (rest-by (λ n. tellsPassed n ≡ true) refl refl refl refl refl st call))
+      (λ p. rw (p, number-stop st call p) (early-up-to st s u (owner s u h) h call w (unfold passes in eqb-false (upTo st call) 0 p)))
