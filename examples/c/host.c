@@ -67,32 +67,26 @@ static void start_processes(uint8_t state[SLAVOTUK_STATE_SIZE])
            SLAVOTUK_DONE);
 }
 
+/* A record of credential 1 with a number and a class, and the answer that it is to get. */
+static void send_record(uint8_t state[SLAVOTUK_STATE_SIZE], const char *what, uint16_t number, uint32_t class_number,
+                        uint32_t expected)
+{
+    expect(what,
+           slavotuk_record(state, SLAVOTUK_STATE_SIZE, SESSION, SLAVOTUK_CLAIM_USER, 1, number, VERDICT_YES, class_number),
+           expected);
+}
+
 /*
  * Credential 1 sends a record with its number 0. Whoever sends the same bytes again is refused. A record that is not granted
  * spends its number as well, so that nobody can keep it for later: credential 1 goes on with number 2.
  */
 static void send_records(uint8_t state[SLAVOTUK_STATE_SIZE])
 {
-    expect("record, credential 1, number 0",
-           slavotuk_record(state, SLAVOTUK_STATE_SIZE, SESSION, SLAVOTUK_CLAIM_USER, 1, 0, VERDICT_YES,
-                           SLAVOTUK_CLASS_DEVICE_FIRST),
-           SLAVOTUK_DONE);
-    expect("the same record again",
-           slavotuk_record(state, SLAVOTUK_STATE_SIZE, SESSION, SLAVOTUK_CLAIM_USER, 1, 0, VERDICT_YES,
-                           SLAVOTUK_CLASS_DEVICE_FIRST),
-           SLAVOTUK_REFUSED_OUT_OF_TURN);
-    expect("number 1, a class not granted",
-           slavotuk_record(state, SLAVOTUK_STATE_SIZE, SESSION, SLAVOTUK_CLAIM_USER, 1, 1, VERDICT_YES,
-                           SLAVOTUK_CLASS_DEVICE_LAST),
-           SLAVOTUK_REFUSED_NOT_GRANTED);
-    expect("the same record again",
-           slavotuk_record(state, SLAVOTUK_STATE_SIZE, SESSION, SLAVOTUK_CLAIM_USER, 1, 1, VERDICT_YES,
-                           SLAVOTUK_CLASS_DEVICE_LAST),
-           SLAVOTUK_REFUSED_OUT_OF_TURN);
-    expect("record, credential 1, number 2",
-           slavotuk_record(state, SLAVOTUK_STATE_SIZE, SESSION, SLAVOTUK_CLAIM_USER, 1, 2, VERDICT_YES,
-                           SLAVOTUK_CLASS_DEVICE_FIRST),
-           SLAVOTUK_DONE);
+    send_record(state, "record, credential 1, number 0", 0, SLAVOTUK_CLASS_DEVICE_FIRST, SLAVOTUK_DONE);
+    send_record(state, "the same record again", 0, SLAVOTUK_CLASS_DEVICE_FIRST, SLAVOTUK_REFUSED_OUT_OF_TURN);
+    send_record(state, "number 1, a class not granted", 1, SLAVOTUK_CLASS_DEVICE_LAST, SLAVOTUK_REFUSED_NOT_GRANTED);
+    send_record(state, "the same record again", 1, SLAVOTUK_CLASS_DEVICE_LAST, SLAVOTUK_REFUSED_OUT_OF_TURN);
+    send_record(state, "record, credential 1, number 2", 2, SLAVOTUK_CLASS_DEVICE_FIRST, SLAVOTUK_DONE);
 }
 
 /* The console's request, as it goes over the wire and arrives: the wanted credential. */

@@ -246,28 +246,15 @@ fn full_table() {
     module.start(s, credential(1), &q()).unwrap();
 }
 
-#[test]
-fn spent() {
+/// All numbers of credential 1's process in session 0 are taken in turn, in records of this class with this answer: then every number is refused as spent.
+#[track_caller]
+fn spends_all(of_class: Class, answer: Result<(), Refusal>) {
     let mut module = opened(&[0]);
     let s = session(0);
     module.start(s, credential(1), &p()).unwrap();
     for number in 0..65535 {
-        module.record(s, by(1, number), class(4)).unwrap();
-    }
-    for number in 0..=65535 {
-        refused(&mut module, 13, |m| m.record(s, by(1, number), class(4)));
-    }
-    refused(&mut module, 13, |m| m.end(s, by(1, 65535), false));
-}
-
-#[test]
-fn spent_by_refusals() {
-    let mut module = opened(&[0]);
-    let s = session(0);
-    module.start(s, credential(1), &p()).unwrap();
-    for number in 0..65535 {
-        let refusal = module.record(s, by(1, number), class(5));
-        assert_eq!(refusal, Err(Refusal::NotGranted), "number {number}");
+        let answered = module.record(s, by(1, number), of_class);
+        assert_eq!(answered, answer, "number {number}");
     }
     for number in 0..=65535 {
         refused(&mut module, 13, |m| m.record(s, by(1, number), class(4)));
@@ -275,6 +262,16 @@ fn spent_by_refusals() {
     refused(&mut module, 13, |m| m.end(s, by(1, 65535), false));
     module.close(s).unwrap();
     assert_eq!(module.processes().len(), 0);
+}
+
+#[test]
+fn spent() {
+    spends_all(class(4), Ok(()));
+}
+
+#[test]
+fn spent_by_refusals() {
+    spends_all(class(5), Err(Refusal::NotGranted));
 }
 
 #[test]

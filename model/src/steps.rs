@@ -269,31 +269,32 @@ fn step_12() {
     assert_eq!(steps.module().processes[11].name, q());
 }
 
-#[test]
-fn step_13() {
+/// Numbers 0 to 65,534 of credential 1 in turn, each answered so; then every number gets 13.
+fn spent_by(class: u32, answer: u32) -> Steps {
     let mut steps = Steps::after_step_3();
     assert_eq!(steps.start(1, r()), 0);
     for number in 0..SPENT {
-        assert_eq!(steps.record(user(1, number), 4), 0, "number {number}");
+        assert_eq!(
+            steps.record(user(1, number), class),
+            answer,
+            "number {number}"
+        );
     }
     for number in 0..=SPENT {
         assert_eq!(steps.record(user(1, number), 4), 13, "number {number}");
     }
-    assert_eq!(steps.record(denied(1, SPENT), 4), 13);
+    steps
+}
+
+#[test]
+fn step_13() {
+    assert_eq!(spent_by(4, 0).record(denied(1, SPENT), 4), 13);
 }
 
 /// A spent process is reached by refusals as well: number 65,534 refused with 10 leaves 65,535.
 #[test]
 fn step_13_by_refusals() {
-    let mut steps = Steps::after_step_3();
-    assert_eq!(steps.start(1, r()), 0);
-    for number in 0..SPENT {
-        assert_eq!(steps.record(user(1, number), 5), 10, "number {number}");
-    }
-    for number in 0..=SPENT {
-        assert_eq!(steps.record(user(1, number), 4), 13, "number {number}");
-    }
-    assert_eq!(steps.end(user(1, SPENT), 0), 13);
+    assert_eq!(spent_by(5, 10).end(user(1, SPENT), 0), 13);
 }
 
 /// A relay kept a signed kill that had got 6, and sends it again once the named process has started.

@@ -2,28 +2,44 @@
 -- follows from whether the claim passed.
 -- Assumes nothing.
 use Prim.Native.Nat.{ℕ}
-use mathlib.Core.Path.{_≡_, refl, sym, ap, _∙_}
+use mathlib.Core.Path.{_≡_, refl, sym, ap, subst, _∙_}
 use mathlib.Core.Bool.{Bool, true, false, not}
 use lib.Dec.{eqb}
 use borrow.Author.Tests.{eqb-true, eqb-false, eq-eqb, ne-eqb}
 use Rattle.lists.proofs.Tests.{split, and-left}
 use Rattle.names.specs.declared.Session.{Session}
 use Rattle.claims.specs.Numbers.{_when_, _unless_, _▸_}
-use Rattle.claims.specs.Claim.{admission, passedBy}
+use Rattle.claims.specs.Module.{provisioned, granted}
+use Rattle.claims.specs.Claim.{claimant, admission, passedBy}
 use Rattle.claims.specs.declared.Admission.{Admission}
 use Rattle.claims.specs.declared.Claim.{Claim}
 use Rattle.claims.specs.declared.State.{State}
-use Rattle.claims.proofs.Laws.{stop, pass, rows, clear-first, clear-rest}
-use Rattle.calls.specs.Calls.{Call, Open, Close, Drop, Select, Start, Continue, Elevate, End, Record, List′, Kill, SetWord, number, counted, effect, Free, Under, protection, aheadNumber, protectedNumber, restNumber, passes, refusedAfter, charged, left, outcome}
+use Rattle.claims.proofs.Laws.{stop, pass, rows, by-when, by-unless, by-then, clear-first, clear-rest}
+use Rattle.calls.specs.Calls.{Call, Open, Close, Drop, Select, Start, Continue, Elevate, End, Record, List′, Kill, SetWord, setWords, hasNamed, lacksSaving, mayList, isShort, reach, number, counted, effect, Free, Under, protection, aheadNumber, protectedNumber, passes, refusedAfter, charged, left, outcome}
 use Rattle.calls.specs.declared.Outcome.{Outcome}
 use Rattle.calls.proofs.Laws.{outcome-done, refusal-leaves, checked-number}
+
+-- the tests after the claim's
+rest : State → Call → ℕ
+rest st (Open s) = 0
+rest st (Close s) = 0
+rest st (Drop s) = 0
+rest st (Select s byte) = 0
+rest st (Start s c name) = 0
+rest st (Continue s c name) = 0
+rest st (Elevate s c name verdict) = 0
+rest st (End s u keep) = 10 when lacksSaving st (u .credential) keep
+rest st (Record s claim class) = 10 unless granted st (claimant st s claim) class
+rest st (List′ s claim wanted room) = 10 unless mayList st (claimant st s claim) wanted ▸ 15 when isShort st wanted room
+rest st (Kill s claim name) = 6 unless hasNamed st name (reach st (claimant st s claim))
+rest st (SetWord s claim c word) = 10 unless granted st (claimant st s claim) setWords ▸ 5 unless provisioned st c
 
 alone : (n : ℕ) → n ≡ n ▸ 0 ▸ 0
 unfolding _▸_
 alone n = split (eqb n 0) (λ e. rw e (eqb-true n 0 e)) (λ e. rw e)
 
-pub number-cut : (st : State) (call : Call) → number st call ≡ aheadNumber st call ▸ protectedNumber st (protection call) ▸ restNumber st call
-unfolding number aheadNumber protectedNumber protection restNumber _▸_
+number-cut : (st : State) (call : Call) → number st call ≡ aheadNumber st call ▸ protectedNumber st (protection call) ▸ rest st call
+unfolding number aheadNumber protectedNumber protection rest _▸_
 number-cut st (Open s) = alone _
 number-cut st (Close s) = alone _
 number-cut st (Drop s) = alone _
@@ -43,16 +59,16 @@ module _ (st : State) (call : Call) where
   abbrev pub upTo : ℕ
   upTo = aheadNumber st call ▸ protectedNumber st (protection call)
 
-  in-two : number st call ≡ upTo ▸ restNumber st call
-  in-two = number-cut st call ∙ sym (rows (aheadNumber st call) (protectedNumber st (protection call)) (restNumber st call))
+  in-two : number st call ≡ upTo ▸ rest st call
+  in-two = number-cut st call ∙ sym (rows (aheadNumber st call) (protectedNumber st (protection call)) (rest st call))
 
-  pub number-passed : passes st call ≡ true → number st call ≡ restNumber st call
+  number-passed : passes st call ≡ true → number st call ≡ rest st call
   unfolding passes
-  number-passed p = in-two ∙ pass (restNumber st call) (eqb-true upTo 0 p)
+  number-passed p = in-two ∙ pass (rest st call) (eqb-true upTo 0 p)
 
   pub number-stop : passes st call ≡ false → number st call ≡ upTo
   unfolding passes
-  number-stop p = in-two ∙ stop (restNumber st call) (eqb-false upTo 0 p)
+  number-stop p = in-two ∙ stop (rest st call) (eqb-false upTo 0 p)
 
   -- a call whose claim did not pass is refused, and leaves the state as it was
   pub number-stopped : passes st call ≡ false → number st call ≡ 0 → ⊥
@@ -73,7 +89,7 @@ module _ (st : State) (call : Call) where
   -- one that is refused afterwards leaves it with the claim counted; where there is none, as it was
   pub refused-after : passes st call ≡ true → (number st call ≡ 0 → ⊥) → refusedAfter st call ≡ true
   unfolding refusedAfter
-  refused-after p h = rw (p, ne-eqb (restNumber st call) 0 (λ z. h (number-passed p ∙ z)))
+  refused-after p h = rw (p, ne-eqb (number st call) 0 h)
 
   pub passed-ahead : passes st call ≡ true → aheadNumber st call ≡ 0
   unfolding passes
@@ -126,36 +142,25 @@ module _ (st : State) where
   ahead-one (Kill s claim name) e h = absurd (h refl)
   ahead-one (SetWord s claim c word) e h = some-unless _ h
 
--- what holds of 0, 5, 6, 10 and 15 holds of the tests after a claim
-module _ (P : ℕ → Type 0) (none : P 0) where
-  by-when : (n : ℕ) (b : Bool) → P n → P (n when b)
-  unfolding _when_
-  by-when n true h = h
-  by-when n false h = none
+-- what holds of 0, 5, 6, 10 and 15 holds of the tests after a claim, so of the number of a call whose claim passed
+module _ (P : ℕ → Type 0) (none : P 0) (p5 : P 5) (p6 : P 6) (p10 : P 10) (p15 : P 15) (st : State) where
+  rest-by : (call : Call) → P (rest st call)
+  unfolding rest
+  rest-by (Open s) = none
+  rest-by (Close s) = none
+  rest-by (Drop s) = none
+  rest-by (Select s byte) = none
+  rest-by (Start s c name) = none
+  rest-by (Continue s c name) = none
+  rest-by (Elevate s c name verdict) = none
+  rest-by (End s u keep) = by-when P none 10 _ p10
+  rest-by (Record s claim class) = by-unless P none 10 _ p10
+  rest-by (List′ s claim wanted room) = by-then P _ _ (by-unless P none 10 _ p10) (by-when P none 15 _ p15)
+  rest-by (Kill s claim name) = by-unless P none 6 _ p6
+  rest-by (SetWord s claim c word) = by-then P _ _ (by-unless P none 10 _ p10) (by-unless P none 5 _ p5)
 
-  by-unless : (n : ℕ) (b : Bool) → P n → P (n unless b)
-  unfolding _unless_
-  by-unless n true h = none
-  by-unless n false h = h
-
-  by-then : (n m : ℕ) → P n → P m → P (n ▸ m)
-  unfolding _▸_
-  by-then n m h k = split (eqb n 0) (λ e. rw e k) (λ e. rw e h)
-
-  pub rest-by : P 5 → P 6 → P 10 → P 15 → (st : State) (call : Call) → P (restNumber st call)
-  unfolding restNumber
-  rest-by p5 p6 p10 p15 st (Open s) = none
-  rest-by p5 p6 p10 p15 st (Close s) = none
-  rest-by p5 p6 p10 p15 st (Drop s) = none
-  rest-by p5 p6 p10 p15 st (Select s byte) = none
-  rest-by p5 p6 p10 p15 st (Start s c name) = none
-  rest-by p5 p6 p10 p15 st (Continue s c name) = none
-  rest-by p5 p6 p10 p15 st (Elevate s c name verdict) = none
-  rest-by p5 p6 p10 p15 st (End s u keep) = by-when 10 _ p10
-  rest-by p5 p6 p10 p15 st (Record s claim class) = by-unless 10 _ p10
-  rest-by p5 p6 p10 p15 st (List′ s claim wanted room) = by-then _ _ (by-unless 10 _ p10) (by-when 15 _ p15)
-  rest-by p5 p6 p10 p15 st (Kill s claim name) = by-unless 6 _ p6
-  rest-by p5 p6 p10 p15 st (SetWord s claim c word) = by-then _ _ (by-unless 10 _ p10) (by-unless 5 _ p5)
+  pub passed-number-by : (call : Call) → passes st call ≡ true → P (number st call)
+  passed-number-by call p = subst P (sym (number-passed st call p)) (rest-by call)
 
 module _ (st : State) (call : Call) {s : Session} {claim : Claim} (w : protection call ≡ Under s claim) {by : Admission} (a : by ≡ admission st s claim) where
   prot-is : protectedNumber st (protection call) ≡ by .number
@@ -172,7 +177,7 @@ module _ (st : State) (call : Call) {s : Session} {claim : Claim} (w : protectio
       (λ y.
       let e : aheadNumber st call ▸ protectedNumber st (protection call) ≡ 0 = pass _ (eqb-true _ _ y) ∙ q in
       let p : passes st call ≡ true = unfold passes in eq-eqb _ _ e in
-      rw (z, eq-eqb _ _ e, number-passed st call p, rest-by (λ n. eqb n 1 ≡ false) refl refl refl refl refl st call))
+      rw (z, eq-eqb _ _ e, passed-number-by (λ n. eqb n 1 ≡ false) refl refl refl refl refl st call p))
       (λ y.
       let h : aheadNumber st call ≡ 0 → ⊥ = eqb-false _ _ y in
       let n : number st call ≡ 1 = number-cut st call ∙ stop _ h ∙ ahead-one st call w h in

@@ -2,7 +2,7 @@
 -- Assumes nothing.
 use Prim.Native.Nat.{ℕ, zero, suc, _≤_}
 use mathlib.Core.Path.{_≡_, refl, sym, ap, _∙_}
-use mathlib.Core.Bool.{Bool, true, false, cond, not, _&&_, _||_}
+use mathlib.Core.Bool.{Bool, true, false, cond, _||_}
 use mathlib.Core.List.{List, [], _∷_}
 use native.Mathlib.Omega.{arith}
 use borrow.Author.Tests.{eqb-true}
@@ -29,29 +29,28 @@ use Rattle.claims.specs.declared.Phase.the-variants.{Chosen}
 use Rattle.claims.specs.declared.SessionState.{SessionState}
 use Rattle.claims.specs.declared.State.{State}
 use Rattle.claims.specs.declared.UserClaim.{UserClaim}
-use Rattle.claims.proofs.Laws.{unless-false, clear-first, clear-rest, clear-when, clear-unless}
+use Rattle.claims.proofs.Laws.{unless-false, clear-first, clear-rest, clear-when, clear-unless, by-when, by-unless, by-then}
 use Rattle.calls.specs.declared.Answer.the-variants.{Done, RefusedClaim}
 use Rattle.calls.specs.declared.Outcome.{Outcome}
-use Rattle.calls.specs.Calls.{Call, Open, Close, Select, Start, Continue, Elevate, Drop, End, Record, List′, Kill, SetWord, killOthers, isVersion, hasNamed, reach, number, counted, effect, protection, aheadNumber, protectedNumber, restNumber, passes, refusedAfter, charged, left, answerNumber, refusal, outcome}
+use Rattle.calls.specs.Calls.{Call, Open, Close, Select, Start, Continue, Elevate, Drop, End, Record, List′, Kill, SetWord, killOthers, isVersion, hasNamed, reach, number, counted, effect, protection, aheadNumber, protectedNumber, passes, charged, left, answerNumber, refusal, outcome}
 use Rattle.calls.specs.Run.{step}
+use Rattle.calls.proofs.Cut.{left-passed, left-stopped}
 use Rattle.calls.proofs.Laws.{outcome-done, outcome-refused, answer-number}
 
 -- ---- a number is 0 to 15, so a refusal's is 1 to 15
 
 -- `T (leb n 15)` computes, for each of the numbers
+abbrev Small : ℕ → Type 0
+Small n = n ≤ 15
+
 pub small-when : (n : ℕ) (b : Bool) → T (leb n 15) → (n when b) ≤ 15
-unfolding _when_
-small-when n true h = leb→le n 15 h
-small-when n false h = omega arith
+small-when n b h = by-when Small (omega arith) n b (leb→le n 15 h)
 
 pub small-unless : (n : ℕ) (b : Bool) → T (leb n 15) → (n unless b) ≤ 15
-unfolding _unless_
-small-unless n true h = omega arith
-small-unless n false h = leb→le n 15 h
+small-unless n b h = by-unless Small (omega arith) n b (leb→le n 15 h)
 
 pub small-then : (n m : ℕ) → n ≤ 15 → m ≤ 15 → (n ▸ m) ≤ 15
-unfolding _▸_
-small-then n m h k = split (eqb n 0) (λ e. rw e k) (λ e. rw e h)
+small-then = by-then Small
 
 pub ruleset small = (small-when, small-unless, small-then)
 
@@ -156,10 +155,15 @@ module _ (st : State) (s : Session) (claim : Claim) (name : Name) (h : hasNamed 
   unreached-not : number st (Kill s claim name) ≡ 0 → ⊥
   unreached-not e = six (clear-rest (admitted st s claim) 6 (sym unreached ∙ e))
 
-  -- whatever the name: its answer, and what it leaves
+  -- whatever the name: what it leaves, and its answer
+  unreached-left : left st (Kill s claim name) ≡ cond (eqb (admitted st s claim) 0) (counted st s claim) st
+  unfolding passes protection aheadNumber protectedNumber charged _▸_
+  unreached-left =
+      split (eqb (admitted st s claim) 0) (λ e. rw e (left-passed st (Kill s claim name) e unreached-not)) (λ e. rw e (left-stopped st (Kill s claim name) e))
+
   refused : outcome st (Kill s claim name) ≡ record { state = cond (eqb (admitted st s claim) 0) (counted st s claim) st; answer = RefusedClaim (admitted st s claim ▸ 6) claim }
-  unfolding refusal protection left refusedAfter passes aheadNumber protectedNumber restNumber charged _▸_
-  refused = outcome-refused st (Kill s claim name) unreached-not ∙ rw (unreached, unless-false 6 h) (split (eqb (admitted st s claim) 0) (λ e. rw e) (λ e. rw e))
+  unfolding refusal protection
+  refused = outcome-refused st (Kill s claim name) unreached-not ∙ rw (unreached-left, unreached)
 
 module _ (st : State) (s : Session) (claim : Claim) (c : Credential) (mine : claimant st s claim ≡ c) (lacks : granted st c killOthers ≡ false) where
   own : reach st (claimant st s claim) ≡ Of c
@@ -221,7 +225,7 @@ module _ (st : State) where
   unfolding entered phaseNumber
   is-chosen s e = clear-unless No.noVersion tt _ (clear-rest _ _ (clear-rest _ _ e))
 
-  needs : (s : Session) (claim : Claim) → admitted st s claim ≡ 0 → Needs st s claim
+  pub needs : (s : Session) (claim : Claim) → admitted st s claim ≡ 0 → Needs st s claim
   unfolding admitted claimNumber elevatedNumber userNumber turnNumber
   needs s Elevated e = clear-unless No.noProcess tt _ (clear-rest _ _ (clear-rest _ _ e))
   needs s (ByUser u) e =

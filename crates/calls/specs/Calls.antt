@@ -229,7 +229,7 @@ effect st (Kill s claim name) =
     withTable (counted st s claim) (removed (counted st s claim .table) (namedPlace st name (reach st (claimant st s claim))))
 effect st (SetWord s claim c word) = withWord (counted st s claim) c word
 
--- ---- "A protected call carries a claim.": which calls are protected, and the tests of a call cut in three: those ahead of its claim's, the claim's, and those after it
+-- ---- "A protected call carries a claim.": which calls are protected, and the tests of a call up to its claim's: those ahead of it, and the claim's
 
 -- the claim of a call, with the session in which it is made
 pub data Protection : Type 0 where
@@ -270,25 +270,6 @@ unfoldable pub protectedNumber : State → Protection → ℕ
 protectedNumber st Free = No.done
 protectedNumber st (Under s claim) = admitted st s claim
 
--- after the claim's
-unfoldable pub restNumber : State → Call → ℕ
-restNumber st (Open s) = No.done
-restNumber st (Close s) = No.done
-restNumber st (Drop s) = No.done
-restNumber st (Select s byte) = No.done
-restNumber st (Start s c name) = No.done
-restNumber st (Continue s c name) = No.done
-restNumber st (Elevate s c name verdict) = No.done
-restNumber st (End s u keep) = No.notGranted when lacksSaving st (u .credential) keep
-restNumber st (Record s claim class) = No.notGranted unless granted st (claimant st s claim) class
-restNumber st (List′ s claim wanted room) =
-    No.notGranted unless mayList st (claimant st s claim) wanted
-    ▸ No.room when isShort st wanted room
-restNumber st (Kill s claim name) = No.noProcess unless hasNamed st name (reach st (claimant st s claim))
-restNumber st (SetWord s claim c word) =
-    No.notGranted unless granted st (claimant st s claim) setWords
-    ▸ No.credential unless provisioned st c
-
 -- ---- what a refusal leaves. Order 3: "From now on a user claim that passes its check adds one even if the call is refused afterwards: by 5 in set word, 6 in
 -- kill, 10, 15, or a refusal that a later order puts after the claim."
 
@@ -297,7 +278,7 @@ unfoldable pub passes : State → Call → Bool
 passes st call = eqb (aheadNumber st call ▸ protectedNumber st (protection call)) No.done
 
 unfoldable pub refusedAfter : State → Call → Bool
-refusedAfter st call = passes st call && not (eqb (restNumber st call) No.done)
+refusedAfter st call = passes st call && not (eqb (number st call) No.done)
 
 -- the claim counted, where there is one
 unfoldable pub charged : State → Protection → State

@@ -61,6 +61,22 @@ module _ (n : ℕ) {b : Bool} where
   unfolding _unless_
   unless-false e = rw e
 
+-- what holds of 0 and of a test's number holds of the test's answer, and of a row of tests what holds of each
+module _ (P : ℕ → Type 0) where
+  pub by-when : P 0 → (n : ℕ) (b : Bool) → P n → P (n when b)
+  unfolding _when_
+  by-when none n true h = h
+  by-when none n false h = none
+
+  pub by-unless : P 0 → (n : ℕ) (b : Bool) → P n → P (n unless b)
+  unfolding _unless_
+  by-unless none n true h = none
+  by-unless none n false h = h
+
+  pub by-then : (n m : ℕ) → P n → P m → P (n ▸ m)
+  unfolding _▸_
+  by-then n m h k = split (eqb n 0) (λ e. rw e k) (λ e. rw e h)
+
 -- ---- what an accepted row of tests says: none holds
 pub clear-first : (n m : ℕ) → n ▸ m ≡ 0 → n ≡ 0
 unfolding _▸_

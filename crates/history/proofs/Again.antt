@@ -26,6 +26,7 @@ use Rattle.claims.specs.declared.UserClaim.{UserClaim}
 use Rattle.claims.proofs.Laws.{pass, unless-true, when-false, clear-first, clear-rest, clear-unless}
 use Rattle.calls.specs.Calls.{Call, Open, Close, Drop, Select, Start, Continue, Elevate, End, Record, List′, Kill, SetWord, number, protection, aheadNumber, protectedNumber, passes}
 use Rattle.calls.specs.Run.{step, run}
+use Rattle.calls.proofs.Facts.{needs}
 use Rattle.calls.proofs.Cut.{passed-ahead, number-stop, number-stopped}
 use Rattle.facts.specs.Facts.{processes, Rules}
 use Rattle.history.specs.History.{history}
@@ -36,7 +37,7 @@ use Rattle.history.proofs.Read.{claim-passed, owner}
 use Rattle.history.proofs.Keeping.{rules-step, rules-run}
 use Rattle.history.proofs.Followed.{event, followed}
 use Rattle.history.proofs.Told.{tells-look}
-use Rattle.history.proofs.Once.{live-active, took-two}
+use Rattle.history.proofs.Once.{live-stands, took-two}
 
 -- ---- what a claim that passed says of itself, whatever the state
 module _ (st : State) (s : Session) (u : UserClaim) (z : admitted st s (ByUser u) ≡ 0) where
@@ -47,10 +48,6 @@ module _ (st : State) (s : Session) (u : UserClaim) (z : admitted st s (ByUser u
   is-handle : isHandle s ≡ true
   unfolding admitted entered phaseNumber
   is-handle = clear-unless No.argument tt _ (clear-first _ _ (clear-first _ _ (clear-rest _ _ z)))
-
-  signed : u .verdict ≡ true
-  unfolding admitted claimNumber userNumber turnNumber
-  signed = clear-unless No.verdict tt _ (clear-rest _ _ (clear-rest _ _ (clear-rest _ _ (clear-rest _ _ (clear-rest _ _ (clear-rest _ _ z))))))
 
 -- the tests ahead of a claim ask nothing of the state
 ahead-same : (st last : State) (call : Call) (s : Session) (u : UserClaim) → Carries s u call → aheadNumber last call ≡ aheadNumber st call
@@ -141,9 +138,9 @@ module _ (st : State) (v : Rules st) (tell : Name → Life) (tells : Tells tell 
     sent-again =
         let z : admitted st s (ByUser u) ≡ 0 = claim-passed st call s u k p in
         let turn : admitted last s (ByUser u) ≡ turnNumber (activeProcess last (UserOf s (u .credential)) .next) u =
-        turn-alone last rules-last s u (in-range st s u z) (is-handle st s u z) (live-active name last s (u .credential) ms at-last)
+        turn-alone last rules-last s u (in-range st s u z) (is-handle st s u z) (live-stands name last s (u .credential) ms at-last)
         in
         let is : number last call ≡ turnNumber (activeProcess last (UserOf s (u .credential)) .next) u =
         number-stop last call not-again ∙ pass _ (ahead-same st last call s u k ∙ passed-ahead st call p) ∙ claim-is last call s u k ∙ turn
         in
-        rw is (turn-of _ u (signed st s u z) (λ y. number-stopped last call not-again (is ∙ y)))
+        rw is (turn-of _ u (needs st s (ByUser u) z .yes) (λ y. number-stopped last call not-again (is ∙ y)))

@@ -259,6 +259,10 @@ module _ (n : Name) (st : State) (v : Rules st) where
       (look-fixed n (counts s (ByUser u)) refl (processes st)
       (each-imp (λ p e q. counts-other s u (p .session) (p .credential) (p .next) (p .kind) e) (each-fails (isActive (UserOf s (u .credential))) (processes st) h)))
 
+  either-way : (b : Bool) (o : Life) → cond b o o ≡ o
+  either-way true o = refl
+  either-way false o = refl
+
   -- a claim that passed, and one that did not
   follows-charged : (w : Protection) → protectedNumber st w ≡ 0 → charges w was ≡ look n (processes (charged st w))
   unfolding charges charged protectedNumber
@@ -267,14 +271,14 @@ module _ (n : Name) (st : State) (v : Rules st) where
 
   follows-passed : (call : Call) → passes st call ≡ true → (w : Protection) → protection call ≡ w → cond (tellsPassed (number st call)) (charges w was) was ≡ charges w was
   unfolding charges counts
-  follows-passed call p Free e = split (tellsPassed (number st call)) (λ t. rw t) (λ t. rw t)
-  follows-passed call p (Under s Elevated) e = split (tellsPassed (number st call)) (λ t. rw t) (λ t. rw t)
+  follows-passed call p Free e = either-way (tellsPassed (number st call)) was
+  follows-passed call p (Under s Elevated) e = either-way (tellsPassed (number st call)) was
   follows-passed call p (Under s (ByUser u)) e = rw (reading st v call s u e (active-passed st call s u e p), p)
 
   follows-stopped : (call : Call) → passes st call ≡ false → (w : Protection) → protection call ≡ w → cond (tellsPassed (number st call)) (charges w was) was ≡ was
   unfolding charges counts
-  follows-stopped call p Free e = split (tellsPassed (number st call)) (λ t. rw t) (λ t. rw t)
-  follows-stopped call p (Under s Elevated) e = split (tellsPassed (number st call)) (λ t. rw t) (λ t. rw t)
+  follows-stopped call p Free e = either-way (tellsPassed (number st call)) was
+  follows-stopped call p (Under s Elevated) e = either-way (tellsPassed (number st call)) was
   follows-stopped call p (Under s (ByUser u)) e =
       split (hasActive st (UserOf s (u .credential)))
       (λ h. rw (reading st v call s u e h, p))

@@ -250,9 +250,9 @@ first-of st [] e rest h = let z : _≡_ {A = ℕ} 0 1 = cc in absurd (omega arit
 first-of st (call ∷ calls) e rest h = record { call = call; then = calls; is = (cc); is-rest = (cc) }
 
 -- ---- so of a history
-pub live-active : (n : Name) (st : State) (s : Session) (c : Credential) (ns : List ℕ) → look n (processes st) ≡ Live s c ns → hasActive st (UserOf s c) ≡ true
+pub live-stands : (n : Name) (st : State) (s : Session) (c : Credential) (ns : List ℕ) → look n (processes st) ≡ Live s c ns → hasActive st (UserOf s c) ≡ true
 unfolding hasActive
-live-active n st s c ns h =
+live-stands n st s c ns h =
     let r = look-live n (processes st) s c ns h in
     split (hasActive st (UserOf s c)) (λ e. e)
     (λ e. clash (r .active) (each-at (r .place) freePlace (r .within) (each-fails (isActive (UserOf s c)) (processes st) e)))
@@ -265,7 +265,7 @@ took-of n st v call life e is same r =
     record {
       carried = carried;
       told =
-          sym (reading st v call (r .session) (r .claim) carried (live-active n st (r .session) (r .claim .credential) (r .before) lives))
+          sym (reading st v call (r .session) (r .claim) carried (live-stands n st (r .session) (r .claim .credential) (r .before) lives))
           ∙ sym (ap tellsPassed answered)
           ∙ r .told;
       before = r .before;

@@ -3,7 +3,6 @@
 use Prim.Native.Nat.{ℕ}
 use mathlib.Core.Path.{_≡_, refl}
 use mathlib.Core.Bool.{Bool, true, false, not}
-use lib.Dec.{eqb}
 use lib.ListN.{getD}
 use borrow.Author.Tests.{eqb-false}
 use Rattle.lists.proofs.Tests.{split}
@@ -19,9 +18,9 @@ use Rattle.claims.specs.Claim.{phaseNumber, entered, turnNumber, userNumber, cl
 use Rattle.claims.specs.declared.Claim.the-variants.{ByUser}
 use Rattle.claims.specs.declared.State.{State}
 use Rattle.claims.specs.declared.UserClaim.{UserClaim}
-use Rattle.claims.proofs.Laws.{claim-stands}
+use Rattle.claims.proofs.Laws.{unless-true, by-when, by-unless, by-then, claim-stands}
 use Rattle.calls.specs.Calls.{Call, number, aheadNumber, protectedNumber, passes}
-use Rattle.calls.proofs.Cut.{upTo, passed-claim, number-passed, number-stop, rest-by, ahead-one}
+use Rattle.calls.proofs.Cut.{upTo, passed-claim, passed-number-by, number-stop, ahead-one}
 use Rattle.facts.specs.Facts.{processes, Rules}
 use Rattle.history.specs.Lives.{tellsPassed}
 use Rattle.history.specs.Demand.{Carries}
@@ -31,24 +30,21 @@ use Rattle.history.proofs.Facts.{stands}
 abbrev Early : ℕ → Type 0
 Early n = (n ≡ 0 → ⊥) → tellsPassed n ≡ false
 
+none-early : Early 0
+none-early h = absurd (h refl)
+
 early-when : (n : ℕ) (b : Bool) → tellsPassed n ≡ false → Early (n when b)
-unfolding _when_
-early-when n true e h = e
-early-when n false e h = absurd (h refl)
+early-when n b e = by-when Early none-early n b (λ h. e)
 
 early-unless : (n : ℕ) (b : Bool) → tellsPassed n ≡ false → Early (n unless b)
-unfolding _unless_
-early-unless n true e h = absurd (h refl)
-early-unless n false e h = e
+early-unless n b e = by-unless Early none-early n b (λ h. e)
 
 -- a test that does not hold
 early-held : (n : ℕ) {b : Bool} → b ≡ true → Early (n unless b)
-unfolding _unless_
-early-held n e h = absurd (h (rw e))
+early-held n e h = absurd (h (unless-true n e))
 
 early-then : (n m : ℕ) → Early n → Early m → Early (n ▸ m)
-unfolding _▸_
-early-then n m a b h = split (eqb n 0) (λ e. rw e (b (rw e at h))) (λ e. rw e (a (eqb-false n 0 e)))
+early-then = by-then Early
 
 -- ---- where the credential is provisioned and has that process, what the check of a user claim answers
 module _ (st : State) (s : Session) (u : UserClaim) (owner : provisioned st (u .credential) ≡ true) (active : hasActive st (UserOf s (u .credential)) ≡ true) where
@@ -97,5 +93,5 @@ module _ (st : State) (v : Rules st) where
   unfolding tellsPassed
   reading call s u w h =
       split (passes st call)
-      (λ p. rw (p, number-passed st call p) (rest-by (λ n. tellsPassed n ≡ true) refl refl refl refl refl st call))
+      (λ p. rw p (passed-number-by (λ n. tellsPassed n ≡ true) refl refl refl refl refl st call p))
       (λ p. rw (p, number-stop st call p) (early-up-to st s u (owner s u h) h call w (unfold passes in eqb-false (upTo st call) 0 p)))

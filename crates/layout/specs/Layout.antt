@@ -190,9 +190,12 @@ withNext st at next =
       table = replaced (st .table) at (numbered (processAt (st .table) at) next);
     }
 
--- a slice after the next number of a place was written where it lies
+-- where the next number of a place lies, and a slice after it was written there
+abbrev pub nextPlace : ℕ → ℕ
+nextPlace at = placesAt + at * placeSize + nextAt
+
 unfoldable pub nextWritten : List ℕ → ℕ → ℕ → List ℕ
-nextWritten b at next = cond (eqb (length b) stateLength && ltb at places) (over (placesAt + at * placeSize + nextAt) 2 (bytesOf 2 next) b) b
+nextWritten b at next = cond (eqb (length b) stateLength && ltb at places) (over (nextPlace at) 2 (bytesOf 2 next) b) b
 
 -- ---- "A slice holds no state when its length is another, a field is out of its range, a field kept zero isn't zero"
 

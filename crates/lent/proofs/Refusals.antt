@@ -28,14 +28,14 @@ use Rattle.calls.specs.Calls.{Call, List′, number, counted, Protection, Free,
 use Rattle.calls.specs.declared.Wanted.{Wanted}
 use Rattle.calls.proofs.Cut.{after-passed}
 use Rattle.calls.proofs.Laws.{refusal-leaves}
-use Rattle.layout.specs.Layout.{stateLength, stateOf, stateBytes, holdsState, nextWritten}
+use Rattle.layout.specs.Layout.{stateLength, stateOf, stateBytes, holdsState, nextPlace, nextWritten}
 use Rattle.layout.proofs.Laws.{holds-shape, holds-is, one-form}
 use Rattle.wire_listing.proofs.Laws.{list-refused}
 use Rattle.state_record.specs.Entry.{isMade, entryNumber, entryBytes, Entry}
 use Rattle.state_record.specs.Recorded.{countedIn}
 use Rattle.state_record.proofs.Laws.{inside, counted-held}
 use Rattle.entries_protected.specs.Listing.{entryResponse, entryLength, ListEntry}
-use Rattle.lent.specs.Refusals.{nextPlace, OneMoreIn, Refused}
+use Rattle.lent.specs.Refusals.{OneMoreIn, Refused}
 
 -- ---- on a slice that holds a state
 module _ (b : List ℕ) (g : Bytes b) (h : holdsState b ≡ true) where

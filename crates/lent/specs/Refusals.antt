@@ -1,5 +1,5 @@
 -- What an entry that refuses leaves, in bytes: demand 1, "the state and the lent buffer hold what they held", and order 3's one exception, "that one number".
-use Prim.Native.Nat.{ℕ, _+_, _*_}
+use Prim.Native.Nat.{ℕ, _+_}
 use mathlib.Core.Path.{_≡_}
 use mathlib.Core.Logic.{_≢_}
 use mathlib.Core.Bool.{Bool, true, false}
@@ -13,14 +13,10 @@ use Rattle.claims.specs.Module.{activePlace}
 use Rattle.claims.specs.declared.Claim.the-variants.{ByUser}
 use Rattle.claims.specs.declared.UserClaim.{UserClaim}
 use Rattle.calls.specs.Calls.{Call, Under, protection, refusedAfter}
-use Rattle.layout.specs.Layout.{placesAt, placeSize, nextAt, stateOf}
+use Rattle.layout.specs.Layout.{nextPlace, stateOf}
 use Rattle.state_record.specs.Entry.{isMade}
 
--- where the next number of the process at a place lies
-abbrev pub nextPlace : ℕ → ℕ
-nextPlace at = placesAt + at * placeSize + nextAt
-
--- its two bytes are one more, and every other byte of the slice is as it was
+-- the two bytes of the next number at a place are one more, and every other byte of the slice is as it was
 pub record OneMoreIn (before after : List ℕ) (at : ℕ) : Type 0 where
   pub front : take (nextPlace at) after ≡ take (nextPlace at) before
   pub number : take 2 (drop (nextPlace at) after) ≡ bytesOf 2 (processAt (stateOf before .table) at .next + 1)
