@@ -1,4 +1,4 @@
-.PHONY: help inspect inspect-test run lib own install test edits soak faults bench tools clean
+.PHONY: help inspect inspect-test run lib own install test edits soak faults bench trace tools clean
 
 SHELL := bash
 .SHELLFLAGS := -o pipefail -c
@@ -43,6 +43,7 @@ help:
 	@echo "make soak     the compiled module against the model, until it is stopped; make soak TIME=600 for so many seconds"
 	@echo "make faults   breaks the model in some hundred ways and asks that the comparison tells"
 	@echo "make bench    the record entry against ordinary Rust, and what the other entries cost"
+	@echo "make trace    what the calls read from memory, compared on a trace wherever names differ; wrong builds that it has to catch"
 	@echo "make clean    removes what these have built"
 
 inspect: tools
@@ -61,7 +62,7 @@ lib: tools $(call lib-files,$(LIB),$(WITH_SHARED))
 # for this machine: the hosts link nothing else
 own: tools $(call lib-files,$(OWN),yes)
 
-build/lib-%/libslavotuk.a: $(SOURCES) arch/archive
+build/lib-%/libslavotuk.a: $(SOURCES) arch/archive arch/kit
 	@arch/archive $* $@
 
 # all of the archive, with the entries alone to be seen from outside
@@ -100,6 +101,10 @@ faults: own
 
 bench: own
 	@$(CARGO) slavotuk-bench
+
+# the wrong builds are made of the bitcode that the archive for Arm leaves behind
+trace: own $(call lib-files,build/lib-x86_64) $(call lib-files,build/lib-aarch64)
+	@tests/trace
 
 # what the hosts need beside the Rattle kit
 tools:

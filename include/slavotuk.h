@@ -21,6 +21,8 @@
  * - ARGUMENT, wherever it is listed, is for a session over 3, a credential over 7, a flag (kind, verdict, keep, provisioned)
  *   other than 0 or 1, a name not of SLAVOTUK_NAME_SIZE bytes, and a slice that holds no state. A comment adds what else it is
  *   for.
+ * - Where it compares names, it reads all bytes of both every time: what it reads does not tell at which byte two names differ.
+ *   docs/TRACE.md says how that is checked, and what the reads still tell.
  * - Sessions, credentials, classes, versions and flags are 32 bits wide, so that a wrong value arrives as one. A claim's
  *   number has 16 bits: C narrows a wider value before the call.
  *
@@ -65,11 +67,11 @@ extern "C" {
 /*
  * The library's version. Where a call, what it leaves or the state's bytes change, the major number does, and with it the
  * soname. With version 2 a refusal after the claim's tests spends the number: see to a host of version 1 that sends the same
- * number again after NOT_GRANTED or ROOM.
+ * number again after NOT_GRANTED or ROOM. Since 2.0.1 the reads do not tell where names differ.
  */
 #define SLAVOTUK_VERSION_MAJOR 2
 #define SLAVOTUK_VERSION_MINOR 0
-#define SLAVOTUK_VERSION_PATCH 0
+#define SLAVOTUK_VERSION_PATCH 1
 
 /* The same as one number, in which a later version is larger. */
 #define SLAVOTUK_VERSION_NUMBER (SLAVOTUK_VERSION_MAJOR * 65536 + SLAVOTUK_VERSION_MINOR * 256 + SLAVOTUK_VERSION_PATCH)

@@ -1,7 +1,10 @@
 //! What a call is handed: sessions, credentials, classes, names, claims and grants.
 
 use crate::Refusal;
+use std::cmp::Ordering;
 use std::fmt;
+use std::hash::{Hash, Hasher};
+use std::hint::black_box;
 
 /// Defines a tuple struct around a number below `$count`, which no other number can become.
 macro_rules! small_number {
@@ -145,11 +148,59 @@ pub const NAME_LENGTH: usize = 48;
 /// assert_eq!(Name::try_from(&[0x0a; 48][..]), Ok(name));
 /// assert_eq!(Name::try_from(&[0x0a; 47][..]), Err(Refusal::Argument));
 /// ```
-#[derive(Clone, Copy, PartialEq, Eq, PartialOrd, Ord, Hash)]
+///
+/// To ask whether two names are equal, or which comes first, reads all 48 bytes of both every time, whatever they are: on a memory bus it can't be seen at
+/// which byte they differ. That is checked on a trace of the compiled code (docs/TRACE.md), and not proved. It is said of these comparisons and of those of types that
+/// hold a name; whoever compares the bytes themselves, or keeps names in a map by their hash, reads otherwise.
+#[derive(Clone, Copy)]
 pub struct Name(
     /// Its bytes.
     pub [u8; NAME_LENGTH],
 );
+
+impl Name {
+    /// Its words of 8 bytes, in an order that is that of the bytes.
+    fn words(&self) -> impl Iterator<Item = u64> + '_ {
+        self.0
+            .chunks_exact(8)
+            .map(|bytes| u64::from_be_bytes(bytes.try_into().expect("eight bytes")))
+    }
+}
+
+// Both comparisons keep from the compiler what their result is asked for: it may make a row of tests of the words out of it, each with an exit.
+
+impl PartialEq for Name {
+    fn eq(&self, other: &Name) -> bool {
+        let pairs = self.words().zip(other.words());
+        let differing = pairs.fold(0, |bits, (one, another)| bits | (one ^ another));
+        black_box(differing) == 0
+    }
+}
+
+impl Eq for Name {}
+
+impl Ord for Name {
+    /// The order of the bytes. Each pair of words adds -1, 0 or 1, and weighs more than all pairs after it.
+    fn cmp(&self, other: &Name) -> Ordering {
+        let pairs = self.words().zip(other.words());
+        let order = pairs.fold(0, |order, (one, another)| {
+            2 * order + i32::from(one > another) - i32::from(one < another)
+        });
+        black_box(order).cmp(&0)
+    }
+}
+
+impl PartialOrd for Name {
+    fn partial_cmp(&self, other: &Name) -> Option<Ordering> {
+        Some(self.cmp(other))
+    }
+}
+
+impl Hash for Name {
+    fn hash<H: Hasher>(&self, hasher: &mut H) {
+        self.0.hash(hasher);
+    }
+}
 
 impl From<[u8; NAME_LENGTH]> for Name {
     fn from(bytes: [u8; NAME_LENGTH]) -> Name {

@@ -131,7 +131,7 @@ module _ (bytes : List ℕ) {h : Bool} (e : h ≡ holdsState bytes) where
   unfolding holdsNumber _unless_
   holds-none t = rw (sym e ∙ t)
 
-pub version-is : 131072 ≡ libraryVersion
+pub version-is : 131073 ≡ libraryVersion
 unfolding libraryVersion versionNumber
 version-is = refl
 

@@ -3,14 +3,15 @@
 use Prim.Native.Nat.{ℕ, zero, suc, _<_, _≤_}
 use mathlib.Core.Path.{_≡_, refl, sym, ap, _∙_}
 use mathlib.Core.Logic.{_↔_}
-use mathlib.Core.Bool.{true, false}
-use mathlib.Core.List.{List, [], _∷_}
+use mathlib.Core.Bool.{true, false, _&&_}
+use mathlib.Core.List.{List, [], _∷_, _++_}
 use native.Mathlib.Omega.{arith}
 use borrow.Author.Tests.{eqb-true, leb-true, eq-eqb, ne-eqb, le-leb}
 use lib.Dec.{eqb, leb}
 use lib.ListN.{length, getD, length-drop}
 use Rattle.rows.specs.Bytes.{Bytes, bytesOf, numberAt}
 use Rattle.rows.proofs.Bytes.{number-in, number-forth, number-low}
+use Rattle.rows.proofs.Loops.{and-assoc}
 use Rattle.rows.proofs.Rows.{Codec}
 use Rattle.lists.proofs.Tests.{split, clash, and-left, and-right}
 use Rattle.names.specs.declared.Name.{Name}
@@ -21,7 +22,7 @@ use Rattle.names.specs.declared.RowType.the-variants.{ActiveUser, Active
 use Rattle.names.specs.Names.{sameBytes, sameName, readName, nameIn, typeNumber, typeNumbered, rowBytes, rowIn, isRow, rowFrom, readRow}
 
 -- ---- names
-same→eq : (a b : List ℕ) → sameBytes a b ≡ true → a ≡ b
+pub same→eq : (a b : List ℕ) → sameBytes a b ≡ true → a ≡ b
 unfolding sameBytes
 same→eq [] [] e = refl
 same→eq [] (y ∷ ys) e = clash e refl
@@ -31,10 +32,18 @@ same→eq (x ∷ xs) (y ∷ ys) e =
     let q : xs ≡ ys = same→eq xs ys (and-right (eqb x y) (sameBytes xs ys) e) in
     cc
 
-same-refl : (a : List ℕ) → sameBytes a a ≡ true
+pub same-refl : (a : List ℕ) → sameBytes a a ≡ true
 unfolding sameBytes
 same-refl [] = refl
 same-refl (x ∷ xs) = rw (eq-eqb x x refl, same-refl xs)
+
+-- bytes in two parts
+pub same-append : (x y u w : List ℕ) → length x ≡ length u → sameBytes (x ++ y) (u ++ w) ≡ (sameBytes x u && sameBytes y w)
+unfolding sameBytes
+same-append [] y [] w h = refl
+same-append [] y (b ∷ u) w h = absurd (omega arith)
+same-append (a ∷ x) y [] w h = absurd (omega arith)
+same-append (a ∷ x) y (b ∷ u) w h = rw (same-append x y u w (omega arith)) (sym (and-assoc (eqb a b) (sameBytes x u) (sameBytes y w)))
 
 -- the test is true exactly where all the bytes are equal
 pub same-iff : (a b : Name) → (sameName a b ≡ true) ↔ (a .bytes ≡ b .bytes)

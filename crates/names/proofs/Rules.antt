@@ -1,42 +1,187 @@
 -- The laws that close the needs of this crate's functions by `search rules`: each premise is as a place's record has it.
 -- Assumes nothing.
-use Prim.Native.Nat.{ℕ, _+_, _<_, _≤_}
-use mathlib.Core.Path.{_≡_, sym, ap, _∙_}
-use mathlib.Core.Bool.{true, false}
-use mathlib.Core.List.{List}
+use Prim.Native.Nat.{ℕ, zero, suc, _+_, _-_, _*_, _/_, _%_, _^_, _<_, _≤_}
+use mathlib.Core.Path.{_≡_, refl, sym, ap, _∙_}
+use mathlib.Core.Bool.{true, false, _&&_}
+use mathlib.Core.List.{List, [], _∷_, _++_}
+use native.Mathlib.Nat.{div-lt-iff-lt-mul, mod-lt}
 use native.Mathlib.Omega.{arith}
-use borrow.Author.Count.{below-more}
 use borrow.Author.Needs.{needs}
-use borrow.Author.Tests.{ne-eqb}
-use lib.ListN.{length, getD, set}
-use lib.Seq.{ext-getD}
+use borrow.Author.Tests.{eqb-true, eqb-false, eq-eqb, ne-eqb}
+use lib.Arith.{digits-lt}
+use lib.Bits.{bitXor, bitOr, xor-self, xor-add-and, and-le-l, and-le-r}
+use lib.Dec.{eqb}
+use lib.ListN.{length, getD, take, drop, set, length-take, length-drop, drop-of-length-le}
+use lib.Seq.{drop-cons, drop-drop}
+use Rattle.rows.specs.Bytes.{Bytes, isZero, bytesOf, numberOf, numberAt, Widened}
+use Rattle.rows.proofs.Bytes.{number-forth, part-front}
+use Rattle.rows.proofs.Loops.{or-zero, and-assoc, and-true}
+use Rattle.lists.proofs.Tests.{split}
 use Rattle.lists.proofs.Loops.{Copied, copied-none, copied-more, copied-all}
 use Rattle.names.specs.declared.Name.{Name}
 use Rattle.names.specs.declared.NameRead.{NameRead}
-use Rattle.names.specs.Names.{sameName, zeroName, readName, nameIn}
-use Rattle.names.proofs.Laws.{same-iff, differ-iff, name-read, name-in, name-not-in}
+use Rattle.names.specs.Names.{sameBytes, sameName, zeroName, readName, nameIn}
+use Rattle.names.specs.Words.{Word, stirred, stirredIn, digestOf}
+use Rattle.names.proofs.Laws.{same→eq, same-refl, same-append, name-read, name-in, name-not-in}
 
--- ---- the loop of `same`: the first i bytes agree
-pub record Agree (x y : List ℕ) (i : ℕ) : Type 0 where
+-- ---- a word, as `word` makes it of eight bytes
+byte-next : (k at : ℕ) (l : List ℕ) {b : ℕ} (next : ℕ) → next ≡ suc at → at < length l → Widened (getD l at 0) b → take (suc k) (drop at l) ≡ b ∷ take k (drop next l)
+byte-next k at l next e h w = rw (drop-cons l at 0 h, e, w .is)
+
+module _ (l : List ℕ) (at : ℕ) {b0 b1 b2 b3 b4 b5 b6 b7 : ℕ} (h : length l ≡ 48) (k : at + 8 ≤ 48)
+    (w0 : Widened (getD l at 0) b0)
+    (w1 : Widened (getD l (at + 1) 0) b1)
+    (w2 : Widened (getD l (at + 2) 0) b2)
+    (w3 : Widened (getD l (at + 3) 0) b3)
+    (w4 : Widened (getD l (at + 4) 0) b4)
+    (w5 : Widened (getD l (at + 5) 0) b5)
+    (w6 : Widened (getD l (at + 6) 0) b6)
+    (w7 : Widened (getD l (at + 7) 0) b7) where
+  part : take 8 (drop at l) ≡ b0 ∷ b1 ∷ b2 ∷ b3 ∷ b4 ∷ b5 ∷ b6 ∷ b7 ∷ []
+  part =
+      byte-next 7 at l (at + 1) (omega arith) (omega arith) w0 ∙ ap (λ (r : List ℕ). b0 ∷ r)
+      (byte-next 6 (at + 1) l (at + 2) (omega arith) (omega arith) w1 ∙ ap (λ (r : List ℕ). b1 ∷ r)
+      (byte-next 5 (at + 2) l (at + 3) (omega arith) (omega arith) w2 ∙ ap (λ (r : List ℕ). b2 ∷ r)
+      (byte-next 4 (at + 3) l (at + 4) (omega arith) (omega arith) w3 ∙ ap (λ (r : List ℕ). b3 ∷ r)
+      (byte-next 3 (at + 4) l (at + 5) (omega arith) (omega arith) w4 ∙ ap (λ (r : List ℕ). b4 ∷ r)
+      (byte-next 2 (at + 5) l (at + 6) (omega arith) (omega arith) w5 ∙ ap (λ (r : List ℕ). b5 ∷ r)
+      (byte-next 1 (at + 6) l (at + 7) (omega arith) (omega arith) w6 ∙ ap (λ (r : List ℕ). b6 ∷ r)
+      (byte-next 0 (at + 7) l (at + 8) (omega arith) (omega arith) w7)))))))
+
+  small : Bytes (b0 ∷ b1 ∷ b2 ∷ b3 ∷ b4 ∷ b5 ∷ b6 ∷ b7 ∷ [])
+  small zero = w0 .small
+  small (suc zero) = w1 .small
+  small (suc (suc zero)) = w2 .small
+  small (suc (suc (suc zero))) = w3 .small
+  small (suc (suc (suc (suc zero)))) = w4 .small
+  small (suc (suc (suc (suc (suc zero))))) = w5 .small
+  small (suc (suc (suc (suc (suc (suc zero)))))) = w6 .small
+  small (suc (suc (suc (suc (suc (suc (suc zero))))))) = w7 .small
+  small (suc (suc (suc (suc (suc (suc (suc (suc i)))))))) = omega arith
+
+  total : b0 + b1 * 256 + b2 * 65536 + b3 * 16777216 + b4 * 4294967296 + b5 * 1099511627776 + b6 * 281474976710656 + b7 * 72057594037927936 ≡ numberOf (b0 ∷ b1 ∷ b2 ∷ b3 ∷ b4 ∷ b5 ∷ b6 ∷ b7 ∷ [])
+  unfolding numberOf
+  total = omega arith
+
+  pub word-said : Word l at (b0 + b1 * 256 + b2 * 65536 + b3 * 16777216 + b4 * 4294967296 + b5 * 1099511627776 + b6 * 281474976710656 + b7 * 72057594037927936)
+  unfolding numberAt
+  word-said = record { is = total ∙ ap numberOf (sym part); says = ap (bytesOf 8) total ∙ number-forth (b0 ∷ b1 ∷ b2 ∷ b3 ∷ b4 ∷ b5 ∷ b6 ∷ b7 ∷ []) small ∙ sym part }
+
+-- ---- two names, word by word
+xor-same : (x y : ℕ) → isZero (bitXor x y) ≡ eqb x y
+xor-same x y =
+    split (eqb x y)
+    (λ e. let q : x ≡ y = eqb-true x y e in rw (e, q, xor-self y))
+    (λ e. let n : x ≡ y → ⊥ = eqb-false x y e in rw e (ne-eqb (bitXor x y) 0 (λ z. n (omega (arith, xor-add-and x y, and-le-l x y, and-le-r x y)))))
+
+-- no bit differs in two words where the bytes that they say are the same
+words-same : {x y : List ℕ} {at p q : ℕ} → Word x at p → Word y at q → isZero (bitXor p q) ≡ sameBytes (take 8 (drop at x)) (take 8 (drop at y))
+unfolding numberAt
+words-same {x} {y} {at} {p} {q} v w =
+    split (eqb p q)
+    (λ e.
+    let s : take 8 (drop at x) ≡ take 8 (drop at y) = sym (v .says) ∙ ap (bytesOf 8) (eqb-true p q e) ∙ w .says in
+    rw (xor-same p q, e, s, same-refl (take 8 (drop at y))))
+    (λ e. rw (xor-same p q, e)
+    (split (sameBytes (take 8 (drop at x)) (take 8 (drop at y)))
+    (λ s. absurd (eqb-false p q e (v .is ∙ ap numberOf (same→eq (take 8 (drop at x)) (take 8 (drop at y)) s) ∙ sym (w .is))))
+    (λ s. sym s)))
+
+-- the bytes from a place on: a word, and the others
+same-front : (x y : List ℕ) (at : ℕ) → at + 8 ≤ length x → at + 8 ≤ length y → sameBytes (drop at x) (drop at y) ≡ (sameBytes (take 8 (drop at x)) (take 8 (drop at y)) && sameBytes (drop (at + 8) x) (drop (at + 8) y))
+same-front x y at h k =
+    let a : length (take 8 (drop at x)) ≡ length (take 8 (drop at y)) = simp (length-take, length-drop) (omega arith) in
+    ap (λ (l : List ℕ). sameBytes l (drop at y)) (sym (part-front 8 at x))
+    ∙ ap (sameBytes (take 8 (drop at x) ++ drop (at + 8) x)) (sym (part-front 8 at y))
+    ∙ same-append (take 8 (drop at x)) (drop (at + 8) x) (take 8 (drop at y)) (drop (at + 8) y) a
+
+-- a word begins at a place, or the name ends there
+pub record WordAt (at : ℕ) : Type 0 where
+  pub low : at ≤ 48
+  pub step : at % 8 ≡ 0
+
+pub word-room : {at : ℕ} → WordAt at → at < 48 → at + 8 ≤ 48
+word-room v h = omega (arith, v .step)
+
+word-next : {at : ℕ} → WordAt at → at < 48 → WordAt (at + 8)
+word-next v h = record { low = word-room v h; step = omega (arith, v .step) }
+
+-- the words before it compared: what is left
+pub record Compared (x y : List ℕ) (d at : ℕ) : Type 0 where
+  pub place : WordAt at
   pub first : length x ≡ 48
   pub second : length y ≡ 48
-  pub each : (k : ℕ) → k < i → getD x k 0 ≡ getD y k 0
+  pub rest : sameBytes x y ≡ (isZero d && sameBytes (drop at x) (drop at y))
 
-pub agree-none : (x y : List ℕ) → length x ≡ 48 → length y ≡ 48 → Agree x y 0
-agree-none x y a b = record { first = a; second = b; each = λ k h. absurd (omega arith) }
+pub compared-none : (x y : List ℕ) → length x ≡ 48 → length y ≡ 48 → Compared x y 0 0
+compared-none x y h k = record { place = record { low = omega arith; step = omega arith }; first = h; second = k; rest = refl }
 
-pub agree-on : {x y : List ℕ} {i : ℕ} → Agree x y i → getD x i 0 ≡ getD y i 0 → Agree x y (i + 1)
-agree-on v e = record { first = v .first; second = v .second; each = below-more _ _ (v .each) e }
+pub compared-on : {x y : List ℕ} {d at p q : ℕ} → Compared x y d at → at < 48 → Word x at p → Word y at q → Compared x y (bitOr d (bitXor p q)) (at + 8)
+compared-on {x} {y} {d} {at} {p} {q} v h a b =
+    let room : at + 8 ≤ 48 = word-room (v .place) h in
+    record {
+      place = word-next (v .place) h;
+      first = v .first;
+      second = v .second;
+      rest =
+          v .rest
+          ∙ rw (same-front x y at (omega (arith, v .first)) (omega (arith, v .second)), ← words-same a b, or-zero d (bitXor p q))
+          (sym (and-assoc (isZero d) (isZero (bitXor p q)) (sameBytes (drop (at + 8) x) (drop (at + 8) y))));
+    }
 
-module _ {a b : Name} {i : ℕ} (v : Agree (a .bytes) (b .bytes) i) where
-  pub agree-all : 48 ≤ i → true ≡ sameName a b
-  agree-all h =
-      sym
-      (same-iff a b .1
-      (ext-getD 0 (a .bytes) (b .bytes) (v .first ∙ sym (v .second)) (λ k t. v .each k (omega (arith, v .first)))))
+pub compared-all : {x y : List ℕ} {d at : ℕ} → Compared x y d at → 48 ≤ at → isZero d ≡ sameBytes x y
+unfolding sameBytes
+compared-all {x} {y} {d} {at} v h =
+    let m : length x ≤ at = omega (arith, v .first) in
+    let n : length y ≤ at = omega (arith, v .second) in
+    sym (v .rest ∙ rw (drop-of-length-le x m, drop-of-length-le y n) (and-true (isZero d)))
 
-  pub differ : (getD (a .bytes) i 0 ≡ getD (b .bytes) i 0 → ⊥) → false ≡ sameName a b
-  differ n = sym (differ-iff a b .1 (λ e. n (ap (λ (l : List ℕ). getD l i 0) e)))
+-- both halves are none where the whole is
+halves : (d : ℕ) → isZero (bitOr (d / 4294967296) (d % 4294967296)) ≡ isZero d
+halves d =
+    or-zero (d / 4294967296) (d % 4294967296)
+    ∙ split (isZero d)
+    (λ e. let z : d ≡ 0 = eqb-true d 0 e in rw (e, eq-eqb (d / 4294967296) 0 (omega arith), eq-eqb (d % 4294967296) 0 (omega arith)))
+    (λ e.
+    let n : d ≡ 0 → ⊥ = eqb-false d 0 e in
+    split (isZero (d / 4294967296))
+    (λ f. rw (e, f) (ne-eqb (d % 4294967296) 0 (λ z. n (omega (arith, eqb-true (d / 4294967296) 0 f)))))
+    (λ f. rw (e, f)))
+
+pub same-said : (a b : Name) (d : ℕ) → isZero d ≡ sameBytes (a .bytes) (b .bytes) → eqb (bitOr (d / 4294967296) (d % 4294967296)) 0 ≡ sameName a b
+unfolding sameName
+same-said a b d e = halves d ∙ e
+
+-- ---- the digest
+pub round-fits : (d : ℕ) → d < 2 ^ 64 → d % 35184372088832 * 524288 + d / 35184372088832 < 2 ^ 64
+round-fits d h =
+    let k : d / 35184372088832 < 524288 = div-lt-iff-lt-mul {k = 35184372088832} {x = d} {y = 524288} (omega arith) .1 h in
+    digits-lt (mod-lt d (omega arith)) k
+
+pub stirred-said : (d w n r : ℕ)
+    → n ≡ (d % 35184372088832 * 524288 + d / 35184372088832 + (d % 35184372088832 * 524288 + d / 35184372088832) % 2305843009213693952 * 8) % 2 ^ 64
+    → r ≡ (n + w) % 2 ^ 64
+    → r ≡ stirred d w
+unfolding stirred
+stirred-said d w n r e f = f ∙ rw e
+
+-- the words before a place stirred in
+pub record StirredTo (bytes : List ℕ) (d at : ℕ) : Type 0 where
+  pub place : WordAt at
+  pub rest : stirredIn 6 0 bytes ≡ stirredIn ((48 - at) / 8) d (drop at bytes)
+
+pub stirred-none : (bytes : List ℕ) → StirredTo bytes 0 0
+stirred-none bytes = record { place = record { low = omega arith; step = omega arith }; rest = refl }
+
+pub stirred-on : {bytes : List ℕ} {d at p r : ℕ} → StirredTo bytes d at → at < 48 → Word bytes at p → r ≡ stirred d p → StirredTo bytes r (at + 8)
+unfolding stirredIn numberAt
+stirred-on {bytes} {d} {at} {p} {r} v h w e =
+    let k : (48 - at) / 8 ≡ suc ((48 - (at + 8)) / 8) = omega (arith, v .place .step) in
+    record { place = word-next (v .place) h; rest = v .rest ∙ rw (k, ← drop-drop 8 at bytes, e, w .is) }
+
+pub stirred-all : (name : Name) {d at : ℕ} → StirredTo (name .bytes) d at → 48 ≤ at → d ≡ digestOf name
+unfolding digestOf stirredIn
+stirred-all name {d} {at} v h = let k : (48 - at) / 8 ≡ 0 = omega arith in sym (v .rest ∙ rw k)
 
 -- ---- the loops that copy a name
 pub copy : (s d : List ℕ) → length s ≡ 48 → length d ≡ 48 → Copied s d d 0
@@ -62,4 +207,4 @@ name-put {part} name v h k = copied-all v (omega arith) ∙ sym (name-in part na
 pub name-stays : (part : List ℕ) (name : Name) → (length part ≡ 48 → ⊥) → part ≡ nameIn part name
 name-stays part name h = sym (name-not-in part name h)
 
-pub ruleset rules = (needs, agree-none, agree-on, agree-all, differ, copy, copy-on, put-on, name-wrong, name-got, name-put, name-stays)
+pub ruleset rules = (needs, word-said, word-room, compared-none, compared-on, compared-all, same-said, round-fits, stirred-said, stirred-none, stirred-on, stirred-all, copy, copy-on, put-on, name-wrong, name-got, name-put, name-stays)

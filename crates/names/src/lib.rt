@@ -1,6 +1,9 @@
 // What things are called, and the types of the row that a listing has of a process.
 ghost use mathlib.Core.Path.{_≡_};
-ghost use Rattle.names.specs.Names.{sameName, readName, nameIn};
+ghost use Prim.Native.Nat.{_+_, _≤_};
+ghost use Rattle.rows.specs.Bytes.{isZero};
+ghost use Rattle.names.specs.Names.{nameLength, sameBytes, sameName, readName, nameIn};
+ghost use Rattle.names.specs.Words.{Word, stirred, digestOf};
 
 // A session handle. A credential cannot stand for it, nor it for a credential.
 pub struct Session(pub u8);
@@ -45,22 +48,71 @@ pub struct RowRead {
     pub row: Row,
 }
 
-// Whether two names agree in all 48 bytes.
+// Eight bytes from an index on, as one number, the lowest first: one load.
+fn word(bytes: [u8; NAME_LENGTH], at: usize) -> u64
+    requires { ⌜ at + 8 ≤ nameLength ⌝ }
+    ensures { λ r. ⌜ Word bytes at r ⌝ }
+{
+    rows::wide64(bytes[at])
+        + rows::wide64(bytes[at + 1]) * 0x100
+        + rows::wide64(bytes[at + 2]) * 0x10000
+        + rows::wide64(bytes[at + 3]) * 0x1000000
+        + rows::wide64(bytes[at + 4]) * 0x100000000
+        + rows::wide64(bytes[at + 5]) * 0x10000000000
+        + rows::wide64(bytes[at + 6]) * 0x1000000000000
+        + rows::wide64(bytes[at + 7]) * 0x100000000000000
+}
+
+// The bits in which two names differ, of all their words together: 0 where they agree in all 48 bytes.
+fn differences(x: [u8; NAME_LENGTH], y: [u8; NAME_LENGTH]) -> u64
+    ensures { λ r. ⌜ isZero r ≡ sameBytes x y ⌝ }
+{
+    let mut d: u64 = 0;
+    let mut at: usize = 0;
+    while at < NAME_LENGTH {
+        let one = word(x, at);
+        let other = word(y, at);
+        d = d | (one ^ other);
+        at += 8;
+    }
+    d
+}
+
+// What a half of a word holds.
+const HALF: u64 = 0x100000000;
+
+// Whether two names agree in all 48 bytes. All of both are read every time before it answers: order 4. The two halves of the differences are put together
+// before the test, because of a test of all of them at once the compiler makes six tests, with an exit after each (docs/TRACE.md).
 pub fn same(a: Name, b: Name) -> bool
     ensures { λ r. ⌜ r ≡ sameName a b ⌝ }
 {
     let x = a.bytes;
     let y = b.bytes;
-    let mut i: usize = 0;
-    while i < NAME_LENGTH {
-        let one = x[i];
-        let other = y[i];
-        if one != other {
-            return false;
-        }
-        i += 1;
+    let d = differences(x, y);
+    (d / HALF | d % HALF) == 0
+}
+
+// A number that equal names have in common, and other names hardly ever: so that many names are told apart by one reading of each.
+pub fn digest(name: Name) -> u64
+    ensures { λ r. ⌜ r ≡ digestOf name ⌝ }
+{
+    let bytes = name.bytes;
+    let mut d: u64 = 0;
+    let mut from: usize = 0;
+    while from < NAME_LENGTH {
+        d = stirred(d, word(bytes, from));
+        from += 8;
     }
-    true
+    d
+}
+
+// A digest with one word more: it goes round by 19 bits, it is taken nine times, so that each bit moves others, and the word is added.
+fn stirred(d: u64, word: u64) -> u64
+    ensures { λ r. ⌜ r ≡ stirred d word ⌝ }
+{
+    let round = d % 0x200000000000 * 0x80000 + d / 0x200000000000;
+    let nine = std::num::wrapping_add_u64(round, round % 0x2000000000000000 * 8);
+    std::num::wrapping_add_u64(nine, word)
 }
 
 // The name that a slice of 48 bytes says.

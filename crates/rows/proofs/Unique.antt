@@ -5,6 +5,8 @@ use denote.Ref.{now}
 use Rattle.lists.proofs.Once.{OneAnswer, OneContent}
 use Rattle.rows.proofs.wide16.Kinds as wide16-kinds
 use Rattle.rows.proofs.wide16.Reads as wide16
+use Rattle.rows.proofs.wide64.Kinds as wide64-kinds
+use Rattle.rows.proofs.wide64.Reads as wide64
 use Rattle.rows.proofs.wide.Kinds as wide-kinds
 use Rattle.rows.proofs.wide.Reads as wide
 use Rattle.rows.proofs.byte_of.Kinds as byte-of-kinds
@@ -22,6 +24,9 @@ use Rattle.rows.proofs.put_number32.Reads as put-number32
 
 pub wide16-once : OneAnswer 0 wide16-kinds.ps wide16-kinds.r wide16.Post
 wide16-once κs a x y s t p q = p .is ∙ sym (q .is)
+
+pub wide64-once : OneAnswer 0 wide64-kinds.ps wide64-kinds.r wide64.Post
+wide64-once κs a x y s t p q = p .is ∙ sym (q .is)
 
 pub wide-once : OneAnswer 0 wide-kinds.ps wide-kinds.r wide.Post
 wide-once κs a x y s t p q = p .is ∙ sym (q .is)

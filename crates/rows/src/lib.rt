@@ -13,6 +13,12 @@ pub fn wide16(x: u8) -> u16
     x as u16
 }
 
+pub fn wide64(x: u8) -> u64
+    ensures { λ r. ⌜ Widened x r ⌝ }
+{
+    x as u64
+}
+
 pub fn wide(x: u8) -> usize
     ensures { λ r. ⌜ Widened x r ⌝ }
 {

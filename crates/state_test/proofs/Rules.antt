@@ -3,127 +3,36 @@
 use Prim.Native.Nat.{ℕ, zero, suc, _+_, _-_, _*_, _<_, _≤_, _%_}
 use mathlib.Core.Path.{_≡_, refl, sym, ap, _∙_}
 use mathlib.Core.Bool.{Bool, true, false, _&&_, _||_, not}
-use mathlib.Core.List.{List, [], _∷_, _++_, map}
+use mathlib.Core.List.{List, [], _∷_, map}
 use native.Mathlib.Omega.{arith}
 use native.Mathlib.Numerals.{add-one}
+use borrow.Author.Count.{below-more}
 use borrow.Author.Needs.{needs}
 use borrow.Author.Tests.{eqb-true, eqb-false, eq-eqb, ne-eqb, not-true, not-false}
-use lib.Bits.{bitXor, bitOr}
+use lib.Bits.{bitOr}
 use lib.Dec.{eqb}
-use lib.ListN.{length, take, drop, getD, length-map, length-take, length-drop, take-append-drop, drop-of-length-le, replicate, length-replicate, set, length-set}
-use lib.Seq.{getD-set-same, getD-set-other, drop-cons, drop-drop, getD-drop, getD-take, take-all}
+use lib.ListN.{length, take, drop, getD, length-map, length-take, length-drop, drop-of-length-le, replicate, length-replicate, set, length-set}
+use lib.Seq.{getD-set-same, getD-set-other, drop-cons, drop-drop, take-all}
 use Rattle.rows.specs.Bytes.{isZero, Widened}
 use Rattle.lists.proofs.Lists.{length-mapped}
-use Rattle.lists.specs.Each.{Each, each-nil, each-cons}
+use Rattle.lists.specs.Each.{Each, each-nil, each-cons, Pairs}
 use Rattle.lists.proofs.Tests.{split, clash, and-left, and-right, and-both}
-use Rattle.lists.proofs.Each.{each-imp}
+use Rattle.lists.proofs.Each.{each-imp, pairs-imp₂}
 use Rattle.rows.specs.Rows.{rows, every, pairwise}
-use Rattle.rows.proofs.Rows.{rows-length, rows-take, map-take, map-drop, row-at}
-use Rattle.rows.proofs.Loops.{RecordsTo, records-begin, records-on, records-fail, records-all, or-zero, map-part, and-assoc, and-true, and-false, paired-begin, paired-on, paired-fail, paired-all}
-use Rattle.names.specs.Names.{sameBytes, sameName}
-use Rattle.names.proofs.Laws.{same-iff}
+use Rattle.rows.proofs.Rows.{rows-length, rows-take, map-take, row-at, pairwise-by, by-pairwise}
+use Rattle.rows.proofs.Loops.{RecordsTo, records-begin, records-on, records-fail, records-all, or-zero, map-part, and-assoc, paired-begin, paired-on, paired-fail, paired-all}
+use Rattle.names.specs.declared.Name.{Name}
+use Rattle.names.specs.declared.NameRead.{NameRead}
+use Rattle.names.specs.Names.{sameName, readName}
+use Rattle.names.specs.Words.{digestOf}
+use Rattle.names.proofs.Laws.{same→name, name-read}
 use Rattle.table.specs.Table.{standing, freePlace, isUser, isElevation, isActive, places}
 use Rattle.table.specs.declared.Process.{Process}
 use Rattle.layout.specs.Layout.{ownerAt, kindAt, sessionAt, nameAt, placeSize, countAt, placesAt, stateLength, kindFrom, processFrom, countIn, placesIn, stateOf, isOwned, areRivals, areApart, sound, shaped, holdsState}
-use Rattle.state_test.specs.Marks.{folded, nameMark, seatNumbered, seatMark, Mark, laterApart, Met, AllMet}
+use Rattle.state_test.specs.Keys.{seatNumbered, seatOf, Seat, standingIn, Digests, Fresh, noRivals, otherNames, Unless}
 use Rattle.state_fields.specs.Stands.{allFit}
 use Rattle.layout.proofs.Laws.{Shape, shape, state-in}
 use Rattle.layout.proofs.Parts.{place-part}
-
--- ---- two names, 16 bytes at a time
-pub record Told (x y : List ℕ) (same : Bool) (i : ℕ) : Type 0 where
-  pub low : i ≤ length x
-  pub even : length x ≡ length y
-  pub rest : sameBytes x y ≡ (same && sameBytes (drop i x) (drop i y))
-
-told-on : {x y : List ℕ} {same same′ : Bool} {i : ℕ} → Told x y same i → i < length x → same′ ≡ (same && eqb (getD x i 0) (getD y i 0)) → Told x y same′ (i + 1)
-unfolding sameBytes
-told-on {x} {y} {same} {same′} {i} v h e =
-    let k : i < length y = omega (arith, v .even) in
-    record {
-      low = omega arith;
-      even = v .even;
-      rest =
-          v .rest
-          ∙ rw (drop-cons x i 0 h, drop-cons y i 0 k, e, add-one) (sym (and-assoc same (eqb (getD x i 0) (getD y i 0)) (sameBytes (drop (suc i) x) (drop (suc i) y))));
-    }
-
--- the 16 bytes from an index on, in two slices
-pub record Same16 (a b : List ℕ) (at : ℕ) (same : Bool) (i : ℕ) : Type 0 where
-  pub low : i ≤ 16
-  pub first : at + 16 ≤ length a
-  pub second : at + 16 ≤ length b
-  pub told : Told (take 16 (drop at a)) (take 16 (drop at b)) same i
-
-part-16 : (a : List ℕ) (at : ℕ) → at + 16 ≤ length a → length (take 16 (drop at a)) ≡ 16
-part-16 a at h = simp (length-take, length-drop) (omega arith)
-
-pub same-begin : (a b : List ℕ) (at : ℕ) → at + 16 ≤ length a → at + 16 ≤ length b → Same16 a b at true 0
-same-begin a b at h k =
-    record { low = omega arith; first = h; second = k; told = record { low = omega arith; even = part-16 a at h ∙ sym (part-16 b at k); rest = refl } }
-
-module _ {a b : List ℕ} {at : ℕ} {same : Bool} {i : ℕ} (v : Same16 a b at same i) (h : i < 16) where
-  elem : (l : List ℕ) → getD (take 16 (drop at l)) i 0 ≡ getD l (at + i) 0
-  elem l = getD-take 16 (drop at l) i 0 h ∙ getD-drop at l i 0
-
-  next : {same′ : Bool} → same′ ≡ (same && eqb (getD a (at + i) 0) (getD b (at + i) 0)) → Same16 a b at same′ (i + 1)
-  next e =
-      record {
-        low = omega arith;
-        first = v .first;
-        second = v .second;
-        told = told-on (v .told) (omega (arith, part-16 a at (v .first))) (rw (elem a, elem b) e);
-      }
-
-  pub same-differ : {same′ : Bool} → (getD a (at + i) 0 ≡ getD b (at + i) 0 → ⊥) → same′ ≡ false → Same16 a b at same′ (i + 1)
-  same-differ n e = next (e ∙ rw (ne-eqb (getD a (at + i) 0) (getD b (at + i) 0) n) (sym (and-false same)))
-
-  pub same-agree : {same′ : Bool} → getD a (at + i) 0 ≡ getD b (at + i) 0 → same′ ≡ same → Same16 a b at same′ (i + 1)
-  same-agree n e = next (e ∙ rw (eq-eqb (getD a (at + i) 0) (getD b (at + i) 0) n) (sym (and-true same)))
-
-pub same-all : {a b : List ℕ} {at : ℕ} {same : Bool} {i : ℕ} → Same16 a b at same i → 16 ≤ i → same ≡ sameBytes (take 16 (drop at a)) (take 16 (drop at b))
-unfolding sameBytes
-same-all {a} {b} {at} {same} {i} v h =
-    let m : length (take 16 (drop at a)) ≤ i = omega (arith, part-16 a at (v .first)) in
-    let n : length (take 16 (drop at b)) ≤ i = omega (arith, part-16 b at (v .second)) in
-    sym (v .told .rest ∙ rw (drop-of-length-le (take 16 (drop at a)) m, drop-of-length-le (take 16 (drop at b)) n) (and-true same))
-
--- ---- the whole name: three parts
-same-append : (x y u w : List ℕ) → length x ≡ length u → sameBytes (x ++ y) (u ++ w) ≡ (sameBytes x u && sameBytes y w)
-unfolding sameBytes
-same-append [] y [] w h = refl
-same-append [] y (b ∷ u) w h = absurd (omega arith)
-same-append (a ∷ x) y [] w h = absurd (omega arith)
-same-append (a ∷ x) y (b ∷ u) w h = rw (same-append x y u w (omega arith)) (sym (and-assoc (eqb a b) (sameBytes x u) (sameBytes y w)))
-
-abbrev samePart : List ℕ → List ℕ → ℕ → Bool
-samePart a b at = sameBytes (take 16 (drop at a)) (take 16 (drop at b))
-
-three-parts : (a : List ℕ) → length a ≡ placeSize → drop nameAt a ≡ take 16 (drop nameAt a) ++ (take 16 (drop 21 a) ++ take 16 (drop 37 a))
-three-parts a h =
-    let t : take 16 (drop 37 a) ≡ drop 37 a = take-all 16 (drop 37 a) (simp length-drop (omega arith)) in
-    let d : take 16 (drop 21 a) ++ drop 37 a ≡ drop 21 a = rw (← drop-drop 16 21 a) (take-append-drop 16 (drop 21 a)) in
-    sym (rw (t, d, ← drop-drop 16 nameAt a) (take-append-drop 16 (drop nameAt a)))
-
-module _ (a b : List ℕ) (h : length a ≡ placeSize) (k : length b ≡ placeSize) where
-  name-parts : sameBytes (drop nameAt a) (drop nameAt b) ≡ (samePart a b nameAt && (samePart a b 21 && samePart a b 37))
-  name-parts =
-      let x : List ℕ = take 16 (drop 21 a) ++ take 16 (drop 37 a) in
-      let y : List ℕ = take 16 (drop 21 b) ++ take 16 (drop 37 b) in
-      ap (λ (l : List ℕ). sameBytes l (drop nameAt b)) (three-parts a h) ∙ ap (λ (l : List ℕ). sameBytes (take 16 (drop nameAt a) ++ x) l) (three-parts b k)
-      ∙ same-append (take 16 (drop nameAt a)) x (take 16 (drop nameAt b)) y (part-16 a nameAt (omega arith) ∙ sym (part-16 b nameAt (omega arith)))
-      ∙ rw (same-append (take 16 (drop 21 a)) (take 16 (drop 37 a)) (take 16 (drop 21 b)) (take 16 (drop 37 b)) (part-16 a 21 (omega arith) ∙ sym (part-16 b 21 (omega arith))))
-
-  module _ {p : Bool} (e : p ≡ samePart a b nameAt) where
-    pub name-first : not p ≡ true → false ≡ sameBytes (drop nameAt a) (drop nameAt b)
-    name-first t = sym (name-parts ∙ rw (← e, not-true p t))
-
-    module _ (t : not p ≡ false) {q : Bool} (f : q ≡ samePart a b 21) where
-      pub name-second : not q ≡ true → false ≡ sameBytes (drop nameAt a) (drop nameAt b)
-      name-second u = sym (name-parts ∙ rw (← e, not-false p t, ← f, not-true q u))
-
-      pub name-third : not q ≡ false → {r : Bool} → r ≡ samePart a b 37 → r ≡ sameBytes (drop nameAt a) (drop nameAt b)
-      name-third u g = g ∙ sym (name-parts ∙ rw (← e, not-false p t, ← f, not-false q u))
 
 -- ---- two places. The test of rivals, by the types' numbers and whether the sessions and the credentials agree
 abbrev rivalry : ℕ → ℕ → Bool → Bool → Bool
@@ -183,111 +92,78 @@ module _ (a b : List ℕ) where
     unfolding areApart
     apart-rivals t = rw (← e, t)
 
-    pub apart-name : r ≡ false → {m : Bool} → m ≡ sameBytes (drop nameAt a) (drop nameAt b) → not m ≡ areApart (processFrom a) (processFrom b)
-    unfolding areApart processFrom sameName
-    apart-name t f = rw (← e, t, f)
+    pub apart-name : r ≡ false → {x y : Name} {m : Bool} → x ≡ processFrom a .name → y ≡ processFrom b .name → m ≡ sameName x y → not m ≡ areApart (processFrom a) (processFrom b)
+    unfolding areApart
+    apart-name t p q f = rw (← e, t, f, p, q)
 
--- ---- marks: of the name, byte by byte
-pub record FoldedTo (row : List ℕ) (d i : ℕ) : Type 0 where
-  pub low : i ≤ placeSize
-  pub long : length row ≡ placeSize
-  pub rest : nameMark row ≡ folded d (drop i row) % 128
-
-pub folded-begin : (row : List ℕ) → length row ≡ placeSize → FoldedTo row 0 nameAt
-unfolding nameMark
-folded-begin row h = record { low = omega arith; long = h; rest = refl }
-
-pub folded-on : {row : List ℕ} {d i : ℕ} → FoldedTo row d i → i < placeSize → FoldedTo row (bitXor d (getD row i 0)) (i + 1)
-unfolding folded
-folded-on {row} {d} {i} v h =
-    let k : i < length row = omega arith in
-    record { low = omega arith; long = v .long; rest = v .rest ∙ rw (drop-cons row i 0 k, add-one) }
-
-pub folded-all : {row : List ℕ} {d i r : ℕ} → FoldedTo row d i → placeSize ≤ i → Widened d r → Mark (nameMark row) (r % 128)
-unfolding folded
-folded-all {row} {d} {i} {r} v h w =
-    let k : length row ≤ i = omega (arith, v .long) in
-    record { is = sym (v .rest ∙ rw (drop-of-length-le row k, w .is)); small = omega arith }
-
--- of the seat, by the type
+-- ---- seats: by the type
 module _ (row : List ℕ) {s : ℕ} (t : Widened (getD row sessionAt 0) s) where
-  pub seat-user : {c : ℕ} → Widened (getD row ownerAt 0) c → getD row kindAt 0 ≡ 0 → Mark (seatMark row) (128 + s % 4 * 8 + c % 8)
-  unfolding seatMark
+  pub seat-user : {c : ℕ} → Widened (getD row ownerAt 0) c → getD row kindAt 0 ≡ 0 → Seat (seatOf row) (s % 4 * 8 + c % 8)
+  unfolding seatOf
   seat-user {c} w e = record { is = rw (e, t .is, w .is); small = omega arith }
 
-  pub seat-elevation : getD row kindAt 0 ≡ 1 → Mark (seatMark row) (160 + s % 4)
-  unfolding seatMark
+  pub seat-elevation : getD row kindAt 0 ≡ 1 → Seat (seatOf row) (32 + s % 4)
+  unfolding seatOf
   seat-elevation e = record { is = rw (e, t .is); small = omega arith }
 
-seat-named : (k s c name : ℕ) → (k ≡ 0 → ⊥) → (k ≡ 1 → ⊥) → seatNumbered k s c name ≡ name
-seat-named zero s c name n m = absurd (n refl)
-seat-named (suc zero) s c name n m = absurd (m refl)
-seat-named (suc (suc k)) s c name n m = refl
+seat-none : (k s c : ℕ) → (k ≡ 0 → ⊥) → (k ≡ 1 → ⊥) → seatNumbered k s c ≡ 36
+seat-none zero s c n m = absurd (n refl)
+seat-none (suc zero) s c n m = absurd (m refl)
+seat-none (suc (suc k)) s c n m = refl
 
-pub seat-saved : (row : List ℕ) {name : ℕ} → Mark (nameMark row) name → (getD row kindAt 0 ≡ 0 → ⊥) → (getD row kindAt 0 ≡ 1 → ⊥) → Mark (seatMark row) name
-unfolding seatMark
-seat-saved row m n o =
-    record { is = m .is ∙ sym (seat-named (getD row kindAt 0) (getD row sessionAt 0) (getD row ownerAt 0) (nameMark row) n o); small = m .small }
+pub seat-saved : (row : List ℕ) → (getD row kindAt 0 ≡ 0 → ⊥) → (getD row kindAt 0 ≡ 1 → ⊥) → Seat (seatOf row) 36
+unfolding seatOf
+seat-saved row n m = record { is = sym (seat-none (getD row kindAt 0) (getD row sessionAt 0) (getD row ownerAt 0) n m); small = omega arith }
 
--- rivals have one seat
+-- rivals have one, and the same
 or-false : (b : Bool) → (b || false) ≡ b
 or-false true = refl
 or-false false = refl
 
-rivalry-seat : (k l s t c d x y : ℕ) → rivalry k l (eqb t s) (eqb d c) ≡ true → seatNumbered k s c x ≡ seatNumbered l t d y
-rivalry-seat zero zero s t c d x y e =
+record OneSeat (x y : ℕ) : Type 0 where
+  one : x < 36
+  same : x ≡ y
+
+rivalry-seat : (k l s t c d : ℕ) → rivalry k l (eqb t s) (eqb d c) ≡ true → OneSeat (seatNumbered k s c) (seatNumbered l t d)
+rivalry-seat zero zero s t c d e =
     let q : (eqb t s && eqb d c) ≡ true = sym (or-false (eqb t s && eqb d c)) ∙ e in
-    rw (eqb-true t s (and-left (eqb t s) (eqb d c) q), eqb-true d c (and-right (eqb t s) (eqb d c) q))
-rivalry-seat zero (suc zero) s t c d x y e = clash e refl
-rivalry-seat zero (suc (suc l)) s t c d x y e = clash e refl
-rivalry-seat (suc zero) zero s t c d x y e = clash e refl
-rivalry-seat (suc zero) (suc zero) s t c d x y e = rw (eqb-true t s e)
-rivalry-seat (suc zero) (suc (suc l)) s t c d x y e = clash e refl
-rivalry-seat (suc (suc k)) l s t c d x y e = clash e refl
+    record { one = omega arith; same = rw (eqb-true t s (and-left (eqb t s) (eqb d c) q), eqb-true d c (and-right (eqb t s) (eqb d c) q)) }
+rivalry-seat zero (suc zero) s t c d e = clash e refl
+rivalry-seat zero (suc (suc l)) s t c d e = clash e refl
+rivalry-seat (suc zero) zero s t c d e = clash e refl
+rivalry-seat (suc zero) (suc zero) s t c d e = record { one = omega arith; same = rw (eqb-true t s e) }
+rivalry-seat (suc zero) (suc (suc l)) s t c d e = clash e refl
+rivalry-seat (suc (suc k)) l s t c d e = clash e refl
 
-module _ (a b : List ℕ) where
-  rivals-seat : areRivals (processFrom a) (processFrom b) ≡ true → seatMark a ≡ seatMark b
-  unfolding seatMark
-  rivals-seat e = rivalry-seat (getD a kindAt 0) (getD b kindAt 0) (getD a sessionAt 0) (getD b sessionAt 0) (getD a ownerAt 0) (getD b ownerAt 0) (nameMark a) (nameMark b) (sym (rivals-are a b) ∙ e)
+rivals-seat : (a b : List ℕ) → areRivals (processFrom a) (processFrom b) ≡ true → OneSeat (seatOf a) (seatOf b)
+unfolding seatOf
+rivals-seat a b e = rivalry-seat (getD a kindAt 0) (getD b kindAt 0) (getD a sessionAt 0) (getD b sessionAt 0) (getD a ownerAt 0) (getD b ownerAt 0) (sym (rivals-are a b) ∙ e)
 
-  same-mark : sameName (processFrom a .name) (processFrom b .name) ≡ true → nameMark a ≡ nameMark b
-  unfolding nameMark processFrom
-  same-mark e = ap (λ (l : List ℕ). folded 0 l % 128) (same-iff (processFrom a .name) (processFrom b .name) .0 e)
+-- ---- the table of seats: those of the places from i on
+pub record IsSeated (seats row : List ℕ) : Type 0 where
+  pub taken : seatOf row < 36 → getD seats (seatOf row) 0 ≡ 1
 
-  marks-differ : (seatMark a ≡ seatMark b → ⊥) → (nameMark a ≡ nameMark b → ⊥) → areApart (processFrom a) (processFrom b) ≡ true
-  unfolding areApart
-  marks-differ n m =
-      split (areRivals (processFrom a) (processFrom b))
-      (λ e. absurd (n (rivals-seat e)))
-      (λ e. split (sameName (processFrom a .name) (processFrom b .name)) (λ f. absurd (m (same-mark f))) (λ f. rw (e, f)))
-
--- ---- the table of marks: those of the places from i on
-pub record IsMarked (marks row : List ℕ) : Type 0 where
-  pub seat : getD marks (seatMark row) 0 ≡ 1
-  pub name : getD marks (nameMark row) 0 ≡ 1
-
-pub record MarkedTo (s : List ℕ) (n : ℕ) (met marks : List ℕ) (i : ℕ) : Type 0 where
+pub record SeatedTo (s : List ℕ) (n met : ℕ) (seats : List ℕ) (i : ℕ) : Type 0 where
   pub low : i ≤ n
   pub few : n ≤ places
-  pub wide : length met ≡ places
-  pub long : length marks ≡ 164
-  pub each : Each (IsMarked marks) (drop i (rows n placeSize (drop placesAt s)))
-  pub told : (j : ℕ) → i ≤ j → j < n → Met (getD met j 0) (laterApart s n j)
+  pub long : length seats ≡ 37
+  pub each : Each (IsSeated seats) (drop i (rows n placeSize (drop placesAt s)))
+  pub none : met ≡ 0 → pairwise noRivals (map processFrom (drop i (rows n placeSize (drop placesAt s)))) ≡ true
 
-pub marks-begin : (s : List ℕ) (n : ℕ) → n ≤ places → MarkedTo s n (replicate places 0) (replicate 164 0) n
-marks-begin s n h =
+pub seats-begin : (s : List ℕ) (n : ℕ) → n ≤ places → SeatedTo s n 0 (replicate 37 0) n
+unfolding pairwise
+seats-begin s n h =
     let l : length (rows n placeSize (drop placesAt s)) ≤ n = omega (arith, rows-length n placeSize (drop placesAt s)) in
     let z : ℕ = 0 in
     record {
       low = omega arith;
       few = h;
-      wide = length-replicate places z;
-      long = length-replicate 164 z;
+      long = length-replicate 37 z;
       each = rw (drop-of-length-le (rows n placeSize (drop placesAt s)) l) each-nil;
-      told = λ j p q. absurd (omega arith);
+      none = λ e. rw (drop-of-length-le (rows n placeSize (drop placesAt s)) l);
     }
 
--- a mark stays when another is set
+-- a seat stays taken when another is
 set-one : (l : List ℕ) (k j : ℕ) → getD l j 0 ≡ 1 → getD (set l k 1) j 0 ≡ 1
 set-one [] k j e = e
 set-one (x ∷ l) zero zero e = refl
@@ -295,29 +171,30 @@ set-one (x ∷ l) zero (suc j) e = e
 set-one (x ∷ l) (suc k) zero e = e
 set-one (x ∷ l) (suc k) (suc j) e = set-one l k j e
 
-marked-on : (marks : List ℕ) (x y : ℕ) (row : List ℕ) → IsMarked marks row → IsMarked (set (set marks x 1) y 1) row
-marked-on marks x y row m =
-    record {
-      seat = set-one (set marks x 1) y (seatMark row) (set-one marks x (seatMark row) (m .seat));
-      name = set-one (set marks x 1) y (nameMark row) (set-one marks x (nameMark row) (m .name));
-    }
+seated-on : (seats : List ℕ) (x : ℕ) (row : List ℕ) → IsSeated seats row → IsSeated (set (set seats x 1) 36 0) row
+seated-on seats x row m =
+    record { taken = λ h. let n : seatOf row ≡ 36 → ⊥ = (λ e. omega arith) in getD-set-other (set seats x 1) 36 (seatOf row) 0 0 n ∙ set-one seats x (seatOf row) (m .taken h) }
 
--- a place whose marks are not set is apart from each whose marks are
-clear-each : (marks row : List ℕ) → getD marks (seatMark row) 0 ≡ 0 → getD marks (nameMark row) 0 ≡ 0 → {l : List (List ℕ)} → Each (IsMarked marks) l → every (areApart (processFrom row)) (map processFrom l) ≡ true
+-- a place whose seat is free is no rival of one that has its own, and of none of many
+no-rival : (seats row x : List ℕ) → getD seats (seatOf row) 0 ≡ 0 → IsSeated seats x → noRivals (processFrom row) (processFrom x) ≡ true
+no-rival seats row x z m =
+    split (areRivals (processFrom row) (processFrom x))
+    (λ e.
+    let o : OneSeat (seatOf row) (seatOf x) = rivals-seat row x e in
+    let t : getD seats (seatOf row) 0 ≡ 1 = rw (o .same) (m .taken (rw (← o .same) (o .one))) in
+    absurd (omega arith))
+    (λ e. rw e)
+
+free-seat : (seats row : List ℕ) → getD seats (seatOf row) 0 ≡ 0 → {l : List (List ℕ)} → Each (IsSeated seats) l → every (noRivals (processFrom row)) (map processFrom l) ≡ true
 unfolding every
-clear-each marks row p q each-nil = refl
-clear-each marks row p q (each-cons {x} {l} m r) =
-    and-both
-    (marks-differ row x
-    (λ e. let z : getD marks (seatMark x) 0 ≡ 0 = rw (← e) p in omega (arith, m .seat))
-    (λ e. let z : getD marks (nameMark x) 0 ≡ 0 = rw (← e) q in omega (arith, m .name)))
-    (clear-each marks row p q r)
+free-seat seats row z each-nil = refl
+free-seat seats row z (each-cons {x} {l} m r) = and-both (no-rival seats row x z m) (free-seat seats row z r)
 
 -- the row of the place before those
 abbrev rowAt : List ℕ → ℕ → List ℕ
 rowAt s i = take (placesAt + i * placeSize + placeSize - (placesAt + i * placeSize)) (drop (placesAt + i * placeSize) s)
 
-module _ {s : List ℕ} {n : ℕ} {met marks : List ℕ} {left : ℕ} (v : MarkedTo s n met marks left) (h : 0 < left) where
+module _ {s : List ℕ} {n met : ℕ} {seats : List ℕ} {left : ℕ} (v : SeatedTo s n met seats left) (h : 0 < left) where
   back : left - 1 + 1 ≡ left
   back = omega arith
 
@@ -330,49 +207,137 @@ module _ {s : List ℕ} {n : ℕ} {met marks : List ℕ} {left : ℕ} (v : Marke
       let w : placesAt + (left - 1) * placeSize + placeSize - (placesAt + (left - 1) * placeSize) ≡ placeSize = omega arith in
       drop-cons (rows n placeSize (drop placesAt s)) (left - 1) [] k ∙ rw (← add-one (left - 1), back, w, row-at n placeSize (drop placesAt s) (left - 1) [] before, drop-drop ((left - 1) * placeSize) placesAt s)
 
-  module _ {x y : ℕ} (p : Mark (seatMark (rowAt s (left - 1))) x) (q : Mark (nameMark (rowAt s (left - 1))) y) where
-    met-before : Met (bitOr (getD marks x 0) (getD marks y 0)) (laterApart s n (left - 1))
-    met-before =
-        record {
-          none = λ e.
-              let z : (isZero (getD marks x 0) && isZero (getD marks y 0)) ≡ true =
-              sym (or-zero (getD marks x 0) (getD marks y 0)) ∙ eq-eqb (bitOr (getD marks x 0) (getD marks y 0)) 0 e
-              in
-              let f : getD marks (seatMark (rowAt s (left - 1))) 0 ≡ 0 = rw (← p .is) (eqb-true (getD marks x 0) 0 (and-left (isZero (getD marks x 0)) (isZero (getD marks y 0)) z)) in
-              let g : getD marks (nameMark (rowAt s (left - 1))) 0 ≡ 0 = rw (← q .is) (eqb-true (getD marks y 0) 0 (and-right (isZero (getD marks x 0)) (isZero (getD marks y 0)) z)) in
-              sym (rw (back, map-part processFrom n placeSize placesAt s (left - 1) freePlace before, map-drop processFrom left (rows n placeSize (drop placesAt s))) (clear-each marks (rowAt s (left - 1)) f g (v .each)));
-        }
+  pub seats-on : {x : ℕ} → Seat (seatOf (rowAt s (left - 1))) x → SeatedTo s n (bitOr met (getD seats x 0)) (set (set seats x 1) 36 0) (left - 1)
+  unfolding pairwise
+  seats-on {x} p =
+      let row : List ℕ = rowAt s (left - 1) in
+      let k : x < length seats = omega (arith, v .long, p .small) in
+      let here : IsSeated (set (set seats x 1) 36 0) row =
+      record {
+        taken = λ t.
+            let n : seatOf row ≡ 36 → ⊥ = (λ e. omega arith) in
+            getD-set-other (set seats x 1) 36 (seatOf row) 0 0 n ∙ rw (← p .is) (getD-set-same seats x 1 0 k);
+      }
+      in
+      record {
+        low = omega (arith, v .low);
+        few = v .few;
+        long = length-set (set seats x 1) 36 0 ∙ length-set seats x 1 ∙ v .long;
+        each = rw row-before (each-cons here (each-imp (seated-on seats x) (v .each)));
+        none = λ e.
+            let z : (isZero met && isZero (getD seats x 0)) ≡ true = sym (or-zero met (getD seats x 0)) ∙ eq-eqb (bitOr met (getD seats x 0)) 0 e in
+            let f : met ≡ 0 = eqb-true met 0 (and-left (isZero met) (isZero (getD seats x 0)) z) in
+            let g : getD seats (seatOf row) 0 ≡ 0 = rw (← p .is) (eqb-true (getD seats x 0) 0 (and-right (isZero met) (isZero (getD seats x 0)) z)) in
+            rw row-before (and-both (free-seat seats row g (v .each)) (v .none f));
+      }
 
-    pub marks-on : MarkedTo s n (set met (left - 1) (bitOr (getD marks x 0) (getD marks y 0))) (set (set marks x 1) y 1) (left - 1)
-    marks-on =
-        let k : x < length marks = omega (arith, v .long, p .small) in
-        let l : length (set marks x 1) ≡ 164 = length-set marks x 1 ∙ v .long in
-        let m : y < length (set marks x 1) = omega (arith, l, q .small) in
-        let d : ℕ = bitOr (getD marks x 0) (getD marks y 0) in
-        let w : left - 1 < length met = omega (arith, v .wide, v .few, v .low) in
-        let here : IsMarked (set (set marks x 1) y 1) (rowAt s (left - 1)) =
-        record { seat = rw (← p .is) (set-one (set marks x 1) y x (getD-set-same marks x 1 0 k)); name = rw (← q .is) (getD-set-same (set marks x 1) y 1 0 m) }
-        in
-        record {
-          low = omega (arith, v .low);
-          few = v .few;
-          wide = length-set met (left - 1) d ∙ v .wide;
-          long = length-set (set marks x 1) y 1 ∙ l;
-          each = rw row-before (each-cons here (each-imp (marked-on marks x y) (v .each)));
-          told = λ j a b.
-              split (eqb j (left - 1))
-              (λ e. let f : j ≡ left - 1 = eqb-true j (left - 1) e in rw (f, getD-set-same met (left - 1) d 0 w) met-before)
-              (λ e. let f : j ≡ left - 1 → ⊥ = eqb-false j (left - 1) e in rw (getD-set-other met (left - 1) j d 0 f) (v .told j (omega arith) b));
-        }
+pub seats-all : {s : List ℕ} {n met : ℕ} {seats : List ℕ} {left : ℕ} → SeatedTo s n met seats left → left ≤ 0 → Unless (not (eqb met 0)) (pairwise noRivals (standingIn s n))
+seats-all {s} {n} {met} {seats} {left} v h =
+    record { passes = λ e. let z : left ≡ 0 = omega arith in sym (rw z at (v .none (eqb-true met 0 (not-false (eqb met 0) e)))) }
 
-pub marks-all : {s : List ℕ} {n : ℕ} {met marks : List ℕ} {left : ℕ} → MarkedTo s n met marks left → left ≤ 0 → AllMet s n met
-marks-all v h = record { at = λ i k. v .told i (omega arith) k }
+-- ---- names: each as it stands
+pub name-part : (row : List ℕ) → length row ≡ placeSize → length (take (placeSize - nameAt) (drop nameAt row)) ≡ 48
+name-part row h = simp (length-take, length-drop) (omega arith)
 
-pub met-at : {s : List ℕ} {n : ℕ} {met : List ℕ} {i : ℕ} → AllMet s n met → i < n → Met (getD met i 0) (laterApart s n i)
-met-at {s} {n} {met} {i} m k = m .at i k
+pub name-stands : (row : List ℕ) {r : NameRead} → length row ≡ placeSize → r ≡ readName (take (placeSize - nameAt) (drop nameAt row)) → r .name ≡ processFrom row .name
+unfolding processFrom
+name-stands row h e =
+    let l : length (drop nameAt row) ≤ 48 = simp length-drop (omega arith) in
+    rw (e, name-read (take (placeSize - nameAt) (drop nameAt row)) (name-part row h), take-all 48 (drop nameAt row) l)
 
-pub clear-none : {met : ℕ} {test : Bool} → Met met test → met ≡ 0 → true ≡ test
-clear-none m e = m .none e
+-- ---- their digests
+pub record DigestsTo (s : List ℕ) (n : ℕ) (d : List ℕ) (i : ℕ) : Type 0 where
+  pub few : n ≤ places
+  pub long : length d ≡ places
+  pub each : (k : ℕ) → k < i → getD d k 0 ≡ digestOf (getD (standingIn s n) k freePlace .name)
+
+pub digests-begin : (s : List ℕ) (n : ℕ) (d : List ℕ) → n ≤ places → length d ≡ places → DigestsTo s n d 0
+digests-begin s n d h k = record { few = h; long = k; each = λ i l. absurd (omega arith) }
+
+pub digests-on : {s : List ℕ} {n : ℕ} {d : List ℕ} {i r : ℕ} {name : Name} → DigestsTo s n d i → i < n → name ≡ processFrom (rowAt s i) .name → r ≡ digestOf name → DigestsTo s n (set d i r) (i + 1)
+digests-on {s} {n} {d} {i} {r} {name} v h e f =
+    let k : i < length d = omega (arith, v .long, v .few) in
+    record {
+      few = v .few;
+      long = length-set d i r ∙ v .long;
+      each =
+          below-more _ _
+          (λ j l. getD-set-other d i j r 0 (λ q. omega arith) ∙ v .each j l)
+          (getD-set-same d i r 0 k ∙ rw (map-part processFrom n placeSize placesAt s i freePlace h, ← e) f);
+    }
+
+pub digests-all : {s : List ℕ} {n : ℕ} {d : List ℕ} {i : ℕ} → DigestsTo s n d i → n ≤ i → Digests s n d
+digests-all v h = record { at = λ k l. v .each k (omega arith) }
+
+-- an earlier one that is the same
+pub record FreshTo (d : List ℕ) (i : ℕ) (met : Bool) (j : ℕ) : Type 0 where
+  pub other : met ≡ false → (k : ℕ) → k < j → getD d k 0 ≡ getD d i 0 → ⊥
+
+pub fresh-begin : (d : List ℕ) (i : ℕ) → FreshTo d i false 0
+fresh-begin d i = record { other = λ e k h. absurd (omega arith) }
+
+neither-left : (a b : Bool) → (a || b) ≡ false → a ≡ false
+neither-left true b e = clash refl e
+neither-left false b e = refl
+
+neither-right : (a b : Bool) → (a || b) ≡ false → b ≡ false
+neither-right true b e = clash refl e
+neither-right false b e = e
+
+pub fresh-on : {d : List ℕ} {i : ℕ} {met : Bool} {j : ℕ} → FreshTo d i met j → FreshTo d i (met || eqb (getD d j 0) (getD d i 0)) (j + 1)
+fresh-on {d} {i} {met} {j} v =
+    let same : Bool = eqb (getD d j 0) (getD d i 0) in
+    record { other = λ e. below-more _ _ (v .other (neither-left met same e)) (eqb-false (getD d j 0) (getD d i 0) (neither-right met same e)) }
+
+pub fresh-all : {d : List ℕ} {i : ℕ} {met : Bool} {j : ℕ} → FreshTo d i met j → i ≤ j → Fresh d i met
+fresh-all v h = record { other = λ e k l. v .other e k (omega arith) }
+
+-- all of them
+pub record DistinctTo (d : List ℕ) (met : Bool) (i : ℕ) : Type 0 where
+  pub other : met ≡ false → (k : ℕ) → k < i → (j : ℕ) → j < k → getD d j 0 ≡ getD d k 0 → ⊥
+
+pub distinct-begin : (d : List ℕ) → DistinctTo d false 0
+distinct-begin d = record { other = λ e k h. absurd (omega arith) }
+
+pub distinct-on : {d : List ℕ} {met r : Bool} {i : ℕ} → DistinctTo d met i → Fresh d i r → DistinctTo d (met || r) (i + 1)
+distinct-on {d} {met} {r} {i} v f = record { other = λ e. below-more _ _ (v .other (neither-left met r e)) (f .other (neither-right met r e)) }
+
+-- a test of each element, and of each pair, by their places
+every-place : {A : Type 0} (f : A → Bool) (z : A) (l : List A) → ((j : ℕ) → j < length l → f (getD l j z) ≡ true) → every f l ≡ true
+unfolding every
+every-place f z [] h = refl
+every-place f z (x ∷ l) h = and-both (h 0 (omega arith)) (every-place f z l (λ j k. h (suc j) (omega arith)))
+
+pairwise-places : {A : Type 0} (f : A → A → Bool) (z : A) (l : List A) → ((i j : ℕ) → i < j → j < length l → f (getD l i z) (getD l j z) ≡ true) → pairwise f l ≡ true
+unfolding pairwise
+pairwise-places f z [] h = refl
+pairwise-places f z (x ∷ l) h =
+    and-both
+    (every-place (f x) z l (λ j k. h 0 (suc j) (omega arith) (omega arith)))
+    (pairwise-places f z l (λ i j k m. h (suc i) (suc j) (omega arith) (omega arith)))
+
+pub distinct-all : {s : List ℕ} {n : ℕ} {d : List ℕ} {met : Bool} {i : ℕ} → n ≤ places → Digests s n d → DistinctTo d met i → places ≤ i → Unless met (pairwise otherNames (standingIn s n))
+distinct-all {s} {n} {d} {met} {i} h g v k =
+    record {
+      passes = λ e.
+          sym
+          (pairwise-places otherNames freePlace (standingIn s n)
+          (λ a b l m.
+          let c : b < n = rw (length-map, rows-length) at m in
+          let p : Process = getD (standingIn s n) a freePlace in
+          let q : Process = getD (standingIn s n) b freePlace in
+          split (sameName (p .name) (q .name))
+          (λ f. absurd (v .other e b (omega arith) a l (g .at a (omega arith) ∙ ap digestOf (same→name (p .name) (q .name) f) ∙ sym (g .at b c))))
+          (λ f. rw f)));
+    }
+
+-- ---- both keys
+pub apart-keys : (l : List Process) {m k : Bool} → Unless m (pairwise noRivals l) → not m ≡ true → Unless k (pairwise otherNames l) → not k ≡ true → true ≡ pairwise areApart l
+unfolding areApart
+apart-keys l {m} {k} v p w q =
+    let seats : Pairs (λ (x y : Process). noRivals x y ≡ true) l = pairwise-by (λ x y r. r) l (sym (v .passes (not-true m p))) in
+    let names : Pairs (λ (x y : Process). otherNames x y ≡ true) l = pairwise-by (λ x y r. r) l (sym (w .passes (not-true k q))) in
+    sym (by-pairwise {R = λ (x y : Process). areApart x y ≡ true} (λ x y r. r) (pairs-imp₂ (λ x y r s. and-both r s) seats names))
 
 -- the place at i with the later ones
 pub apart-begin : {f : Process → Bool} (n : ℕ) (s : List ℕ) (i : ℕ) → i < n → RecordsTo f processFrom n placeSize placesAt s (i + 1) (i + 1)
@@ -434,4 +399,4 @@ module _ (b : List ℕ) {t : Bool} (e : t ≡ allFit b) where
           let all : take (length b - 0) b ≡ b = take-all (length b - 0) b (omega arith) in
           m ∙ ap (λ (l : List ℕ). pairwise areApart (map processFrom (rows n placeSize (drop placesAt l)))) all ∙ last
 
-pub ruleset rules = (needs, length-mapped, same-begin, same-all, name-first, name-second, name-third, rivals-elsewhere, rivals-other, rivals-users, rivals-last, apart-rivals, apart-name, place-part, apart-begin, apart-on, apart-fail, holds-pairs, holds-few, records-begin, records-on, records-all, paired-begin, paired-on, paired-fail, paired-all, folded-begin, folded-on, folded-all, seat-user, seat-elevation, seat-saved, marks-begin, marks-on, marks-all, met-at, clear-none, holds-unfit, fit-counted, fit-whole, fit-few)
+pub ruleset rules = (needs, length-mapped, rivals-elsewhere, rivals-other, rivals-users, rivals-last, apart-rivals, apart-name, place-part, apart-begin, apart-on, apart-fail, holds-pairs, holds-few, records-begin, records-on, records-all, paired-begin, paired-on, paired-fail, paired-all, seat-user, seat-elevation, seat-saved, seats-begin, seats-on, seats-all, name-part, name-stands, digests-begin, digests-on, digests-all, fresh-begin, fresh-on, fresh-all, distinct-begin, distinct-on, distinct-all, apart-keys, holds-unfit, fit-counted, fit-whole, fit-few)

@@ -1,12 +1,10 @@
 // Whether a slice holds a state, tested where it lies. docs/STATE.md draws the layout.
 ghost use mathlib.Core.Path.{_≡_};
-ghost use mathlib.Core.List.{map};
-ghost use Prim.Native.Nat.{_+_, _<_, _≤_};
-ghost use lib.ListN.{length, take, drop};
-ghost use Rattle.rows.specs.Rows.{rows, pairwise};
-ghost use Rattle.names.specs.Names.{sameBytes};
-ghost use Rattle.layout.specs.Layout.{nameAt, placeSize, placesAt, stateLength, processFrom, areRivals, areApart, holdsState};
-ghost use Rattle.state_test.specs.Marks.{nameMark, seatMark, Mark, laterApart, Met, AllMet};
+ghost use Prim.Native.Nat.{_<_, _≤_};
+ghost use lib.ListN.{length};
+ghost use Rattle.rows.specs.Rows.{pairwise};
+ghost use Rattle.layout.specs.Layout.{placeSize, stateLength, processFrom, areRivals, areApart, holdsState};
+ghost use Rattle.state_test.specs.Keys.{seatOf, Seat, standingIn, Digests, Fresh, noRivals, otherNames, Unless, laterApart};
 ghost use Rattle.table.specs.Table.{places};
 use layout::COUNT_AT;
 use layout::KIND_AT;
@@ -15,80 +13,107 @@ use layout::OWNER_AT;
 use layout::PLACE_SIZE;
 use layout::PLACES_AT;
 use layout::SESSION_AT;
+use names::Name;
 use table::PLACES;
 
-// ---- bytes
+// ---- seats
 
-// Whether 16 bytes agree, from an index on. There is no exit, so that many are read at a time.
-fn same16<'a>(a: &'a [u8], b: &'a [u8], at: usize) -> bool
-    requires { ⌜ at + 16 ≤ length (now a) ⌝ }
-    requires { ⌜ at + 16 ≤ length (now b) ⌝ }
-    ensures { λ r. ⌜ r ≡ sameBytes (take 16 (drop at (now (a .entry)))) (take 16 (drop at (now (b .entry)))) ⌝ }
-{
-    let mut same = true;
-    let mut i: usize = 0;
-    while i < 16 {
-        if a[at + i] != b[at + i] {
-            same = false;
-        }
-        i += 1;
-    }
-    same
-}
+// Seats have the numbers 0 to 35. A place without one, a saved process's, has this, which is never taken.
+const NO_SEAT: usize = 36;
 
-// ---- marks
-
-// The mark of a place's name. There is no exit, so that many bytes are read at a time.
-fn name_mark(row: &[u8]) -> usize
+// The seat of a place, by remainders, so that any bytes have one.
+fn seat_of(row: &[u8]) -> usize
     requires { ⌜ length (now row) ≡ placeSize ⌝ }
-    ensures { λ r. ⌜ Mark (nameMark (now (row .entry))) r ⌝ }
-{
-    let mut d: u8 = 0;
-    let mut i: usize = NAME_AT;
-    while i < PLACE_SIZE {
-        d = d ^ row[i];
-        i += 1;
-    }
-    rows::wide(d) % 128
-}
-
-// The mark of a place's seat: by remainders, so that any bytes have one.
-fn seat_mark(row: &[u8], name: usize) -> usize
-    requires { ⌜ length (now row) ≡ placeSize ⌝ }
-    requires { ⌜ Mark (nameMark (now row)) name ⌝ }
-    ensures { λ r. ⌜ Mark (seatMark (now (row .entry))) r ⌝ }
+    ensures { λ r. ⌜ Seat (seatOf (now (row .entry))) r ⌝ }
 {
     let kind = row[KIND_AT];
     let session = rows::wide(row[SESSION_AT]) % 4;
     if kind == 0 {
-        return 128 + session * 8 + rows::wide(row[OWNER_AT]) % 8;
+        return session * 8 + rows::wide(row[OWNER_AT]) % 8;
     }
     if kind == 1 {
-        return 160 + session;
+        return 32 + session;
     }
-    name
+    NO_SEAT
 }
 
-// For each place, whether a later one has a mark of it: 0 where none has. It goes from the last place to the first, so that the table has the
-// marks of the later ones.
-fn marks_met(s: &[u8], n: usize) -> [u8; PLACES]
+// Whether two places have one seat. It goes from the last place to the first, so that the table has the seats of the later ones.
+fn seats_meet(s: &[u8], n: usize) -> bool
     requires { ⌜ length (now s) ≡ stateLength ⌝ }
     requires { ⌜ n ≤ places ⌝ }
-    ensures { λ r. ⌜ AllMet (now (s .entry)) n r ⌝ }
+    ensures { λ r. ⌜ Unless r (pairwise noRivals (standingIn (now (s .entry)) n)) ⌝ }
 {
-    let mut met: [u8; PLACES] = [0; PLACES];
-    let mut marks: [u8; 164] = [0; 164];
+    let mut met: u8 = 0;
+    let mut seats: [u8; NO_SEAT + 1] = [0; NO_SEAT + 1];
     let mut left = n;
     while 0 < left {
         let i = left - 1;
         let a = PLACES_AT + i * PLACE_SIZE;
         let e = a + PLACE_SIZE;
-        let name = name_mark(&s[a..e]);
-        let seat = seat_mark(&s[a..e], name);
-        met[i] = marks[seat] | marks[name];
-        marks[seat] = 1;
-        marks[name] = 1;
+        let seat = seat_of(&s[a..e]);
+        met = met | seats[seat];
+        seats[seat] = 1;
+        seats[NO_SEAT] = 0;
         left = i;
+    }
+    met != 0
+}
+
+// ---- names
+
+fn name_of(row: &[u8]) -> Name
+    requires { ⌜ length (now row) ≡ placeSize ⌝ }
+    ensures { λ r. ⌜ r ≡ processFrom (now (row .entry)) .name ⌝ }
+{
+    let read = names::read_name(&row[NAME_AT..PLACE_SIZE]);
+    read.name
+}
+
+// The digest of each name that stands. Of every name all bytes are read, whatever they are. The places past n have numbers of their own, so that
+// all twelve can be compared.
+fn digests(s: &[u8], n: usize) -> [u64; PLACES]
+    requires { ⌜ length (now s) ≡ stateLength ⌝ }
+    requires { ⌜ n ≤ places ⌝ }
+    ensures { λ r. ⌜ Digests (now (s .entry)) n r ⌝ }
+{
+    let mut digests: [u64; PLACES] = [1, 2, 3, 4, 5, 6, 7, 8, 9, 10, 11, 12];
+    let mut i: usize = 0;
+    while i < n {
+        let a = PLACES_AT + i * PLACE_SIZE;
+        let e = a + PLACE_SIZE;
+        digests[i] = names::digest(name_of(&s[a..e]));
+        i += 1;
+    }
+    digests
+}
+
+// Whether an earlier digest equals the one at i.
+fn is_met(digests: &[u64], i: usize) -> bool
+    requires { ⌜ i < length (now digests) ⌝ }
+    ensures { λ r. ⌜ Fresh (now (digests .entry)) i r ⌝ }
+{
+    let own = digests[i];
+    let mut met = false;
+    let mut j: usize = 0;
+    while j < i {
+        met = met | (digests[j] == own);
+        j += 1;
+    }
+    met
+}
+
+// Whether two names have one digest. All twelve are compared, so that the compiler knows how many.
+fn digests_meet(s: &[u8], n: usize) -> bool
+    requires { ⌜ length (now s) ≡ stateLength ⌝ }
+    requires { ⌜ n ≤ places ⌝ }
+    ensures { λ r. ⌜ Unless r (pairwise otherNames (standingIn (now (s .entry)) n)) ⌝ }
+{
+    let digests = digests(s, n);
+    let mut met = false;
+    let mut i: usize = 0;
+    while i < PLACES {
+        met = met | is_met(&digests, i);
+        i += 1;
     }
     met
 }
@@ -117,26 +142,6 @@ fn are_rivals<'a>(a: &'a [u8], b: &'a [u8]) -> bool
     kind == 1
 }
 
-// Where the second and the third 16 bytes of a name lie.
-const SECOND_PART: usize = NAME_AT + 16;
-
-const THIRD_PART: usize = SECOND_PART + 16;
-
-// Whether the names of two places agree in all 48 bytes: 16, then 16, then 16.
-fn same_name<'a>(a: &'a [u8], b: &'a [u8]) -> bool
-    requires { ⌜ length (now a) ≡ placeSize ⌝ }
-    requires { ⌜ length (now b) ≡ placeSize ⌝ }
-    ensures { λ r. ⌜ r ≡ sameBytes (drop nameAt (now (a .entry))) (drop nameAt (now (b .entry))) ⌝ }
-{
-    if !same16(a, b, NAME_AT) {
-        return false;
-    }
-    if !same16(a, b, SECOND_PART) {
-        return false;
-    }
-    same16(a, b, THIRD_PART)
-}
-
 fn are_apart<'a>(a: &'a [u8], b: &'a [u8]) -> bool
     requires { ⌜ length (now a) ≡ placeSize ⌝ }
     requires { ⌜ length (now b) ≡ placeSize ⌝ }
@@ -145,7 +150,7 @@ fn are_apart<'a>(a: &'a [u8], b: &'a [u8]) -> bool
     if are_rivals(a, b) {
         return false;
     }
-    !same_name(a, b)
+    !names::same(name_of(a), name_of(b))
 }
 
 // Whether the place at i is apart from each later one.
@@ -169,34 +174,34 @@ fn is_apart(s: &[u8], n: usize, i: usize) -> bool
     true
 }
 
-// Whether the place at i is apart from each later one, where `met` is 0 if none of those has a mark of it: then none is compared.
-fn is_clear(s: &[u8], n: usize, i: usize, met: u8) -> bool
+// Whether each place is apart from each later one.
+fn every_apart(s: &[u8], n: usize) -> bool
     requires { ⌜ length (now s) ≡ stateLength ⌝ }
     requires { ⌜ n ≤ places ⌝ }
-    requires { ⌜ i < n ⌝ }
-    requires { ⌜ Met met (laterApart (now s) n i) ⌝ }
-    ensures { λ r. ⌜ r ≡ laterApart (now (s .entry)) n i ⌝ }
+    ensures { λ r. ⌜ r ≡ pairwise areApart (standingIn (now (s .entry)) n) ⌝ }
 {
-    if met == 0 {
-        return true;
-    }
-    is_apart(s, n, i)
-}
-
-fn all_apart(s: &[u8], n: usize) -> bool
-    requires { ⌜ length (now s) ≡ stateLength ⌝ }
-    requires { ⌜ n ≤ places ⌝ }
-    ensures { λ r. ⌜ r ≡ pairwise areApart (map processFrom (rows n placeSize (drop placesAt (now (s .entry))))) ⌝ }
-{
-    let met = marks_met(s, n);
     let mut i: usize = 0;
     while i < n {
-        if !is_clear(s, n, i, met[i]) {
+        if !is_apart(s, n, i) {
             return false;
         }
         i += 1;
     }
     true
+}
+
+// The same, by the keys first: where no two places share one, the places need not be compared.
+fn all_apart(s: &[u8], n: usize) -> bool
+    requires { ⌜ length (now s) ≡ stateLength ⌝ }
+    requires { ⌜ n ≤ places ⌝ }
+    ensures { λ r. ⌜ r ≡ pairwise areApart (standingIn (now (s .entry)) n) ⌝ }
+{
+    if !seats_meet(s, n) {
+        if !digests_meet(s, n) {
+            return true;
+        }
+    }
+    every_apart(s, n)
 }
 
 // ---- the whole

@@ -1,55 +1,23 @@
-use Prim.Native.Nat.{_-_}
-use Rattle.layout.specs.Layout.{placeSize, placesAt, processFrom, areApart}
-use Rattle.rows.proofs.Loops.{PairedTo}
 use Rattle.state_test.proofs.Rules.{rules}
 use Rattle.state_test.proofs.all_apart.Statement.{statement}
 use Rattle.state_test.proofs.all_apart.Tie as tie
 
-abbrev Inv-loop : tie.InvT-loop
-Inv-loop s n met i₀ i = PairedTo areApart processFrom n placeSize placesAt s i
+seats-meet-requires : tie.Need-seats-meet-requires
+seats-meet-requires c κs = search rules
 
-abbrev μ-loop : tie.MeasureT-loop
-μ-loop s n met i₀ i = n - i
+digests-meet-requires : tie.Need-digests-meet-requires
+digests-meet-requires c κs = search rules
 
-marks-met-requires : tie.Need-marks-met-requires Inv-loop μ-loop
-marks-met-requires c κs = search rules
-
-loop-holds : tie.Need-loop-holds Inv-loop μ-loop
-loop-holds c = search rules
-
-array-read-is-clear : tie.Need-array-read-is-clear Inv-loop μ-loop
-array-read-is-clear c = search rules
-
-is-clear-requires : tie.Need-is-clear-requires Inv-loop μ-loop
-is-clear-requires c κs = search rules
-
-returns : tie.Need-returns Inv-loop μ-loop
+returns : tie.Need-returns
 returns c = search rules
 
-add-i : tie.Need-add-i Inv-loop μ-loop
-add-i c = search rules
+every-apart-requires : tie.Need-every-apart-requires
+every-apart-requires c κs = search rules
 
-loop-less : tie.Need-loop-less Inv-loop μ-loop
-loop-less c = search rules
-
-loop-again : tie.Need-loop-again Inv-loop μ-loop
-loop-again c = search rules
-
-returns-2 : tie.Need-returns-2 Inv-loop μ-loop
+returns-2 : tie.Need-returns-2
 returns-2 c = search rules
 
 pub all-apart-spec : {M : Type 1} → statement M
 all-apart-spec =
     tie.close
-    (tie.spec
-    Inv-loop
-    μ-loop
-    marks-met-requires
-    loop-holds
-    array-read-is-clear
-    is-clear-requires
-    returns
-    add-i
-    loop-less
-    loop-again
-    returns-2)
+    (tie.spec seats-meet-requires digests-meet-requires returns every-apart-requires returns-2)

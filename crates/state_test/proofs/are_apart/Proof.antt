@@ -8,11 +8,25 @@ are-rivals-requires c κs = search rules
 returns : tie.Need-returns
 returns c = search rules
 
-same-name-requires : tie.Need-same-name-requires
-same-name-requires c κs = search rules
+name-of-requires : tie.Need-name-of-requires
+name-of-requires c κs = search rules
+
+name-of-requires-2 : tie.Need-name-of-requires-2
+name-of-requires-2 c κs = search rules
+
+same-requires : tie.Need-same-requires
+same-requires c κs = search rules
 
 returns-2 : tie.Need-returns-2
 returns-2 c = search rules
 
 pub are-apart-spec : {M : Type 1} → statement M
-are-apart-spec = tie.close (tie.spec are-rivals-requires returns same-name-requires returns-2)
+are-apart-spec =
+    tie.close
+    (tie.spec
+    are-rivals-requires
+    returns
+    name-of-requires
+    name-of-requires-2
+    same-requires
+    returns-2)

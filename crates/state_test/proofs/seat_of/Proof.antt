@@ -1,6 +1,6 @@
 use Rattle.state_test.proofs.Rules.{rules}
-use Rattle.state_test.proofs.seat_mark.Statement.{statement}
-use Rattle.state_test.proofs.seat_mark.Tie as tie
+use Rattle.state_test.proofs.seat_of.Statement.{statement}
+use Rattle.state_test.proofs.seat_of.Tie as tie
 
 shared-slice-read-kind : tie.Need-shared-slice-read-kind
 shared-slice-read-kind c = search rules
@@ -14,23 +14,20 @@ wide-requires c κs = search rules
 mul-result : tie.Need-mul-result
 mul-result c = search rules
 
-add-result : tie.Need-add-result
-add-result c = search rules
-
 shared-slice-read-wide-2 : tie.Need-shared-slice-read-wide-2
 shared-slice-read-wide-2 c = search rules
 
 wide-requires-2 : tie.Need-wide-requires-2
 wide-requires-2 c κs = search rules
 
-add-result-2 : tie.Need-add-result-2
-add-result-2 c = search rules
+add-result : tie.Need-add-result
+add-result c = search rules
 
 returns : tie.Need-returns
 returns c = search rules
 
-add-result-3 : tie.Need-add-result-3
-add-result-3 c = search rules
+add-result-2 : tie.Need-add-result-2
+add-result-2 c = search rules
 
 returns-2 : tie.Need-returns-2
 returns-2 c = search rules
@@ -38,19 +35,18 @@ returns-2 c = search rules
 returns-3 : tie.Need-returns-3
 returns-3 c = search rules
 
-pub seat-mark-spec : {M : Type 1} → statement M
-seat-mark-spec =
+pub seat-of-spec : {M : Type 1} → statement M
+seat-of-spec =
     tie.close
     (tie.spec
     shared-slice-read-kind
     shared-slice-read-wide
     wide-requires
     mul-result
-    add-result
     shared-slice-read-wide-2
     wide-requires-2
-    add-result-2
+    add-result
     returns
-    add-result-3
+    add-result-2
     returns-2
     returns-3)

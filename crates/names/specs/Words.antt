@@ -1,0 +1,27 @@
+-- A name in six words of 8 bytes: how the code reads it, and a digest that is made of them.
+use Prim.Native.Nat.{ℕ, zero, suc, _+_, _*_, _/_, _%_, _^_}
+use mathlib.Core.Path.{_≡_}
+use mathlib.Core.List.{List}
+use lib.ListN.{take, drop}
+use Rattle.rows.specs.Bytes.{bytesOf, numberAt}
+use Rattle.names.specs.declared.Name.{Name}
+
+-- the word that stands at a place, and that says the bytes that stand there
+pub record Word (bytes : List ℕ) (at r : ℕ) : Type 0 where
+  pub is : r ≡ numberAt 8 at bytes
+  pub says : bytesOf 8 r ≡ take 8 (drop at bytes)
+
+-- a digest of 64 bits: it goes round by 19 bits, is taken nine times, and a word is added
+abbrev pub turned : ℕ → ℕ
+turned d = d % 2 ^ 45 * 2 ^ 19 + d / 2 ^ 45
+
+unfoldable pub stirred : ℕ → ℕ → ℕ
+stirred d word = ((turned d + turned d % 2 ^ 61 * 2 ^ 3) % 2 ^ 64 + word) % 2 ^ 64
+
+-- k words of bytes, one after the other
+unfoldable pub stirredIn : ℕ → ℕ → List ℕ → ℕ
+stirredIn zero d bytes = d
+stirredIn (suc k) d bytes = stirredIn k (stirred d (numberAt 8 0 bytes)) (drop 8 bytes)
+
+unfoldable pub digestOf : Name → ℕ
+digestOf name = stirredIn 6 0 (name .bytes)

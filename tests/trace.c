@@ -1,0 +1,461 @@
+/*
+ * The calls whose reads are compared: docs/TRACE.md. It is run under valgrind's lackey, which prints every load and store, by
+ * `slavotuk-trace run`, which cuts what is printed into cases at the stores to a page of marks. A line on standard output says
+ * what a case is, before the case begins; the first lines say where the lent buffers lie.
+ *
+ * A case is one call on names that agree up to a byte and differ there. All cases of a group get the same answer, and the same
+ * processes stand in them, but for their names. With --short there are fewer: every byte, at few places. Words behind it are the
+ * beginnings of groups' names, and only these are tried.
+ */
+#define _GNU_SOURCE
+#include <inttypes.h>
+#include <stdint.h>
+#include <stdio.h>
+#include <stdlib.h>
+#include <string.h>
+#include <sys/mman.h>
+
+#include "slavotuk.h"
+
+/* Where the page of marks lies, and which byte of it is stored to; trace/src/marks.rs has the same. */
+#define MARKS ((volatile uint8_t *)0x30000000)
+enum { BEGINS = 0, ENDS = 1, MARKS_SIZE = 4096 };
+
+enum { PLACES = SLAVOTUK_PROCESSES, NAME = SLAVOTUK_NAME_SIZE, PAIRS = PLACES * (PLACES - 1) / 2 };
+
+/* Where names lie in a state (docs/STATE.md) and in an image (docs/IMAGE.md). */
+enum { PLACES_AT = 45, PLACE_SIZE = 53, NAME_IN_PLACE = 5 };
+enum { ROWS_AT = SLAVOTUK_IMAGE_HEADER_SIZE, ROW_SIZE = SLAVOTUK_IMAGE_ROW_SIZE, NAME_IN_ROW = 4 };
+
+/* Drawn names differ from their first byte on. On the board of the accident all began with 16 bytes of zero. */
+enum { DRAWN, ZEROS_IN_FRONT, SETS };
+enum { ALIKE, DIFFERENT, TAILS };
+
+static const char *const set_names[SETS] = {"drawn", "zeros in front"};
+static const char *const tail_names[TAILS] = {"tail alike", "tail different"};
+
+/* What the calls are lent, in the same place in every case. */
+static uint8_t state[SLAVOTUK_STATE_SIZE];
+static uint8_t name[NAME];
+static uint8_t image[SLAVOTUK_IMAGE_SIZE];
+
+/* What a case begins with, of each set of names. */
+static uint8_t names[SETS][PLACES][NAME];
+static uint8_t full[SETS][SLAVOTUK_STATE_SIZE];
+static uint8_t with_room[SETS][SLAVOTUK_STATE_SIZE];
+static uint8_t all_saved[SETS][SLAVOTUK_STATE_SIZE];
+static uint8_t saved_image[SETS][SLAVOTUK_IMAGE_SIZE];
+static struct pair { unsigned one, other; } pairs[PAIRS];
+
+/* Places and bytes as text: a line is made of pieces, since printf would take as much of the trace as a call does. */
+static char numbers[NAME][3];
+
+/* What is asked for: the short form, and the groups whose names begin with one of these words. */
+static int is_short;
+static char **asked, **asked_end;
+
+static void stop(const char *what, uint32_t answer)
+{
+    fprintf(stderr, "trace: %s: the answer is %" PRIu32 " %s\n", what, answer, slavotuk_number_name(answer));
+    exit(1);
+}
+
+static void done(const char *what, uint32_t answer)
+{
+    if (answer != SLAVOTUK_DONE) {
+        stop(what, answer);
+    }
+}
+
+/* ---- names */
+
+/* SplitMix64: numbers that look random and are always the same. */
+static uint64_t drawn_number(void)
+{
+    static uint64_t seed = 1;
+    uint64_t mixed = seed += UINT64_C(0x9e3779b97f4a7c15);
+    mixed = (mixed ^ mixed >> 30) * UINT64_C(0xbf58476d1ce4e5b9);
+    mixed = (mixed ^ mixed >> 27) * UINT64_C(0x94d049bb133111eb);
+    return mixed ^ mixed >> 31;
+}
+
+static void draw_name(uint8_t *drawn)
+{
+    for (unsigned at = 0; at < NAME; at++) {
+        drawn[at] = (uint8_t)drawn_number();
+    }
+}
+
+static void draw_names(void)
+{
+    for (unsigned place = 0; place < PLACES; place++) {
+        draw_name(names[DRAWN][place]);
+        draw_name(names[ZEROS_IN_FRONT][place]);
+        memset(names[ZEROS_IN_FRONT][place], 0, 16);
+    }
+}
+
+/* One of the cases: which names, about which place or pair of places, and where and how they differ. */
+struct spot { unsigned set, place, byte, tail; };
+
+/* The name `from` with that byte different, and with the bytes behind it as they are or all different. */
+static void differing(uint8_t *made, const uint8_t *from, const struct spot *spot, unsigned difference)
+{
+    memcpy(made, from, NAME);
+    made[spot->byte] ^= (uint8_t)difference;
+    for (unsigned at = spot->byte + 1; spot->tail == DIFFERENT && at < NAME; at++) {
+        made[at] ^= 0xff;
+    }
+}
+
+/*
+ * The digest by which the test of a state tells names apart, from their words of 8 bytes: crates/names/specs/Words.antt. Names that
+ * share it are made by a last word that makes good for the others.
+ */
+enum { WORD = 8, BEFORE_LAST = NAME - WORD };
+
+static uint64_t stirred(uint64_t digest, uint64_t word) { return 9 * (digest << 19 | digest >> 45) + word; }
+
+static uint64_t word_at(const uint8_t *from)
+{
+    uint64_t word = 0;
+    for (unsigned at = WORD; at > 0; at--) {
+        word = word << 8 | from[at - 1];
+    }
+    return word;
+}
+
+static void put_word(uint8_t *to, uint64_t word)
+{
+    for (unsigned at = 0; at < WORD; at++) {
+        to[at] = (uint8_t)(word >> 8 * at);
+    }
+}
+
+static uint64_t digest(const uint8_t *from, unsigned length)
+{
+    uint64_t digest = 0;
+    for (unsigned at = 0; at < length; at += WORD) {
+        digest = stirred(digest, word_at(from + at));
+    }
+    return digest;
+}
+
+static uint8_t *name_at(uint8_t *in, unsigned place) { return in + PLACES_AT + PLACE_SIZE * place + NAME_IN_PLACE; }
+static uint8_t *name_in_row(uint8_t *in, unsigned row) { return in + ROWS_AT + ROW_SIZE * row + NAME_IN_ROW; }
+
+/* ---- states */
+
+/* What stands, in the table's order. The first is whose claim a kill carries; session 3 and credential 7 have no process. */
+static const struct standing { uint8_t type, session, credential; } standing[PLACES] = {
+    {SLAVOTUK_TYPE_ACTIVE_USER, 0, 0},      {SLAVOTUK_TYPE_ACTIVE_ELEVATION, 0, 1}, {SLAVOTUK_TYPE_SAVED_USER, 0, 2},
+    {SLAVOTUK_TYPE_ACTIVE_USER, 1, 0},      {SLAVOTUK_TYPE_SAVED_USER, 1, 3},       {SLAVOTUK_TYPE_ACTIVE_ELEVATION, 1, 0},
+    {SLAVOTUK_TYPE_SAVED_USER, 2, 0},       {SLAVOTUK_TYPE_ACTIVE_USER, 2, 4},      {SLAVOTUK_TYPE_ACTIVE_USER, 0, 5},
+    {SLAVOTUK_TYPE_ACTIVE_ELEVATION, 2, 6}, {SLAVOTUK_TYPE_SAVED_USER, 0, 6},       {SLAVOTUK_TYPE_ACTIVE_USER, 1, 2},
+};
+
+#define MODULE state, sizeof state
+#define NAMED name, sizeof name
+
+static void open_sessions(void)
+{
+    const uint8_t provisioned[SLAVOTUK_CREDENTIALS] = {1, 1, 1, 1, 1, 1, 1, 1};
+    uint32_t words[SLAVOTUK_CREDENTIALS];
+    memset(words, 0xff, sizeof words);
+    done("fresh", slavotuk_fresh(MODULE, provisioned, SLAVOTUK_CREDENTIALS, words, SLAVOTUK_CREDENTIALS));
+    for (unsigned session = 0; session < SLAVOTUK_SESSIONS; session++) {
+        done("open", slavotuk_open(MODULE, session));
+        done("select", slavotuk_select(MODULE, session, SLAVOTUK_VERSION_1_0));
+    }
+}
+
+static void stand(const struct standing *process)
+{
+    if (process->type == SLAVOTUK_TYPE_ACTIVE_ELEVATION) {
+        done("elevate", slavotuk_elevate(MODULE, process->session, process->credential, NAMED, 1));
+        return;
+    }
+    done("start", slavotuk_start(MODULE, process->session, process->credential, NAMED));
+    if (process->type == SLAVOTUK_TYPE_SAVED_USER) {
+        done("end", slavotuk_end(MODULE, process->session, process->credential, 0, 1, 1));
+    }
+}
+
+/* The first so many of those that stand, or that many saved ones of credential 0. */
+static void make_state(uint8_t *made, unsigned set, unsigned count, int saved)
+{
+    static const struct standing saved_one = {SLAVOTUK_TYPE_SAVED_USER, 0, 0};
+    open_sessions();
+    for (unsigned place = 0; place < count; place++) {
+        memcpy(name, names[set][place], NAME);
+        stand(saved ? &saved_one : &standing[place]);
+    }
+    memcpy(made, state, sizeof state);
+}
+
+static void make_states(void)
+{
+    for (unsigned set = 0; set < SETS; set++) {
+        size_t length;
+        make_state(full[set], set, PLACES, 0);
+        make_state(with_room[set], set, PLACES - 1, 0);
+        make_state(all_saved[set], set, PLACES, 1);
+        done("image", slavotuk_image(MODULE, saved_image[set], SLAVOTUK_IMAGE_SIZE, &length));
+    }
+}
+
+static void make_pairs(void)
+{
+    struct pair pair = {0, 1};
+    for (unsigned at = 0; at < PAIRS; at++) {
+        pairs[at] = pair;
+        if (++pair.other == PLACES) {
+            pair.other = ++pair.one + 1;
+        }
+    }
+}
+
+/* ---- calls */
+
+static uint32_t kill_it(void) { return slavotuk_kill(MODULE, 0, SLAVOTUK_CLAIM_USER, 0, 0, 1, NAMED); }
+static uint32_t start_it(void) { return slavotuk_start(MODULE, 3, 7, NAMED); }
+static uint32_t continue_it(void) { return slavotuk_continue(MODULE, 3, 0, NAMED); }
+static uint32_t elevate_it(void) { return slavotuk_elevate(MODULE, 3, 7, NAMED, 1); }
+static uint32_t holds_it(void) { return slavotuk_holds(MODULE); }
+static uint32_t restore_it(void) { return slavotuk_restore(MODULE, image, sizeof image); }
+
+/* ---- groups */
+
+struct group {
+    const char *name;
+    uint8_t (*begin)[SLAVOTUK_STATE_SIZE];
+    void (*prepare)(const struct spot *);
+    uint32_t (*call)(void);
+    uint32_t answer;
+    int of_pairs;          /* of places, and not of places */
+    unsigned first, count; /* these places or pairs */
+    unsigned bytes;        /* of a name, at which two differ */
+    int in_turn;           /* sets and tails come in turn also in the whole form: a long call, with all pairs, would take half of it */
+};
+
+/* In which bit of the byte two names differ. */
+static unsigned one_bit(const struct spot *spot) { return 1u << spot->byte % 8; }
+
+/* The name that a call is handed differs from that of the place, and stands nowhere. */
+static void ask(const struct spot *spot) { differing(name, names[spot->set][spot->place], spot, one_bit(spot)); }
+
+/* The later name of a pair differs from the other. */
+static void pair_up(const struct spot *spot)
+{
+    const struct pair *pair = &pairs[spot->place];
+    differing(name_at(state, pair->other), names[spot->set][pair->one], spot, one_bit(spot));
+}
+
+/* The same, but for the last word, by which both have one digest. */
+static void share_digest(const struct spot *spot)
+{
+    const struct pair *pair = &pairs[spot->place];
+    uint8_t *other = name_at(state, pair->other);
+    pair_up(spot);
+    put_word(other + BEFORE_LAST, digest(names[spot->set][pair->one], NAME) - stirred(digest(other, BEFORE_LAST), 0));
+}
+
+static void pair_up_rows(const struct spot *spot)
+{
+    const struct pair *pair = &pairs[spot->place];
+    memcpy(image, saved_image[spot->set], sizeof image);
+    differing(name_in_row(image, pair->other), names[spot->set][pair->one], spot, one_bit(spot));
+}
+
+/* The name that a call is handed stands at the place, and all others differ from it, and from each other, at the byte. */
+static void surround(const struct spot *spot)
+{
+    memcpy(name, names[spot->set][spot->place], NAME);
+    for (unsigned place = 0; place < PLACES; place++) {
+        if (place != spot->place) {
+            differing(name_at(state, place), name, spot, place + 1);
+        }
+    }
+}
+
+static const struct group groups[] = {
+    {"kill, no such name, 12 standing", full, ask, kill_it, SLAVOTUK_REFUSED_NO_PROCESS, 0, 0, PLACES, NAME, 0},
+    {"start, done, 11 standing", with_room, ask, start_it, SLAVOTUK_DONE, 0, 0, PLACES - 1, NAME, 0},
+    {"start, full, 12 standing", full, ask, start_it, SLAVOTUK_REFUSED_FULL, 0, 0, PLACES, NAME, 0},
+    {"continue, no such name, 12 saved", all_saved, ask, continue_it, SLAVOTUK_REFUSED_NO_PROCESS, 0, 0, PLACES, NAME, 0},
+    {"elevate, done, 11 standing", with_room, ask, elevate_it, SLAVOTUK_DONE, 0, 0, PLACES - 1, NAME, 0},
+    {"holds, 12 standing", full, pair_up, holds_it, SLAVOTUK_DONE, 1, 0, PAIRS, NAME, 0},
+    {"holds, two share a digest", full, share_digest, holds_it, SLAVOTUK_DONE, 1, 0, 1, BEFORE_LAST, 0},
+    {"restore, 12 rows", full, pair_up_rows, restore_it, SLAVOTUK_DONE, 1, 0, PAIRS, NAME, 1},
+};
+
+/* ---- cases */
+
+static char *piece(char *at, const char *text)
+{
+    size_t length = strlen(text);
+    memcpy(at, text, length + 1);
+    return at + length;
+}
+
+static void say(const struct group *group, const struct spot *spot)
+{
+    static char line[160];
+    char *at = piece(piece(line, "case\t"), group->name);
+    at = piece(piece(at, "\t"), set_names[spot->set]);
+    if (group->of_pairs) {
+        at = piece(piece(at, ", places "), numbers[pairs[spot->place].one]);
+        at = piece(piece(at, " and "), numbers[pairs[spot->place].other]);
+    } else {
+        at = piece(piece(at, ", place "), numbers[spot->place]);
+    }
+    at = piece(piece(at, ", byte "), numbers[spot->byte]);
+    piece(piece(piece(at, ", "), tail_names[spot->tail]), "\n");
+    fputs(line, stdout);
+}
+
+static void try_case(const struct group *group, const struct spot *spot)
+{
+    uint32_t answer;
+    memcpy(state, group->begin[spot->set], sizeof state);
+    group->prepare(spot);
+    say(group, spot);
+    MARKS[BEGINS] = 1;
+    answer = group->call();
+    MARKS[ENDS] = 1;
+    if (answer != group->answer) {
+        stop(group->name, answer);
+    }
+}
+
+/* In the short form sets and tails come in turn, from byte to byte and from place to place. */
+static int is_its_turn(const struct spot *spot)
+{
+    return (spot->byte + spot->place) % TAILS == spot->tail && (spot->byte / TAILS + spot->place) % SETS == spot->set;
+}
+
+static void try_tails(const struct group *group, struct spot spot)
+{
+    for (spot.tail = 0; spot.tail < TAILS; spot.tail++) {
+        if ((!is_short && !group->in_turn) || is_its_turn(&spot)) {
+            try_case(group, &spot);
+        }
+    }
+}
+
+static void try_bytes(const struct group *group, struct spot spot)
+{
+    for (spot.byte = 0; spot.byte < group->bytes; spot.byte++) {
+        try_tails(group, spot);
+    }
+}
+
+/* In the short form: the first place, one in the middle and the last. */
+static int is_chosen(unsigned at, unsigned count)
+{
+    return !is_short || at == 0 || at == count / 2 || at == count - 1;
+}
+
+static void try_places(const struct group *group, struct spot spot)
+{
+    for (unsigned at = 0; at < group->count; at++) {
+        if (is_chosen(at, group->count)) {
+            spot.place = group->first + at;
+            try_bytes(group, spot);
+        }
+    }
+}
+
+static void try_sets(const struct group *group)
+{
+    struct spot spot = {0, 0, 0, 0};
+    for (; spot.set < SETS; spot.set++) {
+        try_places(group, spot);
+    }
+}
+
+/* Without a word every group is. */
+static int is_asked_for(const struct group *group)
+{
+    char **word = asked;
+    while (word < asked_end && strncmp(group->name, *word, strlen(*word)) != 0) {
+        word++;
+    }
+    return asked == asked_end || word < asked_end;
+}
+
+static void try_group(const struct group *group)
+{
+    if (is_asked_for(group)) {
+        try_sets(group);
+    }
+}
+
+/* A search ends at the place that matches, so each place is a group. */
+static void try_found(void)
+{
+    static char text[40];
+    for (unsigned place = 0; place < PLACES; place++) {
+        const struct group group = {text, full, surround, kill_it, SLAVOTUK_DONE, 0, place, 1, NAME, 0};
+        snprintf(text, sizeof text, "kill, found at place %u", place);
+        if (is_chosen(place, PLACES)) {
+            try_group(&group);
+        }
+    }
+}
+
+static void try_groups(void)
+{
+    for (size_t at = 0; at < sizeof groups / sizeof groups[0]; at++) {
+        try_group(&groups[at]);
+    }
+    try_found();
+}
+
+/* ---- the whole */
+
+/* What it is called, where it lies and how long it is; of one with names in it also what has one, where the first is, how far apart. */
+static void say_buffers(void)
+{
+    printf("buffer\tstate\t%p\t%zu\tplace\t%u\t%u\n", (void *)state, sizeof state, PLACES_AT + NAME_IN_PLACE, PLACE_SIZE);
+    printf("buffer\tname\t%p\t%zu\n", (void *)name, sizeof name);
+    printf("buffer\timage\t%p\t%zu\trow\t%u\t%u\n", (void *)image, sizeof image, ROWS_AT + NAME_IN_ROW, ROW_SIZE);
+}
+
+static void make_numbers(void)
+{
+    for (unsigned number = 0; number < NAME; number++) {
+        snprintf(numbers[number], sizeof numbers[number], "%u", number);
+    }
+}
+
+static void map_marks(void)
+{
+    void *page = mmap((void *)MARKS, MARKS_SIZE, PROT_READ | PROT_WRITE,
+                      MAP_PRIVATE | MAP_ANONYMOUS | MAP_FIXED_NOREPLACE, -1, 0);
+    if (page != (void *)MARKS) {
+        perror("trace: no page of marks");
+        exit(1);
+    }
+}
+
+int main(int count, char **arguments)
+{
+    is_short = count > 1 && strcmp(arguments[1], "--short") == 0;
+    asked = arguments + 1 + is_short;
+    asked_end = arguments + count;
+    if (asked < asked_end && asked[0][0] == '-') {
+        fprintf(stderr, "usage: trace [--short] [GROUP..]\n");
+        return 2;
+    }
+    /* whoever reads the trace has the line of a case before the case */
+    setvbuf(stdout, NULL, _IOLBF, BUFSIZ);
+    map_marks();
+    make_numbers();
+    draw_names();
+    make_states();
+    make_pairs();
+    say_buffers();
+    try_groups();
+    return 0;
+}

@@ -1,0 +1,172 @@
+//! What a traced program says on its standard output: where its buffers lie, and what each case is.
+
+use crate::lines::Access;
+use slavotuk::NAME_LENGTH;
+
+/// A buffer that the calls are lent.
+#[derive(Clone, Debug, PartialEq, Eq)]
+pub struct Buffer {
+    name: String,
+    address: u64,
+    length: u64,
+    names: Option<Names>,
+}
+
+/// Names that lie in a buffer, one in each of its parts.
+#[derive(Clone, Debug, PartialEq, Eq)]
+struct Names {
+    part: String,
+    first: u64,
+    apart: u64,
+}
+
+/// A case: the group in which it is compared, and what sets it apart there.
+#[derive(Clone, Debug, PartialEq, Eq)]
+pub struct Case {
+    pub group: String,
+    pub what: String,
+}
+
+/// What a line says.
+#[derive(Clone, Debug, PartialEq, Eq)]
+pub enum Said {
+    Buffer(Buffer),
+    Case(Case),
+}
+
+impl Said {
+    /// What the line says, its fields parted by tabs.
+    pub fn read(line: &str) -> Result<Said, String> {
+        let fields: Vec<&str> = line.split('\t').collect();
+        match fields[..] {
+            ["case", group, what] => Some(Said::Case(Case {
+                group: group.to_string(),
+                what: what.to_string(),
+            })),
+            ["buffer", name, address, length] => buffer(name, address, length, None),
+            ["buffer", name, address, length, part, first, apart] => names(part, first, apart)
+                .and_then(|names| buffer(name, address, length, Some(names))),
+            _ => None,
+        }
+        .ok_or_else(|| {
+            format!("the program printed '{line}', which is neither a case nor a buffer")
+        })
+    }
+}
+
+fn buffer(name: &str, address: &str, length: &str, names: Option<Names>) -> Option<Said> {
+    Some(Said::Buffer(Buffer {
+        name: name.to_string(),
+        address: u64::from_str_radix(address.strip_prefix("0x")?, 16).ok()?,
+        length: length.parse().ok()?,
+        names,
+    }))
+}
+
+fn names(part: &str, first: &str, apart: &str) -> Option<Names> {
+    Some(Names {
+        part: part.to_string(),
+        first: first.parse().ok()?,
+        apart: apart.parse().ok().filter(|apart| *apart > 0)?,
+    })
+}
+
+/// Where an access lies, by its first byte.
+pub fn place_of(access: Access, buffers: &[Buffer]) -> String {
+    buffers
+        .iter()
+        .find_map(|buffer| buffer.place_of(access.address))
+        .unwrap_or_else(|| "elsewhere".to_string())
+}
+
+impl Buffer {
+    fn place_of(&self, address: u64) -> Option<String> {
+        let at = address.checked_sub(self.address)?;
+        let inside = match self.names.as_ref().and_then(|names| names.place_of(at)) {
+            Some(place) => format!(" ({place})"),
+            None => String::new(),
+        };
+        (at < self.length).then(|| format!("byte {at} of the {}{inside}", self.name))
+    }
+}
+
+impl Names {
+    fn place_of(&self, at: u64) -> Option<String> {
+        let behind = at.checked_sub(self.first)?;
+        let (index, byte) = (behind / self.apart, behind % self.apart);
+        (byte < NAME_LENGTH as u64)
+            .then(|| format!("{} {index}, byte {byte} of its name", self.part))
+    }
+}
+
+#[cfg(test)]
+mod tests {
+    use super::*;
+
+    fn buffers() -> Vec<Buffer> {
+        [
+            "buffer\tstate\t0x1000\t681\tplace\t50\t53",
+            "buffer\tname\t0x2000\t48",
+        ]
+        .map(|line| match Said::read(line) {
+            Ok(Said::Buffer(buffer)) => buffer,
+            other => panic!("{other:?}"),
+        })
+        .to_vec()
+    }
+
+    #[test]
+    fn a_place_is_told_by_its_buffer() {
+        let buffers = buffers();
+        let at = |address| place_of(Access { address, size: 1 }, &buffers);
+        assert_eq!(at(0x0fff), "elsewhere");
+        assert_eq!(at(0x1000), "byte 0 of the state");
+        assert_eq!(at(0x1000 + 49), "byte 49 of the state");
+        assert_eq!(
+            at(0x1000 + 50),
+            "byte 50 of the state (place 0, byte 0 of its name)"
+        );
+        assert_eq!(
+            at(0x1000 + 57),
+            "byte 57 of the state (place 0, byte 7 of its name)"
+        );
+        assert_eq!(at(0x1000 + 98), "byte 98 of the state");
+        assert_eq!(
+            at(0x1000 + 680),
+            "byte 680 of the state (place 11, byte 47 of its name)"
+        );
+        assert_eq!(at(0x1000 + 681), "elsewhere");
+        assert_eq!(at(0x2000 + 47), "byte 47 of the name");
+        assert_eq!(at(0x2000 + 48), "elsewhere");
+    }
+
+    #[test]
+    fn a_case_is_its_group_and_what_it_is() {
+        let case = Case {
+            group: "kill".to_string(),
+            what: "place 1, byte 2".to_string(),
+        };
+        assert_eq!(
+            Said::read("case\tkill\tplace 1, byte 2"),
+            Ok(Said::Case(case))
+        );
+    }
+
+    #[test]
+    fn other_lines_are_refused() {
+        for line in [
+            "",
+            "case",
+            "case\tkill",
+            "case\tkill\tplace 1\tbyte 2",
+            "kill\tplace 1",
+            "buffer\tname\t0x2000",
+            "buffer\tname\t2000\t48",
+            "buffer\tname\t0x2000\tlong",
+            "buffer\tstate\t0x1000\t681\tplace\t50",
+            "buffer\tstate\t0x1000\t681\tplace\t50\t0",
+        ] {
+            assert!(Said::read(line).is_err(), "{line}");
+        }
+    }
+}
