@@ -223,22 +223,21 @@ mod tests {
             cut(text.as_bytes(), &mut written).err()
         };
         assert_eq!(cut_text(&format!("{BEGIN}{END}{BEGIN}{END}")), None);
-        assert_eq!(
-            cut_text(&format!("{BEGIN}{BEGIN}{END}")).as_deref(),
-            Some("a case begins inside another")
-        );
-        assert_eq!(
-            cut_text(&format!("{BEGIN}{END}{END}")).as_deref(),
-            Some("a case ends that has not begun")
-        );
-        assert_eq!(
-            cut_text(&format!("{BEGIN}{LINES}")).as_deref(),
-            Some("the trace ends inside a case")
-        );
-        assert_eq!(
-            cut_text(&format!("{BEGIN}{END}{BEGIN}{END}{BEGIN}{END}")).as_deref(),
-            Some("no line")
-        );
+        let wrong = [
+            (
+                format!("{BEGIN}{BEGIN}{END}"),
+                "a case begins inside another",
+            ),
+            (
+                format!("{BEGIN}{END}{END}"),
+                "a case ends that has not begun",
+            ),
+            (format!("{BEGIN}{LINES}"), "the trace ends inside a case"),
+            (format!("{BEGIN}{END}{BEGIN}{END}{BEGIN}{END}"), "no line"),
+        ];
+        for (text, complaint) in wrong {
+            assert_eq!(cut_text(&text).as_deref(), Some(complaint));
+        }
     }
 
     #[test]

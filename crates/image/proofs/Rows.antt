@@ -9,7 +9,6 @@ use native.Mathlib.Omega.{arith}
 use lib.Arith.{digits-lt, digits-div, digits-mod}
 use lib.Dec.{eqb}
 use lib.ListN.{length, take, drop, length-append, length-drop}
-use lib.Seq.{take-all}
 use borrow.Author.Tests.{eqb-true, not-false}
 use Rattle.lists.specs.Lists.{join, select, reject}
 use Rattle.lists.specs.Each.{Each, each-nil, each-cons, Pairs}
@@ -22,7 +21,7 @@ use Rattle.rows.proofs.Rows.{Codec}
 use Rattle.names.specs.Names.{nameLength, readName}
 use Rattle.names.specs.declared.Kind.{Kind}
 use Rattle.names.specs.declared.Kind.the-variants.{Saved}
-use Rattle.names.proofs.Laws.{name-read}
+use Rattle.names.proofs.Laws.{name-last}
 use Rattle.table.specs.declared.Process.{Process}
 use Rattle.claims.specs.declared.Grants.{Grants}
 use Rattle.facts.specs.Facts.{FormedGrants, WideGrants}
@@ -179,9 +178,7 @@ module _ (b : List ℕ) (n : length b ≡ savedSize) (h : Bytes b) where
 -- the name in a row, as the code reads it
 pub saved-name : (row : List ℕ) → length row ≡ savedSize → readName (take nameLength (drop savedNameAt row)) .name ≡ savedFrom row .name
 unfolding savedFrom
-saved-name row h =
-    let l : length (drop savedNameAt row) ≡ nameLength = rw length-drop (omega arith) in
-    rw (take-all nameLength (drop savedNameAt row) (omega arith), name-read (drop savedNameAt row) l)
+saved-name row h = name-last row savedNameAt h
 
 pub saved-codec : Codec savedSize savedBytes savedFrom anything RowFits RowFits
 saved-codec =

@@ -1,6 +1,6 @@
 -- What callers cite: `same` is equality of all 48 bytes, and a row that is read is the row that was written.
 -- Assumes nothing.
-use Prim.Native.Nat.{ℕ, zero, suc, _<_, _≤_}
+use Prim.Native.Nat.{ℕ, zero, suc, _+_, _<_, _≤_}
 use mathlib.Core.Path.{_≡_, refl, sym, ap, _∙_}
 use mathlib.Core.Logic.{_↔_}
 use mathlib.Core.Bool.{true, false, _&&_}
@@ -8,7 +8,8 @@ use mathlib.Core.List.{List, [], _∷_, _++_}
 use native.Mathlib.Omega.{arith}
 use borrow.Author.Tests.{eqb-true, leb-true, eq-eqb, ne-eqb, le-leb}
 use lib.Dec.{eqb, leb}
-use lib.ListN.{length, getD, length-drop}
+use lib.ListN.{length, getD, take, drop, length-drop}
+use lib.Seq.{take-all}
 use Rattle.rows.specs.Bytes.{Bytes, bytesOf, numberAt}
 use Rattle.rows.proofs.Bytes.{number-in, number-forth, number-low}
 use Rattle.rows.proofs.Loops.{and-assoc}
@@ -69,6 +70,12 @@ name→same a b e = same-iff a b .1 (ap (λ (n : Name). n .bytes) e)
 pub name-read : (part : List ℕ) → length part ≡ 48 → readName part ≡ record { fits = true; name = record { bytes = part } }
 unfolding readName
 name-read part h = rw (eq-eqb (length part) 48 h)
+
+-- the name in the last bytes of a row
+pub name-last : (row : List ℕ) (at : ℕ) → length row ≡ at + 48 → readName (take 48 (drop at row)) .name ≡ record { bytes = drop at row }
+name-last row at h =
+    let l : length (drop at row) ≡ 48 = rw length-drop (omega arith) in
+    rw (take-all 48 (drop at row) (omega arith), name-read (drop at row) l)
 
 pub name-in : (part : List ℕ) (name : Name) → length part ≡ 48 → nameIn part name ≡ name .bytes
 unfolding nameIn

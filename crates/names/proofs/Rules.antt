@@ -4,11 +4,11 @@ use Prim.Native.Nat.{ℕ, zero, suc, _+_, _-_, _*_, _/_, _%_, _^_, _<_, _≤_}
 use mathlib.Core.Path.{_≡_, refl, sym, ap, _∙_}
 use mathlib.Core.Bool.{true, false, _&&_}
 use mathlib.Core.List.{List, [], _∷_, _++_}
-use native.Mathlib.Nat.{div-lt-iff-lt-mul, mod-lt}
+use native.Mathlib.Nat.{add-zero, div-lt-iff-lt-mul, mod-lt, add-mod-mod, mod-add-mod}
 use native.Mathlib.Omega.{arith}
 use borrow.Author.Needs.{needs}
 use borrow.Author.Tests.{eqb-true, eqb-false, eq-eqb, ne-eqb}
-use lib.Arith.{digits-lt}
+use lib.Arith.{digits-lt, mod-mul}
 use lib.Bits.{bitXor, bitOr, xor-self, xor-add-and, and-le-l, and-le-r}
 use lib.Dec.{eqb}
 use lib.ListN.{length, getD, take, drop, set, length-take, length-drop, drop-of-length-le}
@@ -21,7 +21,7 @@ use Rattle.lists.proofs.Loops.{Copied, copied-none, copied-more, copied-all}
 use Rattle.names.specs.declared.Name.{Name}
 use Rattle.names.specs.declared.NameRead.{NameRead}
 use Rattle.names.specs.Names.{sameBytes, sameName, zeroName, readName, nameIn}
-use Rattle.names.specs.Words.{Word, stirred, stirredIn, digestOf}
+use Rattle.names.specs.Words.{Word, turned, stirred, stirredIn, digestOf}
 use Rattle.names.proofs.Laws.{same→eq, same-refl, same-append, name-read, name-in, name-not-in}
 
 -- ---- a word, as `word` makes it of eight bytes
@@ -158,12 +158,24 @@ round-fits d h =
     let k : d / 35184372088832 < 524288 = div-lt-iff-lt-mul {k = 35184372088832} {x = d} {y = 524288} (omega arith) .1 h in
     digits-lt (mod-lt d (omega arith)) k
 
+-- eight times a number, of which the highest three bits are left out before they would be lost
+eight-times : (t : ℕ) → t % 2305843009213693952 * 8 ≡ t * 8 % 2 ^ 64
+eight-times t =
+    let a : t * 8 / 8 ≡ t = omega arith in
+    let b : t * 8 % 8 ≡ 0 = omega arith in
+    sym (mod-mul (t * 8) {m = 2305843009213693952} {c = 8} (omega arith) (omega arith) ∙ rw (a, b) (add-zero (t % 2305843009213693952 * 8)))
+
+nine-times : (t w : ℕ) → ((t + t % 2305843009213693952 * 8) % 2 ^ 64 + w) % 2 ^ 64 ≡ (9 * t + w) % 2 ^ 64
+nine-times t w =
+    let n : t + t * 8 ≡ 9 * t = omega arith in
+    rw (eight-times t, add-mod-mod t (t * 8) (2 ^ 64), mod-add-mod (t + t * 8) (2 ^ 64) w, n)
+
 pub stirred-said : (d w n r : ℕ)
     → n ≡ (d % 35184372088832 * 524288 + d / 35184372088832 + (d % 35184372088832 * 524288 + d / 35184372088832) % 2305843009213693952 * 8) % 2 ^ 64
     → r ≡ (n + w) % 2 ^ 64
     → r ≡ stirred d w
 unfolding stirred
-stirred-said d w n r e f = f ∙ rw e
+stirred-said d w n r e f = f ∙ rw e (nine-times (turned d) w)
 
 -- the words before a place stirred in
 pub record StirredTo (bytes : List ℕ) (d at : ℕ) : Type 0 where

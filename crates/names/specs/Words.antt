@@ -16,7 +16,7 @@ abbrev pub turned : ℕ → ℕ
 turned d = d % 2 ^ 45 * 2 ^ 19 + d / 2 ^ 45
 
 unfoldable pub stirred : ℕ → ℕ → ℕ
-stirred d word = ((turned d + turned d % 2 ^ 61 * 2 ^ 3) % 2 ^ 64 + word) % 2 ^ 64
+stirred d word = (9 * turned d + word) % 2 ^ 64
 
 -- k words of bytes, one after the other
 unfoldable pub stirredIn : ℕ → ℕ → List ℕ → ℕ

@@ -11,7 +11,7 @@ use borrow.Author.Needs.{needs}
 use borrow.Author.Tests.{eqb-true, eqb-false, eq-eqb, ne-eqb, not-true, not-false}
 use lib.Bits.{bitOr}
 use lib.Dec.{eqb}
-use lib.ListN.{length, take, drop, getD, length-map, length-take, length-drop, drop-of-length-le, replicate, length-replicate, set, length-set}
+use lib.ListN.{length, take, drop, getD, length-map, drop-of-length-le, replicate, length-replicate, set, length-set}
 use lib.Seq.{getD-set-same, getD-set-other, drop-cons, drop-drop, take-all}
 use Rattle.rows.specs.Bytes.{isZero, Widened}
 use Rattle.lists.proofs.Lists.{length-mapped}
@@ -25,7 +25,7 @@ use Rattle.names.specs.declared.Name.{Name}
 use Rattle.names.specs.declared.NameRead.{NameRead}
 use Rattle.names.specs.Names.{sameName, readName}
 use Rattle.names.specs.Words.{digestOf}
-use Rattle.names.proofs.Laws.{same→name, name-read}
+use Rattle.names.proofs.Laws.{same→name, name-last}
 use Rattle.table.specs.Table.{standing, freePlace, isUser, isElevation, isActive, places}
 use Rattle.table.specs.declared.Process.{Process}
 use Rattle.layout.specs.Layout.{ownerAt, kindAt, sessionAt, nameAt, placeSize, countAt, placesAt, stateLength, kindFrom, processFrom, countIn, placesIn, stateOf, isOwned, areRivals, areApart, sound, shaped, holdsState}
@@ -236,14 +236,9 @@ seats-all {s} {n} {met} {seats} {left} v h =
     record { passes = λ e. let z : left ≡ 0 = omega arith in sym (rw z at (v .none (eqb-true met 0 (not-false (eqb met 0) e)))) }
 
 -- ---- names: each as it stands
-pub name-part : (row : List ℕ) → length row ≡ placeSize → length (take (placeSize - nameAt) (drop nameAt row)) ≡ 48
-name-part row h = simp (length-take, length-drop) (omega arith)
-
 pub name-stands : (row : List ℕ) {r : NameRead} → length row ≡ placeSize → r ≡ readName (take (placeSize - nameAt) (drop nameAt row)) → r .name ≡ processFrom row .name
 unfolding processFrom
-name-stands row h e =
-    let l : length (drop nameAt row) ≤ 48 = simp length-drop (omega arith) in
-    rw (e, name-read (take (placeSize - nameAt) (drop nameAt row)) (name-part row h), take-all 48 (drop nameAt row) l)
+name-stands row h e = rw e (name-last row nameAt h)
 
 -- ---- their digests
 pub record DigestsTo (s : List ℕ) (n : ℕ) (d : List ℕ) (i : ℕ) : Type 0 where
@@ -399,4 +394,4 @@ module _ (b : List ℕ) {t : Bool} (e : t ≡ allFit b) where
           let all : take (length b - 0) b ≡ b = take-all (length b - 0) b (omega arith) in
           m ∙ ap (λ (l : List ℕ). pairwise areApart (map processFrom (rows n placeSize (drop placesAt l)))) all ∙ last
 
-pub ruleset rules = (needs, length-mapped, rivals-elsewhere, rivals-other, rivals-users, rivals-last, apart-rivals, apart-name, place-part, apart-begin, apart-on, apart-fail, holds-pairs, holds-few, records-begin, records-on, records-all, paired-begin, paired-on, paired-fail, paired-all, seat-user, seat-elevation, seat-saved, seats-begin, seats-on, seats-all, name-part, name-stands, digests-begin, digests-on, digests-all, fresh-begin, fresh-on, fresh-all, distinct-begin, distinct-on, distinct-all, apart-keys, holds-unfit, fit-counted, fit-whole, fit-few)
+pub ruleset rules = (needs, length-mapped, rivals-elsewhere, rivals-other, rivals-users, rivals-last, apart-rivals, apart-name, place-part, apart-begin, apart-on, apart-fail, holds-pairs, holds-few, records-begin, records-on, records-all, paired-begin, paired-on, paired-fail, paired-all, seat-user, seat-elevation, seat-saved, seats-begin, seats-on, seats-all, name-stands, digests-begin, digests-on, digests-all, fresh-begin, fresh-on, fresh-all, distinct-begin, distinct-on, distinct-all, apart-keys, holds-unfit, fit-counted, fit-whole, fit-few)
