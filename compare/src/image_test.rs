@@ -1,13 +1,13 @@
 //! Images on both sides of each bound. An accepted one is written again and has to be the same bytes; after a refusal the slice has to hold what it held.
 
 use crate::call::{Bytes, Call};
-use crate::images::{self, put, row_at, NUMBER_IN_ROW};
+use crate::images::{self, names, put, row_at, NUMBER_IN_ROW};
 use crate::random::Random;
 use crate::report::Report;
 use crate::sides::Pair;
 use slavotuk_model::image::{self, LONGEST, ROW_LENGTH};
 use slavotuk_model::layout::{self, STATE_LENGTH};
-use slavotuk_model::module::{Module, Name, NAME_LENGTH, PLACES};
+use slavotuk_model::module::{Module, PLACES};
 use std::thread;
 
 /// An image of one row more than there are places.
@@ -70,19 +70,6 @@ fn images(random: &mut Random) -> Vec<Image> {
         drawn("twelve rows", 0x6b, 12),
         drawn("all credentials, twelve rows", 0xff, 12),
     ]
-}
-
-/// Names of which some differ in one byte only.
-fn names(count: usize, random: &mut Random) -> Vec<Name> {
-    let mut base: Name = [0; NAME_LENGTH];
-    random.fill(&mut base[16..]);
-    let place = |at: usize| [47, 0, 15, 16, 46, 31][at % 6];
-    let name = |at: usize| {
-        let mut name = base;
-        name[place(at)] ^= at as u8;
-        name
-    };
-    (0..count).map(name).collect()
 }
 
 /// The trial of images.

@@ -2,7 +2,7 @@
 
 use crate::random::Random;
 use slavotuk_model::image::{self, HEAD_LENGTH, ROW_LENGTH};
-use slavotuk_model::module::{Kind, Module, Name, Process, CREDENTIALS, SPENT};
+use slavotuk_model::module::{Kind, Module, Name, Process, CREDENTIALS, NAME_LENGTH, SPENT};
 
 /// Where the five numbers of the head stand.
 pub const MASK: usize = 0;
@@ -33,6 +33,19 @@ pub fn draw(mask: u8, names: &[Name], random: &mut Random) -> Vec<u8> {
     image::write(&module)
 }
 
+/// Names of which some differ in one byte only.
+pub fn names(count: usize, random: &mut Random) -> Vec<Name> {
+    let mut base: Name = [0; NAME_LENGTH];
+    random.fill(&mut base[16..]);
+    let place = |at: usize| [47, 0, 15, 16, 46, 31][at % 6];
+    let name = |at: usize| {
+        let mut name = base;
+        name[place(at)] ^= at as u8;
+        name
+    };
+    (0..count).map(name).collect()
+}
+
 /// How many whole rows the bytes have room for.
 pub fn rows(image: &[u8]) -> usize {
     image.len().saturating_sub(HEAD_LENGTH) / ROW_LENGTH
@@ -46,6 +59,12 @@ pub fn row_at(row: usize) -> usize {
 /// Puts a number of two bytes there.
 pub fn put(image: &mut [u8], at: usize, number: u16) {
     image[at..at + 2].copy_from_slice(&number.to_le_bytes());
+}
+
+/// Puts the word of a credential there.
+pub fn put_word(image: &mut [u8], credential: usize, word: u32) {
+    let at = WORDS + 4 * credential;
+    image[at..at + 4].copy_from_slice(&word.to_le_bytes());
 }
 
 fn get(image: &[u8], at: usize) -> u16 {
@@ -94,13 +113,13 @@ fn change_count(image: &mut [u8], rows: u16, random: &mut Random) {
 }
 
 fn change_word(image: &mut [u8], random: &mut Random) {
-    let at = WORDS + 4 * random.below(CREDENTIALS);
+    let credential = random.below(CREDENTIALS);
     let word = match random.below(3) {
         0 => 0,
         1 => 1 << random.below(32),
         _ => random.word(),
     };
-    image[at..at + 4].copy_from_slice(&word.to_le_bytes());
+    put_word(image, credential, word);
 }
 
 fn change_owner(image: &mut [u8], row: usize, random: &mut Random) {

@@ -4,7 +4,7 @@ use crate::image;
 use crate::module::{Kind, Module};
 
 /// This many images are told of, bad ones counted.
-pub const MOST_IMAGES: usize = 4_096;
+const MOST_IMAGES: usize = 4_096;
 
 /// Classes 0 to 31.
 const CLASSES: u32 = 32;
