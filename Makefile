@@ -1,4 +1,7 @@
-.PHONY: help inspect inspect-test run lib own install test edits soak faults bench trace tools clean
+.PHONY: help inspect inspect-test run lib own install figures test edits soak faults bench trace tools clean
+
+# `rt` can't run beside another one
+.NOTPARALLEL:
 
 SHELL := bash
 .SHELLFLAGS := -o pipefail -c
@@ -38,11 +41,12 @@ help:
 	@echo "make lib      proves the module, and puts the archive, the shared object and slavotuk.h into $(LIB)"
 	@echo "              ARCH=x86_64 or ARCH=aarch64: the archive for that machine; with CC a compiler for it, the shared object too"
 	@echo "make install  the same into PREFIX ($(PREFIX)) with a file for pkg-config; DESTDIR goes before it"
+	@echo "make figures  proves the program that prints the figures of a drawer of images, and puts it into build/figures"
 	@echo "make test     the proofs, the wrong builds and the hosts' tests; its last line is 'N passed, 0 failed'"
 	@echo "make edits    how long each wrong build took to refuse in the last run; make edits CRATE=NAME tries those of a crate first"
 	@echo "make soak     the compiled module against the model, until it is stopped; make soak TIME=600 for so many seconds"
 	@echo "make faults   breaks the model in some hundred ways and asks that the comparison tells"
-	@echo "make bench    the record entry against ordinary Rust, and what the other entries cost"
+	@echo "make bench    the record entry against ordinary Rust, what the other entries cost, and the figures against cksum"
 	@echo "make trace    what the calls read from memory, compared on a trace wherever names differ; wrong builds that it has to catch"
 	@echo "make clean    removes what these have built"
 
@@ -87,6 +91,11 @@ endif
 	sed -e 's|@LIBDIR@|$(LIBDIR)|' -e 's|@INCLUDEDIR@|$(INCLUDEDIR)|' -e 's|@VERSION@|$(VERSION)|' include/slavotuk.pc.in \
 		>$(DESTDIR)$(LIBDIR)/pkgconfig/slavotuk.pc
 
+figures: tools build/figures
+
+build/figures: $(SOURCES) arch/figures arch/kit
+	@arch/figures $@
+
 test: tools
 	@tests/gate
 
@@ -96,10 +105,10 @@ edits:
 soak: own
 	@$(CARGO) slavotuk-compare -- soak $(if $(TIME),--seconds $(TIME),--forever)
 
-faults: own
+faults: own build/figures
 	@tests/faults
 
-bench: own
+bench: own build/figures
 	@$(CARGO) slavotuk-bench
 
 # the wrong builds are made of the bitcode that the archive for Arm leaves behind
