@@ -1,19 +1,23 @@
-//! Times the record entry beside ordinary Rust with the same answers on the same slice, and the other entries beside the record.
+//! Times the record entry beside ordinary Rust with the same answers on the same slice, the other entries beside the record, and the program that prints
+//! figures beside `cksum`.
 
 mod agreement;
 mod costs;
+mod figures;
 mod input;
 mod numbers;
 mod ordinary;
 mod structured;
 mod timing;
 
+use figures::Bench;
 use input::{Input, Setting, SETTINGS};
 use std::process::ExitCode;
 use timing::Measured;
 
 const HELP: &str = "\
-slavotuk-bench: times the record entry beside ordinary Rust with the same answers, and the other entries beside the record
+slavotuk-bench: times the record entry beside ordinary Rust with the same answers, the other entries beside the record, and
+build/figures beside cksum
 
 usage: slavotuk-bench [--rounds N] [--calls N]
 
@@ -21,7 +25,7 @@ usage: slavotuk-bench [--rounds N] [--calls N]
   --calls N    record calls in a round, 16 to 116506 (100000)
   --help       this text
 
-Exit code: 0 where all answers agree, whatever the times are; 1 where they differ; 2 for bad usage.";
+Exit code: 0 where all answers agree, whatever the times are; 1 where they differ, or there is no build/figures; 2 for bad usage.";
 
 struct Options {
     rounds: usize,
@@ -82,6 +86,7 @@ fn number_in(
 }
 
 fn run(options: &Options) -> Result<(), String> {
+    let figures = Bench::prepare()?;
     describe_input(options);
     let inputs = SETTINGS.map(|setting| (setting, Input::new(setting, options.calls)));
     for (setting, input) in &inputs {
@@ -99,7 +104,8 @@ fn run(options: &Options) -> Result<(), String> {
     report_records(&inputs, options.rounds);
     println!();
     report_costs(options.rounds);
-    Ok(())
+    println!();
+    report_figures(&figures, options.rounds)
 }
 
 fn report_records(inputs: &[(Setting, Input)], rounds: usize) {
@@ -139,6 +145,20 @@ fn report_costs(rounds: usize) {
             cells.collect::<Vec<_>>().join(" | ")
         );
     }
+}
+
+fn report_figures(figures: &Bench, rounds: usize) -> Result<(), String> {
+    println!("The program that prints figures, on {}. Medians of {rounds} alternating rounds, from the start of a process to its end:", figures::describe());
+    println!();
+    println!("| figures, ms | cksum, ms | figures/cksum |");
+    println!("|---|---|---|");
+    let figures::Measured {
+        figures,
+        cksum,
+        ratio,
+    } = figures.measure(rounds)?;
+    println!("| {figures:.1} | {cksum:.1} | {ratio:.1} |");
+    Ok(())
 }
 
 fn describe_input(options: &Options) {

@@ -7,7 +7,8 @@ use slavotuk::entries;
 use std::hint::black_box;
 use std::time::Instant;
 
-const WARM_UP_ROUNDS: usize = 2;
+/// Rounds that are not counted.
+pub const WARM_UP_ROUNDS: usize = 2;
 
 /// Medians over the rounds: nanoseconds for one call, and the ratios of each round.
 pub struct Measured {

@@ -34,7 +34,7 @@ pub fn lone_bytes(setting: &Setting) -> Result<String, String> {
     let mut trial = Trial::new(setting, "lone");
     for before in [vec![], piece(&example()), every_row_count(), piece(&[])] {
         for byte in [0, 1, 42, 255] {
-            let which = format!("byte {byte} after {} others", before.len());
+            let which = format!("a lone {byte} after {} bytes", before.len());
             trial.drawer(which, &[&before[..], &[byte]].concat())?;
         }
     }
@@ -53,8 +53,9 @@ pub fn lengths(setting: &Setting) -> Result<String, String> {
             let which = format!("length {length}, an image of {rows} rows fitted to it");
             let whole = [every_row_count(), piece.clone(), every_row_count()].concat();
             trial.drawer(&which, &whole)?;
-            for left in [piece.len() - 1, 3, 2, 1] {
-                let cut_off = [every_row_count(), piece[..left.min(piece.len())].to_vec()];
+            let lefts = [1, 2, 3, piece.len() - 1];
+            for left in lefts.into_iter().filter(|left| *left < piece.len()) {
+                let cut_off = [every_row_count(), piece[..left].to_vec()];
                 let which = format!("{which}, after {left} bytes of it the end");
                 trial.drawer(which, &cut_off.concat())?;
             }
