@@ -55,7 +55,7 @@ fn drawer(end: usize, random: &mut Random, depth: &mut Depth) -> Vec<u8> {
         _ => {}
     }
     depth.ends[end] += 1;
-    depth.too_many += usize::from(pieces >= MOST_IMAGES);
+    depth.too_many += usize::from(pieces > MOST_IMAGES);
     drawer
 }
 
