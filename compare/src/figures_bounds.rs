@@ -137,29 +137,30 @@ pub fn up_to_the_limit(setting: &Setting) -> Result<String, String> {
     Ok(trial.counted("4,096 images, good, bad, mixed and with the largest figures, and the last one cut off or a lone byte"))
 }
 
-/// One image more, of every kind, and many more. Nothing is read past the one.
+/// One image more, of every kind, and many more. Nothing is read past the one, so where it is whole the end is not waited for.
 pub fn past_the_limit(setting: &Setting) -> Result<String, String> {
     let mut trial = Trial::new(setting, "past-limit");
     let good = piece(&with_rows(1));
-    let mores = [
+    let whole = [
         ("a good one", good.clone()),
         ("a damaged one", piece(&[7; HEAD_LENGTH])),
         ("one without a byte", piece(&[])),
+        ("904 good ones", good.repeat(904)),
+    ];
+    let short = [
         ("one cut off", good[..50].to_vec()),
         ("a length", good[..2].to_vec()),
         ("a long length", with_length(LONGEST_PIECE, &[])),
         ("a lone byte", good[..1].to_vec()),
-        ("904 good ones", good.repeat(904)),
     ];
     for (kind, images) in many_images(MOST_IMAGES) {
-        for (more, bytes) in &mores {
-            let which = format!("4096 {kind} and {more}");
+        for (more, bytes) in whole.iter().chain(&short) {
             let drawer = [&images[..], bytes].concat();
-            trial.drawer(&which, &drawer)?;
-            // a length is read whole: a lone byte waits for the next one, or for the end
-            if bytes.len() > 1 {
-                trial.held_open(&which, &drawer)?;
-            }
+            trial.drawer(format!("4096 {kind} and {more}"), &drawer)?;
+        }
+        for (more, bytes) in &whole {
+            let drawer = [&images[..], bytes].concat();
+            trial.held_open(format!("4096 {kind} and {more}"), &drawer)?;
         }
     }
     Ok(trial.counted("4,096 images and more: a whole one, a bad one, one cut off, a lone byte, 904 others; the end is not waited for"))

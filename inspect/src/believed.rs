@@ -36,8 +36,8 @@ pub struct Share {
 pub struct Believed(BTreeMap<Id, Share>);
 
 impl Believed {
-    /// The definitions of the files that the map lists, what is public in the code, the public statements that the map lists; and all
-    /// that these cite.
+    /// The definitions of the files that the map lists, what is public in the libraries, what the functions of programs promise, the public
+    /// statements that the map lists; and all that these cite.
     pub fn of(tree: &Tree, map: &Map, scopes: &[Scope]) -> Believed {
         let listed = listed(map);
         let is_listed = |id: &Id| {
@@ -48,7 +48,10 @@ impl Believed {
                     listed.contains(&format!("{}/proofs/{}", file.crate_name, file.stem))
                         && tree.declaration(*id).public
                 }
-                Folder::Src => !file.is_program() && tree.declaration(*id).public,
+                Folder::Src if file.is_program() => {
+                    tree.declaration(*id).kind == Kind::Function && tree.promises(*id)
+                }
+                Folder::Src => tree.declaration(*id).public,
             }
         };
         let mut waiting: Vec<Id> = tree.declarations().filter(is_listed).collect();

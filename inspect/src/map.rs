@@ -319,14 +319,14 @@ fn in_file(tree: &Tree, crate_name: &str, folder: Folder, stem: &str, name: &str
         .map_or(Vec::new(), |file| tree.named_in(file, name))
 }
 
-/// A type or a constant is a definition, a function of a library a promise, one of a program is what runs something proved.
+/// A type or a constant is a definition, a function that promises something a promise, any other one of a program is what runs something proved.
 fn in_code(tree: &Tree, column: Column, citation: &Citation) -> Vec<Id> {
     let fits = |id: &Id| {
         let kind = tree.declaration(*id).kind;
         match column {
             Column::Definition => matches!(kind, Kind::Type | Kind::Constant),
-            Column::Promise => kind == Kind::Function && !tree.file(*id).is_program(),
-            _ => kind == Kind::Function && tree.file(*id).is_program(),
+            Column::Promise => kind == Kind::Function && tree.promises(*id),
+            _ => kind == Kind::Function && !tree.promises(*id),
         }
     };
     tree.coded(citation.place, citation.name)

@@ -118,6 +118,17 @@ impl Tree {
         })
     }
 
+    /// Whether a function's contract says something of its answer: in a library each does, in a program those that have one.
+    pub fn promises(&self, id: Id) -> bool {
+        let statement = &self.declaration(id).statement;
+        let has_contract = || {
+            statement
+                .iter()
+                .any(|line| line.trim_start().starts_with("ensures"))
+        };
+        !self.file(id).is_program() || has_contract()
+    }
+
     pub fn find_file(&self, crate_name: &str, folder: Folder, stem: &str) -> Option<usize> {
         self.files.iter().position(|file| {
             file.crate_name == crate_name && file.folder == folder && file.stem == stem

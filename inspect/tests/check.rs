@@ -60,6 +60,24 @@ fn a_place_that_is_not_there() {
 }
 
 #[test]
+fn a_function_of_a_program_promises_where_it_has_a_contract() {
+    fails(
+        "promise",
+        MAP,
+        "tell: `one`",
+        "tell: `main`",
+        &["docs/STATEMENTS.md:13: Promise, tell: `main` is not there"],
+    );
+    fails(
+        "run",
+        MAP,
+        "tell: `main`",
+        "tell: `one`",
+        &["docs/STATEMENTS.md:13: Proved, tell: `one` is not there"],
+    );
+}
+
+#[test]
 fn a_public_function_that_no_row_cites() {
     fails(
         "function",

@@ -69,10 +69,10 @@ module _ (grants : List Grants) (row : List ℕ) {owner : ℕ} (e : owner ≡ nu
   keep-number n q = rw (← e, ← f, not-false t n, q)
 
 -- ---- where a row lies, and the processes that n rows say
-abbrev rowAt : List ℕ → ℕ → List ℕ
+abbrev pub rowAt : List ℕ → ℕ → List ℕ
 rowAt b i = take (savedAt + i * savedSize + savedSize - (savedAt + i * savedSize)) (drop (savedAt + i * savedSize) b)
 
-abbrev kept : List ℕ → ℕ → List Process
+abbrev pub kept : List ℕ → ℕ → List Process
 kept b n = map savedFrom (rows n savedSize (drop savedAt b))
 
 module _ (b : List ℕ) (n i : ℕ) (h : length b ≡ imageLong n) (k : i < n) where

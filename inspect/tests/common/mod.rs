@@ -5,8 +5,8 @@ use slavotuk_inspect::tree::Tree;
 use std::fs;
 use std::path::PathBuf;
 
-const FILES: [(&str, &str); 7] = [
-    ("crates.txt", "# what things are called\nnames:\n"),
+const FILES: [(&str, &str); 8] = [
+    ("crates.txt", "# what things are called\nnames:\n# a program\ntell: names\n"),
     (
         "crates/names/specs/Names.antt",
         "use lib.Dec.{eqb}\n\n-- all bytes\nunfoldable pub sameName : Name → Name → Bool\nsameName a b = eqb a b\n",
@@ -21,6 +21,10 @@ const FILES: [(&str, &str); 7] = [
         "use Rattle.names.proofs.same.Kinds as same-kinds\nuse Rattle.names.proofs.same.Reads as same\n\n\
          pub same-once : OneAnswer 0 same-kinds.ps same-kinds.r same.Post\nsame-once κs a x y s t p q = p ∙ sym q\n",
     ),
+    (
+        "crates/tell/src/main.rt",
+        "ghost use mathlib.Core.Path.{_≡_};\n\nfn one() -> u8\n    ensures { λ r. ⌜ r ≡ 1 ⌝ }\n{\n    1\n}\n\nfn main() {\n    one();\n}\n",
+    ),
     ("README.md", "# Small\n\nIt is proved.\n\n## More\n\nNot this.\n"),
     ("crates/names/must-fail/one_byte.edit", "# one byte\nfile: src/lib.rt\nold: a.0 == b.0\nnew: true\n"),
     (
@@ -28,7 +32,7 @@ const FILES: [(&str, &str); 7] = [
         "# Statements\n\n| File | What it says |\n|---|---|\n| names/Names | equal names |\n\n## Names\n\n\
          | Document 01 | Definition | Promise | Proved | Wrong builds |\n|---|---|---|---|---|\n\
          | Two names are equal | names/Names: `sameName`; names: `Name` | names: `same` | names/Unique: `same-once` | names: `one_byte` |\n\
-         | The hash unit's duty | assumed, above | | | |\n",
+         | The hash unit's duty | assumed, above | | | |\n| One is told | | tell: `one` | tell: `main` | |\n",
     ),
 ];
 

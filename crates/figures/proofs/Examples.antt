@@ -1,0 +1,76 @@
+-- Document 02's example, and drawers that are damaged in one place.
+-- Assumes nothing.
+use Prim.Native.Nat.{ℕ}
+use mathlib.Core.Path.{_≡_, refl}
+use mathlib.Core.List.{List, [], _∷_, _++_}
+use lib.ListN.{replicate, take}
+use Rattle.lists.specs.Lists.{select, padded}
+use Rattle.rows.specs.Bytes.{numberOf, numberAt}
+use Rattle.rows.specs.Rows.{rows, every, pairwise}
+use Rattle.names.specs.Names.{sameBytes, sameName}
+use Rattle.table.specs.Table.{tableOf}
+use Rattle.claims.specs.Module.{provisioned, wordGrants}
+use Rattle.image.specs.Image.{imageLong, numbersIn, maskIn, rowCountIn, grantsSaid, grantsIn, savedFrom, keptIn, restored, headFits, wordFits, isKeepable, differ, isImage}
+use Rattle.image_figures.specs.Figures.{sum, largest, classesBelow, classesHeld, classesGranted, largestNext, figuresIn, isSaid, sizeSaid, isGood, lineOf}
+use Rattle.image_figures.specs.declared.Line.the-variants.{Bad, Good}
+use Rattle.figures.specs.Drawer.{firstPiece, afterPiece, pieces, linesOf, goodOnes, totalsOf, isPast, printedOf}
+use Rattle.figures.specs.declared.Output.{Output}
+use Rattle.figures.specs.declared.Output.the-variants.{Image, Total}
+
+abbrev good : ℕ → ℕ → ℕ → Output
+good rows classes largest = Image (Good (record { rows = rows; classes = classes; largest = largest }))
+
+abbrev bad : Output
+bad = Image Bad
+
+abbrev total : ℕ → ℕ → ℕ → ℕ → Output
+total images good rows classes = Total (record { images = images; good = good; rows = rows; classes = classes })
+
+-- an image: its mask, words 15 and 16 and then zeros, the last byte of the last word, and n rows
+abbrev image : ℕ → ℕ → ℕ → List ℕ → List ℕ
+image mask last n saved =
+    (mask ∷ 0 ∷ 8 ∷ 0 ∷ 10 ∷ 0 ∷ n ∷ 0 ∷ 42 ∷ 0 ∷ []) ++ ((15 ∷ 0 ∷ 0 ∷ 0 ∷ 16 ∷ 0 ∷ 0 ∷ 0 ∷ []) ++ (replicate 23 0 ++ (last ∷ saved)))
+
+abbrev plain : List ℕ
+plain = image 3 0 0 []
+
+-- the larger number in the first row
+abbrev two : List ℕ
+two = image 3 0 2 ((1 ∷ 0 ∷ 0x2c ∷ 0x01 ∷ replicate 48 0x22) ++ (0 ∷ 0 ∷ 7 ∷ 0 ∷ replicate 48 0x11))
+
+pub record Drawers : Type 0 where
+  -- "One good image with no rows and words 15 and 16 prints `0 5 0`, then `total 1 0 5`."
+  pub one-image : printedOf (42 ∷ 0 ∷ plain) ≡ good 0 5 0 ∷ total 1 1 0 5 ∷ []
+  pub nothing : printedOf [] ≡ total 0 0 0 0 ∷ []
+  -- "largest next number"; class 31
+  pub rows-of-two : printedOf (146 ∷ 0 ∷ two) ≡ good 2 5 300 ∷ total 1 1 2 5 ∷ []
+  pub class-31 : printedOf (42 ∷ 0 ∷ image 131 128 0 []) ≡ good 0 6 0 ∷ total 1 1 0 6 ∷ []
+  -- a word of a credential that is not provisioned makes a bad image, and is not counted
+  pub unprovisioned-word : printedOf (42 ∷ 0 ∷ image 3 128 0 []) ≡ bad ∷ total 1 0 0 0 ∷ []
+  -- "A bad or cut-off image, or a lone last byte": alone, and after a good one; a length of 0 goes on, and so does one that no image has
+  pub lone-byte : printedOf (42 ∷ []) ≡ bad ∷ total 1 0 0 0 ∷ []
+  pub lone-later : printedOf (42 ∷ 0 ∷ (plain ++ (42 ∷ []))) ≡ good 0 5 0 ∷ bad ∷ total 2 1 0 5 ∷ []
+  pub cut-off : printedOf (42 ∷ 0 ∷ take 41 plain) ≡ bad ∷ total 1 0 0 0 ∷ []
+  pub cut-head : printedOf (42 ∷ 0 ∷ []) ≡ bad ∷ total 1 0 0 0 ∷ []
+  pub length-0 : printedOf (0 ∷ 0 ∷ 42 ∷ 0 ∷ plain) ≡ bad ∷ good 0 5 0 ∷ total 2 1 0 5 ∷ []
+  pub length-43 : printedOf (43 ∷ 0 ∷ (plain ++ (0 ∷ 42 ∷ 0 ∷ plain))) ≡ bad ∷ good 0 5 0 ∷ total 2 1 0 5 ∷ []
+  -- after a cut-off image nothing comes: its length reaches over the image behind it
+  pub cut-reaches : printedOf (0 ∷ 1 ∷ (take 41 plain ++ (42 ∷ 0 ∷ plain))) ≡ bad ∷ total 1 0 0 0 ∷ []
+
+pub drawers : Drawers
+unfolding printedOf pieces firstPiece afterPiece linesOf goodOnes totalsOf isPast sum largest classesBelow classesHeld classesGranted largestNext figuresIn isSaid sizeSaid isGood lineOf isImage imageLong numbersIn maskIn rowCountIn grantsSaid grantsIn savedFrom keptIn restored headFits wordFits isKeepable differ provisioned wordGrants tableOf padded select every pairwise rows numberOf numberAt sameBytes sameName
+drawers =
+    record {
+      one-image = refl;
+      nothing = refl;
+      rows-of-two = refl;
+      class-31 = refl;
+      unprovisioned-word = refl;
+      lone-byte = refl;
+      lone-later = refl;
+      cut-off = refl;
+      cut-head = refl;
+      length-0 = refl;
+      length-43 = refl;
+      cut-reaches = refl;
+    }

@@ -1,0 +1,228 @@
+-- The laws that close the needs of this crate's functions by `search rules`: each premise is as a place's record has it.
+-- Assumes nothing.
+use Prim.Native.Nat.{ℕ, zero, suc, _+_, _-_, _*_, _<_, _≤_}
+use mathlib.Core.Path.{_≡_, refl, sym, ap, _∙_}
+use mathlib.Core.Bool.{Bool, true, false, cond, true≢false}
+use mathlib.Core.List.{List, [], _∷_, _++_, map, append-nil}
+use native.Mathlib.Numerals.{add-one}
+use native.Mathlib.Omega.{arith}
+use mir.Syntax.{w64}
+use mir.Val.{Fits}
+use borrow.Author.Needs.{needs}
+use borrow.Author.Tests.{eqb-false, eq-eqb, ne-eqb}
+use lib.Dec.{eqb}
+use lib.ListN.{length, take, drop, set, length-set, length-take, length-drop, length-append, length-map}
+use Rattle.lists.proofs.Tests.{split}
+use Rattle.io.specs.Counts.{Counts}
+use Rattle.rows.proofs.Rows.{map-append}
+use Rattle.table.specs.Table.{places}
+use Rattle.claims.specs.Module.{credentialCount}
+use Rattle.image_figures.specs.Figures.{sum, classCount, lineOf}
+use Rattle.image_figures.specs.declared.Figures.{Figures}
+use Rattle.image_figures.specs.declared.Line.{Line}
+use Rattle.image_figures.specs.declared.Line.the-variants.{Bad, Good}
+use Rattle.image_figures.proofs.Laws.{Small, SmallLine, line-small}
+use Rattle.figures.specs.Drawer.{Piece, longestSaid, linesOf, goodOnes, totalsOf, mostImages, countedIn, stepOf, OfPieces, OfPiece, Turned}
+use Rattle.figures.specs.declared.Totals.{Totals}
+use Rattle.figures.specs.declared.Turn.{Turn}
+use Rattle.figures.specs.declared.Step.{Step}
+use Rattle.figures.specs.declared.Output.{Output}
+use Rattle.figures.specs.declared.Output.the-variants.{Image, Total, TooMany}
+
+-- ---- the totals with one line more
+sum-more : {A : Type 0} (g : A → ℕ) (l : List A) (x : A) → sum (map g (l ++ (x ∷ []))) ≡ sum (map g l) + g x
+unfolding sum
+sum-more g [] x = omega arith
+sum-more g (y ∷ l) x = rw (sum-more g l x) (omega arith)
+
+good-append : (a b : List Line) → goodOnes (a ++ b) ≡ goodOnes a ++ goodOnes b
+unfolding goodOnes
+good-append [] b = refl
+good-append (Bad ∷ a) b = good-append a b
+good-append (Good f ∷ a) b = ap (λ (l : List Figures). f ∷ l) (good-append a b)
+
+pub totals-more : (l : List Line) (x : Line) → totalsOf (l ++ (x ∷ [])) ≡ countedIn (totalsOf l) x
+unfolding totalsOf countedIn goodOnes
+totals-more l Bad =
+    let e : goodOnes (l ++ (Bad ∷ [])) ≡ goodOnes l = good-append l (Bad ∷ []) ∙ append-nil (goodOnes l) in
+    rw (length-append l (Bad ∷ []), e)
+totals-more l (Good f) =
+    let e : goodOnes (l ++ (Good f ∷ [])) ≡ goodOnes l ++ (f ∷ []) = good-append l (Good f ∷ []) in
+    rw (length-append l (Good f ∷ []), e, length-append (goodOnes l) (f ∷ []), sum-more (λ (f : Figures). f .rows) (goodOnes l) f, sum-more (λ (f : Figures). f .classes) (goodOnes l) f)
+
+-- ---- how large they are
+pub record Bounded (t : Totals) : Type 0 where
+  pub good : t .good ≤ t .images
+  pub rows : t .rows ≤ t .images * places
+  pub classes : t .classes ≤ t .images * (credentialCount * classCount)
+
+bounded-more : (x : Line) (l : List Line) → SmallLine x → Bounded (totalsOf l) → Bounded (totalsOf (x ∷ l))
+unfolding totalsOf goodOnes sum
+bounded-more Bad l s v = record { good = omega (arith, v .good); rows = omega (arith, v .rows); classes = omega (arith, v .classes) }
+bounded-more (Good f) l s v = record { good = omega (arith, v .good); rows = omega (arith, s .rows-few, v .rows); classes = omega (arith, s .classes-few, v .classes) }
+
+bounded : (l : List Piece) → Bounded (totalsOf (linesOf l))
+unfolding linesOf totalsOf goodOnes sum
+bounded [] = record { good = omega arith; rows = omega arith; classes = omega arith }
+bounded (p ∷ l) = bounded-more (lineOf (p .said) (p .image)) (linesOf l) (line-small (p .said) (p .image)) (bounded l)
+
+module _ {t : Totals} (v : OfPieces t) where
+  bounds : Bounded t
+  bounds = rw (v .are) (bounded (v .read))
+
+  images-are : length (v .read) ≡ t .images
+  unfolding totalsOf linesOf
+  images-are = sym (ap (λ (u : Totals). u .images) (v .are) ∙ length-map (v .read) (λ (p : Piece). lineOf (p .said) (p .image)))
+
+  images-few : t .images ≤ mostImages
+  images-few = omega (arith, images-are, v .few)
+
+  module _ (few : t .images < mostImages) where
+    pub good-fits : Fits w64 (t .good + 1)
+    good-fits = omega (arith, bounds .good)
+
+    module _ {x : Line} (is : OfPiece x) {f : Figures} (e : x ≡ Good f) where
+      small : Small f
+      small = rw (sym (is .is) ∙ e) at (line-small (is .piece .said) (is .piece .image))
+
+      pub rows-fit : Fits w64 (t .rows + f .rows)
+      rows-fit = omega (arith, bounds .rows, small .rows-few)
+
+      pub classes-fit : Fits w64 (t .classes + f .classes)
+      classes-fit = omega (arith, bounds .classes, small .classes-few)
+
+    pub counted-more : {x : Line} → OfPiece x → {u : Totals} → u ≡ countedIn t x → OfPieces u
+    unfolding linesOf
+    counted-more is e =
+        record {
+          read = v .read ++ (is .piece ∷ []);
+          few = rw (length-append (v .read) (is .piece ∷ [])) (omega (arith, images-are));
+          are = e ∙ rw (v .are, is .is) (sym (totals-more (linesOf (v .read)) (lineOf (is .piece .said) (is .piece .image)))) ∙ ap totalsOf (sym (map-append (λ (p : Piece). lineOf (p .said) (p .image)) (v .read) (is .piece ∷ [])));
+        }
+
+-- ---- the two steps
+module _ (t : Totals) {x : Line} where
+  pub counted-bad : x ≡ Bad → _≡_ {A = Totals} (record { images = t .images + 1; good = t .good; rows = t .rows; classes = t .classes }) (countedIn t x)
+  unfolding countedIn
+  counted-bad e = rw e
+
+  pub counted-good : {f : Figures} → x ≡ Good f
+      → _≡_ {A = Totals} (record { images = t .images + 1; good = t .good + 1; rows = t .rows + f .rows; classes = t .classes + f .classes }) (countedIn t x)
+  unfolding countedIn
+  counted-good e = rw e
+
+pub step-few : {t : Totals} → OfPieces t → (t .images ≡ mostImages → ⊥) → t .images < mostImages
+step-few v k = omega (arith, k, images-few v)
+
+module _ (t : Totals) (said image : List ℕ) where
+  pub step-total : length said ≡ 0 → _≡_ {A = Step} (record { totals = t; output = Total t; more = false }) (stepOf t said image)
+  unfolding stepOf
+  step-total e = rw e
+
+  module _ (n : length said ≡ 0 → ⊥) where
+    pub step-past : t .images ≡ mostImages → _≡_ {A = Step} (record { totals = t; output = TooMany; more = false }) (stepOf t said image)
+    unfolding stepOf
+    step-past e = rw (ne-eqb (length said) 0 n, e)
+
+    module _ (k : t .images ≡ mostImages → ⊥) where
+      pub step-line : {x : Line} {u : Totals} → x ≡ lineOf said image → u ≡ countedIn t x → _≡_ {A = Step} (record { totals = u; output = Image x; more = true }) (stepOf t said image)
+      unfolding stepOf
+      step-line e q = rw (ne-eqb (length said) 0 n, ne-eqb (t .images) mostImages k, q, e)
+
+-- ---- a part that is being filled keeps its length
+pub record Filling (old new : List ℕ) (count : ℕ) : Type 0 where
+  pub long : length new ≡ length old
+  pub few : count ≤ length new
+
+pub filling-begin : (old : List ℕ) → Filling old old 0
+filling-begin old = record { long = refl; few = omega arith }
+
+module _ {old new : List ℕ} {count : ℕ} (v : Filling old new count) (more : ℕ) (after : List ℕ) (same : length after ≡ length new) (few : more ≤ length (take (length after - count) (drop count after))) where
+  pub filling-room : count + more ≤ length after
+  filling-room = let k = simp (length-take, length-drop) at few in omega (arith, k, same, v .few)
+
+  pub filling-more : Filling old after (count + more)
+  filling-more = record { long = same ∙ v .long; few = filling-room }
+
+-- ---- so many bytes of a list
+pub part-long : {n : ℕ} (l : List ℕ) → n ≤ length l → n ≡ length (take n l)
+part-long {n} l h = rw length-take (omega arith)
+
+pub part-counts : {n : ℕ} (l : List ℕ) → n ≤ length l → Counts n l
+part-counts l h = (h, part-long l h)
+
+pub size-long : {n : ℕ} (l : List ℕ) → n < 65536 → longestSaid ≤ length l → n ≡ length (take n l)
+size-long {n} l h k = part-long l (omega arith)
+
+pub counts-before : {n : ℕ} (a b : List ℕ) → Counts n a → Counts n (a ++ b)
+counts-before {n} a b c = part-counts (a ++ b) (rw length-append (omega (arith, c .0)))
+
+-- ---- a text that bytes are put after: its room stays
+abbrev textSize : ℕ
+textSize = 80
+
+pub record Texting (bytes : List ℕ) (count : ℕ) : Type 0 where
+  pub room : length bytes ≡ textSize
+  pub few : count ≤ textSize
+
+pub text-begin : (bytes : List ℕ) {count : ℕ} → length bytes ≡ textSize → Counts count bytes → Texting bytes count
+text-begin bytes h c = record { room = h; few = omega (arith, c .0) }
+
+module _ {bytes : List ℕ} {count : ℕ} (v : Texting bytes count) where
+  pub text-more : (byte : ℕ) → count < textSize → Texting (set bytes count byte) (count + 1)
+  text-more byte h = record { room = length-set bytes count byte ∙ v .room; few = omega arith }
+
+  pub text-end : Counts count bytes
+  text-end = part-counts bytes (omega (arith, v .room, v .few))
+
+-- ---- a turn
+pub of-piece : {x : Line} (said image : List ℕ) → x ≡ lineOf said image → OfPiece x
+of-piece said image e = record { piece = record { said = said; image = image }; is = e }
+
+pub turned-stop : {t : Totals} → OfPieces t → Turned t (record { totals = t; more = false })
+turned-stop v = record { of-pieces = v; one-more = λ e. absurd (true≢false (sym e)) }
+
+counted-images : (t : Totals) (x : Line) → countedIn t x .images ≡ t .images + 1
+unfolding countedIn
+counted-images t Bad = refl
+counted-images t (Good f) = refl
+
+pub turned-on : {t : Totals} (said image : List ℕ) {next : Step} → OfPieces t → next ≡ stepOf t said image → Turned t (record { totals = next .totals; more = next .more })
+unfolding stepOf
+turned-on {t} said image v e =
+    rw e (split (eqb (length said) 0)
+    (λ z. rw z (turned-stop v))
+    (λ z.
+    split (eqb (t .images) mostImages)
+    (λ q. rw (z, q) (turned-stop v))
+    (λ q.
+    let few : t .images < mostImages = step-few v (eqb-false (t .images) mostImages q) in
+    rw (z, q) (record {
+      of-pieces = counted-more v few (of-piece said image refl) refl;
+      one-more = λ m. counted-images t (lineOf said image);
+    }))))
+
+-- ---- the loop
+pub record Reporting (said₀ image₀ said image : List ℕ) (t : Totals) : Type 0 where
+  pub said-long : length said ≡ length said₀
+  pub image-long : length image ≡ length image₀
+  pub room : longestSaid ≤ length image
+  pub of-pieces : OfPieces t
+
+pub no-pieces : OfPieces (record { images = 0; good = 0; rows = 0; classes = 0 })
+unfolding linesOf totalsOf goodOnes sum
+no-pieces = record { read = []; few = omega arith; are = refl }
+
+pub report-begin : (said image : List ℕ) → longestSaid ≤ length image → Reporting said image said image (record { images = 0; good = 0; rows = 0; classes = 0 })
+report-begin said image h = record { said-long = refl; image-long = refl; room = h; of-pieces = no-pieces }
+
+abbrev pub turnsLeft : Totals → Bool → ℕ
+turnsLeft t more = cond more (suc (mostImages - t .images)) 0
+
+pub turns-less : {t : Totals} {turn : Turn} {more : Bool} → more ≡ true → Turned t turn → turnsLeft (turn .totals) (turn .more) < turnsLeft t more
+turns-less {t} {turn} m v =
+    rw m (split (turn .more)
+    (λ e. rw e (omega (arith, v .one-more e, images-few (v .of-pieces))))
+    (λ e. rw e (omega arith)))
+
+pub ruleset rules = (needs, good-fits, rows-fit, classes-fit, counted-bad, counted-good, step-total, step-past, step-few, step-line, filling-begin, part-long, part-counts, size-long, counts-before, of-piece, text-begin, text-more, text-end, turned-stop, turned-on, report-begin, turns-less)

@@ -1,0 +1,44 @@
+use Rattle.figures.proofs.Rules.{Reporting, turnsLeft, rules}
+use Rattle.figures.proofs.report.Statement.{statement}
+use Rattle.figures.proofs.report.Tie as tie
+
+abbrev Inv-loop : tie.InvT-loop
+Inv-loop said₀ image₀ totals₀ more₀ said image totals more = Reporting said₀ image₀ said image totals
+
+abbrev μ-loop : tie.MeasureT-loop
+μ-loop said₀ image₀ totals₀ more₀ said image totals more = turnsLeft totals more
+
+loop-holds : tie.Need-loop-holds Inv-loop μ-loop
+loop-holds c = search rules
+
+take-turn-requires : tie.Need-take-turn-requires Inv-loop μ-loop
+take-turn-requires c κs = search rules
+
+loop-less : tie.Need-loop-less Inv-loop μ-loop
+loop-less c = search rules
+
+loop-again : tie.Need-loop-again Inv-loop μ-loop
+loop-again c = search rules
+
+same-length : tie.Need-same-length Inv-loop μ-loop
+same-length c = search rules
+
+same-length-2 : tie.Need-same-length-2 Inv-loop μ-loop
+same-length-2 c = search rules
+
+returns : tie.Need-returns Inv-loop μ-loop
+returns c = search rules
+
+pub report-spec : {M : Type 1} → statement M
+report-spec =
+    tie.close
+    (tie.spec
+    Inv-loop
+    μ-loop
+    loop-holds
+    take-turn-requires
+    loop-less
+    loop-again
+    same-length
+    same-length-2
+    returns)

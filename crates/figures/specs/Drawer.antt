@@ -1,0 +1,96 @@
+-- Document 02, order 6: "A program reads standard input: images of order 2, each after its length in 2 bytes, little endian." What it says of a drawer.
+use Prim.Native.Nat.{ℕ, zero, suc, _+_, _≤_}
+use mathlib.Core.Path.{_≡_}
+use mathlib.Core.Bool.{Bool, true, false, cond}
+use mathlib.Core.List.{List, [], _∷_, _++_, map}
+use lib.Dec.{eqb, ltb}
+use lib.ListN.{length, take, drop}
+use Rattle.image_figures.specs.Figures.{sum, lengthSize, sizeSaid, lineOf}
+use Rattle.image_figures.specs.declared.Figures.{Figures}
+use Rattle.image_figures.specs.declared.Line.{Line}
+use Rattle.image_figures.specs.declared.Line.the-variants.{Bad, Good}
+use Rattle.figures.specs.declared.Totals.{Totals}
+use Rattle.figures.specs.declared.Turn.{Turn}
+use Rattle.figures.specs.declared.Step.{Step}
+use Rattle.figures.specs.declared.Output.{Output}
+use Rattle.figures.specs.declared.Output.the-variants.{Image, Total, TooMany}
+
+-- ---- a drawer's pieces: of a length, and of the image after it, the bytes that are there
+pub record Piece : Type 0 where
+  pub said : List ℕ
+  pub image : List ℕ
+
+-- the piece at the start of bytes, and what comes after it: a length is believed, so after a cut-off image nothing comes
+unfoldable pub firstPiece : List ℕ → Piece
+firstPiece b = record { said = take lengthSize b; image = take (sizeSaid (take lengthSize b)) (drop lengthSize b) }
+
+unfoldable pub afterPiece : List ℕ → List ℕ
+afterPiece b = drop (lengthSize + sizeSaid (take lengthSize b)) b
+
+-- the most that 2 bytes say: a buffer of so many bytes holds the image of any piece
+abbrev pub longestSaid : ℕ
+longestSaid = 65535
+
+-- the first n pieces
+unfoldable pub pieces : ℕ → List ℕ → List Piece
+pieces zero b = []
+pieces (suc n) [] = []
+pieces (suc n) (x ∷ b) = firstPiece (x ∷ b) ∷ pieces n (afterPiece (x ∷ b))
+
+-- ---- "For each it prints a line"
+unfoldable pub linesOf : List Piece → List Line
+linesOf l = map (λ (p : Piece). lineOf (p .said) (p .image)) l
+
+-- ---- "The last line is `total` with the good images, rows and granted classes."
+unfoldable pub goodOnes : List Line → List Figures
+goodOnes [] = []
+goodOnes (Bad ∷ l) = goodOnes l
+goodOnes (Good figures ∷ l) = figures ∷ goodOnes l
+
+unfoldable pub totalsOf : List Line → Totals
+totalsOf l =
+    record {
+      images = length l;
+      good = length (goodOnes l);
+      rows = sum (map (λ (f : Figures). f .rows) (goodOnes l));
+      classes = sum (map (λ (f : Figures). f .classes) (goodOnes l));
+    }
+
+-- ---- "up to 4,096 images, bad ones counted .. Past 4,096 it prints `too many` and no total."
+abbrev pub mostImages : ℕ
+mostImages = 4096
+
+unfoldable pub isPast : List ℕ → Bool
+isPast b = ltb mostImages (length (pieces (suc mostImages) b))
+
+-- ---- what is printed of a drawer, line by line
+unfoldable pub printedOf : List ℕ → List Output
+printedOf b =
+    let lines : List Line = linesOf (pieces mostImages b) in
+    map Image lines ++ (cond (isPast b) TooMany (Total (totalsOf lines)) ∷ [])
+
+-- ---- the program's step: the totals with one line more; and what comes of a length and an image, of which these bytes are there
+unfoldable pub countedIn : Totals → Line → Totals
+countedIn t Bad = record { images = t .images + 1; good = t .good; rows = t .rows; classes = t .classes }
+countedIn t (Good f) = record { images = t .images + 1; good = t .good + 1; rows = t .rows + f .rows; classes = t .classes + f .classes }
+
+unfoldable pub stepOf : Totals → List ℕ → List ℕ → Step
+stepOf t said image =
+    cond (eqb (length said) 0) (record { totals = t; output = Total t; more = false })
+    (cond (eqb (t .images) mostImages) (record { totals = t; output = TooMany; more = false })
+    (record { totals = countedIn t (lineOf said image); output = Image (lineOf said image); more = true }))
+
+-- ---- what the program's totals are while it reads: those of some pieces, at most 4,096; and what a line is, that of a piece
+pub record OfPieces (t : Totals) : Type 0 where
+  pub read : List Piece
+  pub few : length read ≤ mostImages
+  pub are : t ≡ totalsOf (linesOf read)
+
+pub record OfPiece (x : Line) : Type 0 where
+  pub piece : Piece
+  pub is : x ≡ lineOf (piece .said) (piece .image)
+
+-- a turn of its loop: where it goes on, one piece more is counted
+pub record Turned (t : Totals) (turn : Turn) : Type 0 where
+  pub of-pieces : OfPieces (turn .totals)
+  pub one-more : turn .more ≡ true → turn .totals .images ≡ t .images + 1

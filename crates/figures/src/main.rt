@@ -1,0 +1,294 @@
+// The figures of a drawer of images: document 02, order 6. It reads standard input, and prints a line for each image and the total. docs/FIGURES.md tells
+// how the desk uses it. What is counted, and when it ends, is proved; that standard input is read and the text printed is run.
+ghost use mathlib.Core.Path.{_≡_};
+ghost use Prim.Native.Nat.{_≤_, _<_};
+ghost use lib.ListN.{length};
+ghost use Rattle.io.specs.Counts.{Counts};
+ghost use Rattle.figures.specs.Drawer.{longestSaid, mostImages, countedIn, stepOf, OfPieces, OfPiece, Turned};
+use image_figures::LENGTH_SIZE;
+use image_figures::Line;
+use libc::STDERR_FILENO;
+use libc::STDIN_FILENO;
+use libc::STDOUT_FILENO;
+
+// ---- the totals
+
+const MOST_IMAGES: u64 = 4096;
+
+struct Totals {
+    images: u64,
+    good: u64,
+    rows: u64,
+    classes: u64,
+}
+
+// What is printed: a line for each image, and the last one.
+enum Output {
+    Image(Line),
+    Total(Totals),
+    TooMany,
+}
+
+struct Step {
+    totals: Totals,
+    output: Output,
+    more: bool,
+}
+
+fn counted(totals: Totals, line: Line) -> Totals
+    requires { ⌜ OfPieces totals ⌝ }
+    requires { ⌜ totals .images < mostImages ⌝ }
+    requires { ⌜ OfPiece line ⌝ }
+    ensures { λ r. ⌜ r ≡ countedIn totals line ⌝ }
+{
+    let images = totals.images + 1;
+    match line {
+        Line::Bad => Totals {
+            images: images,
+            good: totals.good,
+            rows: totals.rows,
+            classes: totals.classes,
+        },
+        Line::Good(figures) => Totals {
+            images: images,
+            good: totals.good + 1,
+            rows: totals.rows + figures.rows,
+            classes: totals.classes + figures.classes,
+        },
+    }
+}
+
+// What comes of the bytes of a length, as many as there are, and of those after it.
+fn next_step(totals: Totals, said: &[u8], image: &[u8]) -> Step
+    requires { ⌜ OfPieces totals ⌝ }
+    ensures { λ r. ⌜ r ≡ stepOf totals (now (said .entry)) (now (image .entry)) ⌝ }
+{
+    if said.len() == 0 {
+        return Step {
+            totals: totals,
+            output: Output::Total(totals),
+            more: false,
+        };
+    }
+    if totals.images == MOST_IMAGES {
+        return Step {
+            totals: totals,
+            output: Output::TooMany,
+            more: false,
+        };
+    }
+    let line = image_figures::line_of(said, image);
+    Step {
+        totals: counted(totals, line),
+        output: Output::Image(line),
+        more: true,
+    }
+}
+
+// ---- reading
+
+struct Filled {
+    count: usize,
+    failed: bool,
+}
+
+// Reads until a part is full, the input ends or a read fails.
+fn fill(part: &mut [u8]) -> Filled
+    ensures { λ r. ⌜ Counts (r .count) (now (part .exit)) ⌝ }
+{
+    let mut count: usize = 0;
+    while count < part.len() {
+        let got = libc::read(STDIN_FILENO, &mut part[count..]);
+        let more = io::count(got, &part[count..]);
+        if more == 0 {
+            return Filled {
+                count: count,
+                failed: got < 0,
+            };
+        }
+        count += more;
+    }
+    Filled {
+        count: count,
+        failed: false,
+    }
+}
+
+// How many bytes of a length and of the image after it were there.
+struct PieceRead {
+    said: usize,
+    image: usize,
+    failed: bool,
+}
+
+fn read_piece(said: &mut [u8], image: &mut [u8]) -> PieceRead
+    requires { ⌜ longestSaid ≤ length (now image) ⌝ }
+    ensures { λ r. ⌜ Counts (r .said) (now (said .exit)) ⌝ }
+    ensures { λ r. ⌜ Counts (r .image) (now (image .exit)) ⌝ }
+{
+    let head = fill(said);
+    let there = head.count;
+    let size = image_figures::size_said(&said[..there]) as usize;
+    let rest = fill(&mut image[..size]);
+    PieceRead {
+        said: there,
+        image: rest.count,
+        failed: head.failed | rest.failed,
+    }
+}
+
+// ---- printing: each line is made in full, and written at once
+
+// `total ` and three numbers of 20 digits would have 69 bytes.
+const TEXT_SIZE: usize = 80;
+
+struct Text {
+    bytes: [u8; TEXT_SIZE],
+    length: usize,
+}
+
+fn no_text() -> Text
+    ensures { λ r. ⌜ Counts (r .length) (r .bytes) ⌝ }
+{
+    Text {
+        bytes: [0; TEXT_SIZE],
+        length: 0,
+    }
+}
+
+// The text, and after it as many bytes as there is room for, which is all of any line.
+fn with(text: Text, part: &[u8]) -> Text
+    requires { ⌜ Counts (text .length) (text .bytes) ⌝ }
+    ensures { λ r. ⌜ Counts (r .length) (r .bytes) ⌝ }
+{
+    let mut bytes = text.bytes;
+    let mut length = text.length;
+    let mut i: usize = 0;
+    while i < part.len() && length < TEXT_SIZE {
+        bytes[length] = part[i];
+        length += 1;
+        i += 1;
+    }
+    Text {
+        bytes: bytes,
+        length: length,
+    }
+}
+
+fn with_number(text: Text, number: u64) -> Text
+    requires { ⌜ Counts (text .length) (text .bytes) ⌝ }
+    ensures { λ r. ⌜ Counts (r .length) (r .bytes) ⌝ }
+{
+    let mut digits = [0u8; 20];
+    let count = io::decimal(number, &mut digits);
+    with(text, &digits[..count])
+}
+
+fn with_three(text: Text, one: u64, two: u64, three: u64) -> Text
+    requires { ⌜ Counts (text .length) (text .bytes) ⌝ }
+    ensures { λ r. ⌜ Counts (r .length) (r .bytes) ⌝ }
+{
+    let first = with(with_number(text, one), b" ");
+    let second = with(with_number(first, two), b" ");
+    with(with_number(second, three), b"\n")
+}
+
+fn text_of_line(line: Line) -> Text
+    ensures { λ r. ⌜ Counts (r .length) (r .bytes) ⌝ }
+{
+    match line {
+        Line::Bad => with(no_text(), b"bad\n"),
+        Line::Good(figures) => with_three(
+            no_text(),
+            figures.rows,
+            figures.classes,
+            figures.largest,
+        ),
+    }
+}
+
+fn text_of(output: Output) -> Text
+    ensures { λ r. ⌜ Counts (r .length) (r .bytes) ⌝ }
+{
+    match output {
+        Output::Image(line) => text_of_line(line),
+        Output::Total(totals) => with_three(
+            with(no_text(), b"total "),
+            totals.good,
+            totals.rows,
+            totals.classes,
+        ),
+        Output::TooMany => with(no_text(), b"too many\n"),
+    }
+}
+
+fn print(output: Output) -> bool {
+    let text = text_of(output);
+    let bytes = text.bytes;
+    let length = text.length;
+    io::write_all(STDOUT_FILENO, &bytes[..length])
+}
+
+// ---- the drawer
+
+struct Turn {
+    totals: Totals,
+    more: bool,
+}
+
+// Reads the next piece, and prints what comes of it.
+fn take_turn(totals: Totals, said: &mut [u8], image: &mut [u8]) -> Turn
+    requires { ⌜ OfPieces totals ⌝ }
+    requires { ⌜ longestSaid ≤ length (now image) ⌝ }
+    ensures { λ r. ⌜ Turned totals r ⌝ }
+{
+    let stopped = Turn {
+        totals: totals,
+        more: false,
+    };
+    let piece = read_piece(said, image);
+    if piece.failed {
+        os::fail(b"standard input");
+        return stopped;
+    }
+    let there = piece.said;
+    let long = piece.image;
+    let step = next_step(totals, &said[..there], &image[..long]);
+    let output = step.output;
+    if !print(output) {
+        os::fail(b"standard output");
+        return stopped;
+    }
+    let counted = step.totals;
+    Turn {
+        totals: counted,
+        more: step.more,
+    }
+}
+
+fn report(said: &mut [u8], image: &mut [u8])
+    requires { ⌜ longestSaid ≤ length (now image) ⌝ }
+{
+    let mut totals = Totals {
+        images: 0,
+        good: 0,
+        rows: 0,
+        classes: 0,
+    };
+    let mut more = true;
+    while more {
+        let turn = take_turn(totals, said, image);
+        totals = turn.totals;
+        more = turn.more;
+    }
+}
+
+fn main() {
+    if 1 < os::arg_count() {
+        io::write_all(STDERR_FILENO, b"usage: figures < DRAWER\n");
+        return;
+    }
+    let mut said = [0u8; LENGTH_SIZE];
+    let mut image = io::large_buffer();
+    report(&mut said, &mut image);
+}

@@ -1,0 +1,186 @@
+-- The laws that close the needs of this crate's functions by `search rules`: each premise is as a place's record has it.
+-- Assumes nothing.
+use Prim.Native.Nat.{ℕ, zero, suc, _+_, _-_, _*_, _/_, _%_, _^_, _<_, _≤_, max}
+use mathlib.Core.Path.{_≡_, refl, sym, ap, _∙_}
+use mathlib.Core.Bool.{Bool, true, false, cond, not, _&&_}
+use mathlib.Core.List.{List, [], _∷_, map}
+use native.Mathlib.Nat.{mod-lt, mod-eq-of-lt, pow-suc, mul-comm}
+use native.Mathlib.Numerals.{add-one}
+use native.Mathlib.Omega.{arith}
+use mir.Syntax.{w32}
+use mir.Val.{Fits}
+use borrow.Author.Needs.{needs}
+use borrow.Author.Tests.{eqb-true, eqb-false, eq-eqb, ne-eqb, le-leb, not-true, not-false}
+use lib.Arith.{mod-mul}
+use lib.Count.{ones, ones-cat, ones-ones}
+use lib.Dec.{eqb, leb}
+use lib.ListN.{length, take, drop, getD, length-map, drop-of-length-le}
+use lib.Pow.{pow-pos}
+use lib.Seq.{take-all, drop-cons}
+use Rattle.lists.specs.Lists.{select}
+use Rattle.lists.proofs.Lists.{length-select}
+use Rattle.lists.proofs.Tests.{split, and-right}
+use Rattle.rows.specs.Bytes.{numberOf, numberAt}
+use Rattle.rows.specs.Rows.{rows}
+use Rattle.rows.proofs.Rows.{rows-length}
+use Rattle.rows.proofs.Loops.{map-part, and-false}
+use Rattle.table.specs.Table.{places, freePlace}
+use Rattle.table.specs.declared.Process.{Process}
+use Rattle.claims.specs.Module.{wordGrants, unprovisioned, credentialCount}
+use Rattle.claims.specs.declared.Class.{Class}
+use Rattle.claims.specs.declared.Grants.{Grants}
+use Rattle.image.specs.Image.{savedAt, savedSize, savedNextAt, imageLong, savedFrom, keptIn, grantsIn, rowCountIn, isImage}
+use Rattle.image.proofs.Laws.{image}
+use Rattle.image_test.proofs.Rules.{rowAt, kept, saved-room}
+use Rattle.image_figures.specs.Figures.{sum as Figures·sum, largest as Figures·largest}
+use Rattle.image_figures.specs.Figures.{classCount, classesBelow, classesHeld, classesGranted, largestNext, figuresIn, lengthSize, isSaid, sizeSaid, isGood, lineOf}
+use Rattle.image_figures.specs.declared.Figures.{Figures}
+use Rattle.image_figures.specs.declared.Line.{Line}
+use Rattle.image_figures.specs.declared.Line.the-variants.{Bad, Good}
+
+-- ---- the set bits of a word are the classes that it holds
+no-bit : (bit : ℕ) → bit < 2 → eqb bit 1 ≡ false → bit ≡ 0
+no-bit bit h f = let n : bit ≡ 1 → ⊥ = eqb-false bit 1 f in omega arith
+
+module _ (word : ℕ) where
+  -- the lowest n + 1 bits are bit n above the lowest n
+  low-bits : (n : ℕ) → word % 2 ^ suc n ≡ (word / 2 ^ n % 2) * 2 ^ n + word % 2 ^ n
+  low-bits n = ap (λ (m : ℕ). word % m) (pow-suc 2 n ∙ mul-comm (2 ^ n) 2) ∙ mod-mul word (omega arith) (pow-pos n)
+
+  ones-low : (n : ℕ) → n ≤ classCount → ones (word % 2 ^ n) ≡ length (select (wordGrants word) (classesBelow n))
+  unfolding classesBelow select wordGrants
+  ones-low zero h = let e : word % 1 ≡ 0 = omega arith in rw e (ones-ones 0)
+  ones-low (suc n) h =
+      let bit : ℕ = word / 2 ^ n % 2 in
+      let low : bit < 2 = mod-lt (word / 2 ^ n) (omega arith) in
+      let k : n ≤ 31 = omega arith in
+      let e : ones (word % 2 ^ suc n) ≡ ones bit + length (select (wordGrants word) (classesBelow n)) = rw (low-bits n, ones-cat n bit (word % 2 ^ n) (mod-lt word (pow-pos n)), ones-low n (omega arith)) in
+      split (eqb bit 1)
+      (λ t. let one : bit ≡ 1 = eqb-true bit 1 t in e ∙ rw (le-leb n 31 k, t, one, ones-ones 1) (omega arith))
+      (λ f. let none : bit ≡ 0 = no-bit bit low f in e ∙ rw (le-leb n 31 k, f, none, ones-ones 0) (omega arith))
+
+  pub classes-counted : word < 2 ^ 32 → ones word ≡ classesHeld word
+  unfolding classesHeld
+  classes-counted h = ap ones (sym (mod-eq-of-lt h)) ∙ ones-low classCount (omega arith)
+
+classes-below : (n : ℕ) → length (classesBelow n) ≡ n
+unfolding classesBelow
+classes-below zero = refl
+classes-below (suc n) = ap suc (classes-below n)
+
+pub classes-few : (word : ℕ) → classesHeld word ≤ classCount
+unfolding classesHeld
+classes-few word = omega (arith, length-select (wordGrants word) (classesBelow classCount), classes-below classCount)
+
+-- ---- the sum over the credentials: the first i are in it
+pub record SummedTo (grants : List Grants) (sum i : ℕ) : Type 0 where
+  pub long : length grants ≡ credentialCount
+  pub few : sum ≤ i * classCount
+  pub rest : classesGranted grants ≡ sum + classesGranted (drop i grants)
+
+pub sum-begin : (grants : List Grants) → length grants ≡ credentialCount → SummedTo grants 0 0
+sum-begin grants h = record { long = h; few = omega arith; rest = omega arith }
+
+module _ {grants : List Grants} {sum i : ℕ} (v : SummedTo grants sum i) where
+  module _ (h : i < credentialCount) {held : ℕ} (e : held ≡ classesHeld (getD grants i unprovisioned .word)) where
+    with-held : sum + held ≤ (i + 1) * classCount
+    with-held = let k : held ≤ classCount = rw e (classes-few (getD grants i unprovisioned .word)) in omega (arith, v .few)
+
+    pub sum-fits : Fits w32 (sum + held)
+    sum-fits = let k : sum + held ≤ credentialCount * classCount = omega (arith, with-held) in omega arith
+
+    pub sum-next : SummedTo grants (sum + held) (i + 1)
+    unfolding classesGranted Figures·sum
+    sum-next =
+        record {
+          long = v .long;
+          few = with-held;
+          rest = v .rest ∙ rw (drop-cons grants i unprovisioned (rw (v .long) h), add-one, e) (omega arith);
+        }
+
+  pub sum-done : credentialCount ≤ i → sum ≡ classesGranted grants
+  unfolding classesGranted Figures·sum
+  sum-done h = let k : length grants ≤ i = rw (v .long) h in sym (v .rest ∙ rw (drop-of-length-le grants k) (omega arith))
+
+-- ---- the largest next number: that of the first i rows
+pub record LargestTo (b : List ℕ) (n largest i : ℕ) : Type 0 where
+  pub low : i ≤ n
+  pub rest : largestNext (kept b n) ≡ max largest (largestNext (drop i (kept b n)))
+
+pub largest-begin : (b : List ℕ) (n : ℕ) → LargestTo b n 0 0
+largest-begin b n = record { low = omega arith; rest = omega arith }
+
+module _ {b : List ℕ} {n largest i : ℕ} (v : LargestTo b n largest i) where
+  module _ (h : i < n) {next : ℕ} (e : next ≡ numberAt 2 savedNextAt (rowAt b i)) where
+    with-next : largestNext (kept b n) ≡ max largest (max next (largestNext (drop (i + 1) (kept b n))))
+    unfolding largestNext Figures·largest savedFrom
+    with-next = v .rest ∙ rw (drop-cons (kept b n) i freePlace (rw (length-map, rows-length) h), map-part savedFrom n savedSize savedAt b i freePlace h, add-one, e) refl
+
+    pub larger-next : {now : ℕ} → largest < next → now ≡ next → LargestTo b n now (i + 1)
+    larger-next k q = record { low = omega arith; rest = omega (arith, with-next) }
+
+    pub larger-before : {now : ℕ} → next ≤ largest → now ≡ largest → LargestTo b n now (i + 1)
+    larger-before k q = record { low = omega arith; rest = omega (arith, with-next) }
+
+  pub largest-done : n ≤ i → largest ≡ largestNext (kept b n)
+  unfolding largestNext Figures·largest
+  largest-done h = let k : length (kept b n) ≤ i = rw (length-map, rows-length) h in sym (v .rest ∙ rw (drop-of-length-le (kept b n) k) (omega arith))
+
+-- ---- the three figures
+module _ (b : List ℕ) (t : isImage b ≡ true) {n : ℕ} (e : n ≡ rowCountIn b) where
+  pub figures-few : n ≤ places
+  figures-few = rw e (image b t .few)
+
+  pub figures-long : length b ≡ imageLong n
+  figures-long = rw e (image b t .long)
+
+  pub figures-all : {grants : List Grants} {classes largest : ℕ} → grants ≡ grantsIn b → classes ≡ classesGranted grants → largest ≡ largestNext (kept b n)
+      → {figures : Figures} → figures ≡ record { rows = n; classes = classes; largest = largest } → figures ≡ figuresIn b
+  unfolding figuresIn keptIn
+  figures-all f g h q = q ∙ rw (h, g, f, e)
+
+-- ---- the length, and the line
+no-bytes : (b : List ℕ) → length b ≡ 0 → isImage b ≡ false
+unfolding isImage imageLong rowCountIn numberAt numberOf
+no-bytes [] e = refl
+no-bytes (x ∷ b) e = absurd (omega arith)
+
+module _ (said : List ℕ) where
+  pub size-none : (length said ≡ lengthSize → ⊥) → 0 ≡ sizeSaid said
+  unfolding sizeSaid isSaid
+  size-none n = rw (ne-eqb (length said) lengthSize n)
+
+  pub size-whole : {size : ℕ} → length said ≡ lengthSize → size ≡ numberAt 2 0 said → size ≡ sizeSaid said
+  unfolding sizeSaid isSaid numberAt
+  size-whole h e = rw (eq-eqb (length said) lengthSize h, e, take-all 2 said (omega arith))
+
+  module _ (image : List ℕ) where
+    pub good-cut : {size : ℕ} → size ≡ sizeSaid said → (length image ≡ size → ⊥) → false ≡ isGood said image
+    unfolding isGood
+    good-cut e n = rw (ne-eqb (length image) (sizeSaid said) (rw e at n), and-false (isSaid said))
+
+    good-lone : isSaid said ≡ false → length image ≡ sizeSaid said → isImage image ≡ false
+    unfolding sizeSaid
+    good-lone f e = no-bytes image (rw f at e)
+
+    pub good-image : {size : ℕ} {t : Bool} → size ≡ sizeSaid said → length image ≡ size → t ≡ isImage image → t ≡ isGood said image
+    unfolding isGood
+    good-image e k f =
+        f ∙ split (isSaid said)
+        (λ s. rw (s, eq-eqb (length image) (sizeSaid said) (k ∙ e)))
+        (λ s. rw s (good-lone s (k ∙ e)))
+
+    module _ {good : Bool} (e : good ≡ isGood said image) where
+      pub line-bad : not good ≡ true → Bad ≡ lineOf said image
+      unfolding lineOf
+      line-bad n = rw (← e, not-true good n)
+
+      pub good-is : not good ≡ false → isImage image ≡ true
+      unfolding isGood
+      good-is n = and-right (eqb (length image) (sizeSaid said)) (isImage image) (and-right (isSaid said) _ (sym e ∙ not-false good n))
+
+      pub line-good : not good ≡ false → {figures : Figures} → figures ≡ figuresIn image → Good figures ≡ lineOf said image
+      unfolding lineOf
+      line-good n g = rw (← e, not-false good n, g)
+
+pub ruleset rules = (needs, classes-counted, sum-begin, sum-fits, sum-next, sum-done, largest-begin, larger-next, larger-before, largest-done, saved-room, figures-few, figures-long, figures-all, size-none, size-whole, good-cut, good-image, line-bad, good-is, line-good)
