@@ -1,10 +1,9 @@
 -- The laws that close the needs of this crate's functions by `search rules`: each premise is as a place's record has it.
 -- Assumes nothing.
-use Prim.Native.Nat.{ℕ, zero, suc, _+_, _-_, _*_, _<_, _≤_}
+use Prim.Native.Nat.{ℕ, suc, _+_, _-_, _*_, _<_, _≤_}
 use mathlib.Core.Path.{_≡_, refl, sym, ap, _∙_}
 use mathlib.Core.Bool.{Bool, true, false, cond, true≢false}
 use mathlib.Core.List.{List, [], _∷_, _++_, map, append-nil}
-use native.Mathlib.Numerals.{add-one}
 use native.Mathlib.Omega.{arith}
 use mir.Syntax.{w64}
 use mir.Val.{Fits}
@@ -22,11 +21,10 @@ use Rattle.image_figures.specs.declared.Figures.{Figures}
 use Rattle.image_figures.specs.declared.Line.{Line}
 use Rattle.image_figures.specs.declared.Line.the-variants.{Bad, Good}
 use Rattle.image_figures.proofs.Laws.{Small, SmallLine, line-small}
-use Rattle.figures.specs.Drawer.{Piece, longestSaid, linesOf, goodOnes, totalsOf, mostImages, countedIn, stepOf, OfPieces, OfPiece, Turned}
+use Rattle.figures.specs.Drawer.{Piece, longestSaid, linesOf, goodOnes, totalsOf, mostImages, stepOf, Stepped, Counted, OfPieces, OfPiece, Turned}
 use Rattle.figures.specs.declared.Totals.{Totals}
 use Rattle.figures.specs.declared.Turn.{Turn}
 use Rattle.figures.specs.declared.Step.{Step}
-use Rattle.figures.specs.declared.Output.{Output}
 use Rattle.figures.specs.declared.Output.the-variants.{Image, Total, TooMany}
 
 -- ---- the totals with one line more
@@ -41,14 +39,21 @@ good-append [] b = refl
 good-append (Bad ∷ a) b = good-append a b
 good-append (Good f ∷ a) b = ap (λ (l : List Figures). f ∷ l) (good-append a b)
 
-pub totals-more : (l : List Line) (x : Line) → totalsOf (l ++ (x ∷ [])) ≡ countedIn (totalsOf l) x
-unfolding totalsOf countedIn goodOnes
-totals-more l Bad =
+totals-bad : (l : List Line) → _≡_ {A = Totals} (record { images = totalsOf l .images + 1; good = totalsOf l .good; rows = totalsOf l .rows; classes = totalsOf l .classes }) (totalsOf (l ++ (Bad ∷ [])))
+unfolding totalsOf goodOnes
+totals-bad l =
     let e : goodOnes (l ++ (Bad ∷ [])) ≡ goodOnes l = good-append l (Bad ∷ []) ∙ append-nil (goodOnes l) in
     rw (length-append l (Bad ∷ []), e)
-totals-more l (Good f) =
+
+totals-good : (l : List Line) (f : Figures) → _≡_ {A = Totals} (record { images = totalsOf l .images + 1; good = totalsOf l .good + 1; rows = totalsOf l .rows + f .rows; classes = totalsOf l .classes + f .classes }) (totalsOf (l ++ (Good f ∷ [])))
+unfolding totalsOf goodOnes
+totals-good l f =
     let e : goodOnes (l ++ (Good f ∷ [])) ≡ goodOnes l ++ (f ∷ []) = good-append l (Good f ∷ []) in
     rw (length-append l (Good f ∷ []), e, length-append (goodOnes l) (f ∷ []), sum-more (λ (f : Figures). f .rows) (goodOnes l) f, sum-more (λ (f : Figures). f .classes) (goodOnes l) f)
+
+images-of : (l : List Line) → totalsOf l .images ≡ length l
+unfolding totalsOf
+images-of l = refl
 
 -- ---- how large they are
 pub record Bounded (t : Totals) : Type 0 where
@@ -91,43 +96,34 @@ module _ {t : Totals} (v : OfPieces t) where
       pub classes-fit : Fits w64 (t .classes + f .classes)
       classes-fit = omega (arith, bounds .classes, small .classes-few)
 
-    pub counted-more : {x : Line} → OfPiece x → {u : Totals} → u ≡ countedIn t x → OfPieces u
-    unfolding linesOf
-    counted-more is e =
-        record {
-          read = v .read ++ (is .piece ∷ []);
-          few = rw (length-append (v .read) (is .piece ∷ [])) (omega (arith, images-are));
-          are = e ∙ rw (v .are, is .is) (sym (totals-more (linesOf (v .read)) (lineOf (is .piece .said) (is .piece .image)))) ∙ ap totalsOf (sym (map-append (λ (p : Piece). lineOf (p .said) (p .image)) (v .read) (is .piece ∷ [])));
-        }
-
 -- ---- the two steps
 module _ (t : Totals) {x : Line} where
-  pub counted-bad : x ≡ Bad → _≡_ {A = Totals} (record { images = t .images + 1; good = t .good; rows = t .rows; classes = t .classes }) (countedIn t x)
-  unfolding countedIn
-  counted-bad e = rw e
+  pub counted-bad : x ≡ Bad → Counted t x (record { images = t .images + 1; good = t .good; rows = t .rows; classes = t .classes })
+  counted-bad e = record { after = λ l h. rw (h, e) (totals-bad l) }
 
-  pub counted-good : {f : Figures} → x ≡ Good f
-      → _≡_ {A = Totals} (record { images = t .images + 1; good = t .good + 1; rows = t .rows + f .rows; classes = t .classes + f .classes }) (countedIn t x)
-  unfolding countedIn
-  counted-good e = rw e
+  pub counted-good : {f : Figures} → x ≡ Good f → Counted t x (record { images = t .images + 1; good = t .good + 1; rows = t .rows + f .rows; classes = t .classes + f .classes })
+  counted-good {f} e = record { after = λ l h. rw (h, e) (totals-good l f) }
 
 pub step-few : {t : Totals} → OfPieces t → (t .images ≡ mostImages → ⊥) → t .images < mostImages
 step-few v k = omega (arith, k, images-few v)
 
 module _ (t : Totals) (said image : List ℕ) where
-  pub step-total : length said ≡ 0 → _≡_ {A = Step} (record { totals = t; output = Total t; more = false }) (stepOf t said image)
+  lines-so-far : (l : List Line) → t ≡ totalsOf l → t .images ≡ length l
+  lines-so-far l h = ap (λ (u : Totals). u .images) h ∙ images-of l
+
+  pub step-total : length said ≡ 0 → Stepped t said image (record { totals = t; output = Total t; more = false })
   unfolding stepOf
-  step-total e = rw e
+  step-total e = record { after = λ l h. rw (h, e) }
 
   module _ (n : length said ≡ 0 → ⊥) where
-    pub step-past : t .images ≡ mostImages → _≡_ {A = Step} (record { totals = t; output = TooMany; more = false }) (stepOf t said image)
+    pub step-past : t .images ≡ mostImages → Stepped t said image (record { totals = t; output = TooMany; more = false })
     unfolding stepOf
-    step-past e = rw (ne-eqb (length said) 0 n, e)
+    step-past e = record { after = λ l h. rw (h, ne-eqb (length said) 0 n, eq-eqb (length l) mostImages (sym (lines-so-far l h) ∙ e)) }
 
     module _ (k : t .images ≡ mostImages → ⊥) where
-      pub step-line : {x : Line} {u : Totals} → x ≡ lineOf said image → u ≡ countedIn t x → _≡_ {A = Step} (record { totals = u; output = Image x; more = true }) (stepOf t said image)
+      pub step-line : {x : Line} {u : Totals} → x ≡ lineOf said image → Counted t x u → Stepped t said image (record { totals = u; output = Image x; more = true })
       unfolding stepOf
-      step-line e q = rw (ne-eqb (length said) 0 n, ne-eqb (t .images) mostImages k, q, e)
+      step-line e c = record { after = λ l h. rw (ne-eqb (length said) 0 n, ne-eqb (length l) mostImages (λ q. k (lines-so-far l h ∙ q)), c .after l h, e) }
 
 -- ---- a part that is being filled keeps its length
 pub record Filling (old new : List ℕ) (count : ℕ) : Type 0 where
@@ -182,24 +178,30 @@ of-piece said image e = record { piece = record { said = said; image = image }; 
 pub turned-stop : {t : Totals} → OfPieces t → Turned t (record { totals = t; more = false })
 turned-stop v = record { of-pieces = v; one-more = λ e. absurd (true≢false (sym e)) }
 
-counted-images : (t : Totals) (x : Line) → countedIn t x .images ≡ t .images + 1
-unfolding countedIn
-counted-images t Bad = refl
-counted-images t (Good f) = refl
+pieces-more : (l : List Piece) (p : Piece) → length l < mostImages → OfPieces (totalsOf (linesOf l ++ (lineOf (p .said) (p .image) ∷ [])))
+unfolding linesOf
+pieces-more l p few =
+    record {
+      read = l ++ (p ∷ []);
+      few = rw (length-append l (p ∷ [])) (omega arith);
+      are = ap totalsOf (sym (map-append (λ (p : Piece). lineOf (p .said) (p .image)) l (p ∷ [])));
+    }
 
-pub turned-on : {t : Totals} (said image : List ℕ) {next : Step} → OfPieces t → next ≡ stepOf t said image → Turned t (record { totals = next .totals; more = next .more })
+pub turned-on : {t : Totals} (said image : List ℕ) {next : Step} → OfPieces t → Stepped t said image next → Turned t (record { totals = next .totals; more = next .more })
 unfolding stepOf
-turned-on {t} said image v e =
-    rw e (split (eqb (length said) 0)
-    (λ z. rw z (turned-stop v))
+turned-on {t} said image v s =
+    let lines : List Line = linesOf (v .read) in
+    let so-far : length (v .read) ≡ length lines = images-are v ∙ ap (λ (u : Totals). u .images) (v .are) ∙ images-of lines in
+    rw (s .after lines (v .are)) (split (eqb (length said) 0)
+    (λ z. rw (z, ← v .are) (turned-stop v))
     (λ z.
-    split (eqb (t .images) mostImages)
-    (λ q. rw (z, q) (turned-stop v))
+    split (eqb (length lines) mostImages)
+    (λ q. rw (z, q, ← v .are) (turned-stop v))
     (λ q.
-    let few : t .images < mostImages = step-few v (eqb-false (t .images) mostImages q) in
+    let n = eqb-false (length lines) mostImages q in
     rw (z, q) (record {
-      of-pieces = counted-more v few (of-piece said image refl) refl;
-      one-more = λ m. counted-images t (lineOf said image);
+      of-pieces = pieces-more (v .read) (record { said = said; image = image }) (omega (arith, n, so-far, v .few));
+      one-more = λ m. images-of (lines ++ (lineOf said image ∷ [])) ∙ length-append lines (lineOf said image ∷ []) ∙ omega (arith, so-far, images-are v);
     }))))
 
 -- ---- the loop

@@ -69,16 +69,19 @@ printedOf b =
     let lines : List Line = linesOf (pieces mostImages b) in
     map Image lines ++ (cond (isPast b) TooMany (Total (totalsOf lines)) ∷ [])
 
--- ---- the program's step: the totals with one line more; and what comes of a length and an image, of which these bytes are there
-unfoldable pub countedIn : Totals → Line → Totals
-countedIn t Bad = record { images = t .images + 1; good = t .good; rows = t .rows; classes = t .classes }
-countedIn t (Good f) = record { images = t .images + 1; good = t .good + 1; rows = t .rows + f .rows; classes = t .classes + f .classes }
+-- ---- the program's step: after these lines, what comes of a length and an image of which these bytes are there
+unfoldable pub stepOf : List Line → List ℕ → List ℕ → Step
+stepOf lines said image =
+    cond (eqb (length said) 0) (record { totals = totalsOf lines; output = Total (totalsOf lines); more = false })
+    (cond (eqb (length lines) mostImages) (record { totals = totalsOf lines; output = TooMany; more = false })
+    (record { totals = totalsOf (lines ++ (lineOf said image ∷ [])); output = Image (lineOf said image); more = true }))
 
-unfoldable pub stepOf : Totals → List ℕ → List ℕ → Step
-stepOf t said image =
-    cond (eqb (length said) 0) (record { totals = t; output = Total t; more = false })
-    (cond (eqb (t .images) mostImages) (record { totals = t; output = TooMany; more = false })
-    (record { totals = countedIn t (lineOf said image); output = Image (lineOf said image); more = true }))
+-- it has the totals of these lines alone, whatever lines they are; and so has what counts one more
+pub record Stepped (t : Totals) (said image : List ℕ) (next : Step) : Type 0 where
+  pub after : (lines : List Line) → t ≡ totalsOf lines → next ≡ stepOf lines said image
+
+pub record Counted (t : Totals) (line : Line) (next : Totals) : Type 0 where
+  pub after : (lines : List Line) → t ≡ totalsOf lines → next ≡ totalsOf (lines ++ (line ∷ []))
 
 -- ---- what the program's totals are while it reads: those of some pieces, at most 4,096; and what a line is, that of a piece
 pub record OfPieces (t : Totals) : Type 0 where

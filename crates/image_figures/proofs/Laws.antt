@@ -1,8 +1,8 @@
 -- How large the figures of a line can be; and of a good image's words those of provisioned credentials alone count.
 -- Assumes nothing.
 use Prim.Native.Nat.{ℕ, _+_, _*_, _≤_}
-use mathlib.Core.Path.{_≡_, refl, sym, ap, _∙_}
-use mathlib.Core.Bool.{Bool, true, false, _&&_, _||_}
+use mathlib.Core.Path.{_≡_, refl, ap, _∙_}
+use mathlib.Core.Bool.{Bool, true}
 use mathlib.Core.List.{List, [], _∷_}
 use native.Mathlib.Omega.{arith}
 use borrow.Author.Tests.{eqb-true}
@@ -23,7 +23,7 @@ use Rattle.image_figures.specs.Figures.{sum, classCount, classesBelow, c
 use Rattle.image_figures.specs.declared.Figures.{Figures}
 use Rattle.image_figures.specs.declared.Line.{Line}
 use Rattle.image_figures.specs.declared.Line.the-variants.{Bad, Good}
-use Rattle.image_figures.proofs.Rules.{classes-few}
+use Rattle.image_figures.proofs.Classes.{classes-few}
 
 -- ---- how large the figures are
 grants-eight : (b : List ℕ) → length (grantsIn b) ≡ credentialCount

@@ -1,76 +1,34 @@
 -- The laws that close the needs of this crate's functions by `search rules`: each premise is as a place's record has it.
 -- Assumes nothing.
-use Prim.Native.Nat.{ℕ, zero, suc, _+_, _-_, _*_, _/_, _%_, _^_, _<_, _≤_, max}
-use mathlib.Core.Path.{_≡_, refl, sym, ap, _∙_}
-use mathlib.Core.Bool.{Bool, true, false, cond, not, _&&_}
-use mathlib.Core.List.{List, [], _∷_, map}
-use native.Mathlib.Nat.{mod-lt, mod-eq-of-lt, pow-suc, mul-comm}
+use Prim.Native.Nat.{ℕ, _+_, _*_, _<_, _≤_, max}
+use mathlib.Core.Path.{_≡_, refl, sym, _∙_}
+use mathlib.Core.Bool.{Bool, true, false, not}
+use mathlib.Core.List.{List, [], _∷_}
 use native.Mathlib.Numerals.{add-one}
 use native.Mathlib.Omega.{arith}
 use mir.Syntax.{w32}
 use mir.Val.{Fits}
 use borrow.Author.Needs.{needs}
-use borrow.Author.Tests.{eqb-true, eqb-false, eq-eqb, ne-eqb, le-leb, not-true, not-false}
-use lib.Arith.{mod-mul}
-use lib.Count.{ones, ones-cat, ones-ones}
-use lib.Dec.{eqb, leb}
-use lib.ListN.{length, take, drop, getD, length-map, drop-of-length-le}
-use lib.Pow.{pow-pos}
+use borrow.Author.Tests.{eq-eqb, ne-eqb, not-true, not-false}
+use lib.Dec.{eqb}
+use lib.ListN.{length, drop, getD, length-map, drop-of-length-le}
 use lib.Seq.{take-all, drop-cons}
-use Rattle.lists.specs.Lists.{select}
-use Rattle.lists.proofs.Lists.{length-select}
 use Rattle.lists.proofs.Tests.{split, and-right}
 use Rattle.rows.specs.Bytes.{numberOf, numberAt}
 use Rattle.rows.specs.Rows.{rows}
 use Rattle.rows.proofs.Rows.{rows-length}
 use Rattle.rows.proofs.Loops.{map-part, and-false}
 use Rattle.table.specs.Table.{places, freePlace}
-use Rattle.table.specs.declared.Process.{Process}
-use Rattle.claims.specs.Module.{wordGrants, unprovisioned, credentialCount}
-use Rattle.claims.specs.declared.Class.{Class}
+use Rattle.claims.specs.Module.{unprovisioned, credentialCount}
 use Rattle.claims.specs.declared.Grants.{Grants}
 use Rattle.image.specs.Image.{savedAt, savedSize, savedNextAt, imageLong, savedFrom, keptIn, grantsIn, rowCountIn, isImage}
 use Rattle.image.proofs.Laws.{image}
+use Rattle.image_figures.proofs.Classes.{classes-counted, classes-few}
 use Rattle.image_test.proofs.Rules.{rowAt, kept, saved-room}
 use Rattle.image_figures.specs.Figures.{sum as Figures·sum, largest as Figures·largest}
-use Rattle.image_figures.specs.Figures.{classCount, classesBelow, classesHeld, classesGranted, largestNext, figuresIn, lengthSize, isSaid, sizeSaid, isGood, lineOf}
+use Rattle.image_figures.specs.Figures.{classCount, classesHeld, classesGranted, largestNext, figuresIn, lengthSize, isSaid, sizeSaid, isGood, lineOf}
 use Rattle.image_figures.specs.declared.Figures.{Figures}
-use Rattle.image_figures.specs.declared.Line.{Line}
 use Rattle.image_figures.specs.declared.Line.the-variants.{Bad, Good}
-
--- ---- the set bits of a word are the classes that it holds
-no-bit : (bit : ℕ) → bit < 2 → eqb bit 1 ≡ false → bit ≡ 0
-no-bit bit h f = let n : bit ≡ 1 → ⊥ = eqb-false bit 1 f in omega arith
-
-module _ (word : ℕ) where
-  -- the lowest n + 1 bits are bit n above the lowest n
-  low-bits : (n : ℕ) → word % 2 ^ suc n ≡ (word / 2 ^ n % 2) * 2 ^ n + word % 2 ^ n
-  low-bits n = ap (λ (m : ℕ). word % m) (pow-suc 2 n ∙ mul-comm (2 ^ n) 2) ∙ mod-mul word (omega arith) (pow-pos n)
-
-  ones-low : (n : ℕ) → n ≤ classCount → ones (word % 2 ^ n) ≡ length (select (wordGrants word) (classesBelow n))
-  unfolding classesBelow select wordGrants
-  ones-low zero h = let e : word % 1 ≡ 0 = omega arith in rw e (ones-ones 0)
-  ones-low (suc n) h =
-      let bit : ℕ = word / 2 ^ n % 2 in
-      let low : bit < 2 = mod-lt (word / 2 ^ n) (omega arith) in
-      let k : n ≤ 31 = omega arith in
-      let e : ones (word % 2 ^ suc n) ≡ ones bit + length (select (wordGrants word) (classesBelow n)) = rw (low-bits n, ones-cat n bit (word % 2 ^ n) (mod-lt word (pow-pos n)), ones-low n (omega arith)) in
-      split (eqb bit 1)
-      (λ t. let one : bit ≡ 1 = eqb-true bit 1 t in e ∙ rw (le-leb n 31 k, t, one, ones-ones 1) (omega arith))
-      (λ f. let none : bit ≡ 0 = no-bit bit low f in e ∙ rw (le-leb n 31 k, f, none, ones-ones 0) (omega arith))
-
-  pub classes-counted : word < 2 ^ 32 → ones word ≡ classesHeld word
-  unfolding classesHeld
-  classes-counted h = ap ones (sym (mod-eq-of-lt h)) ∙ ones-low classCount (omega arith)
-
-classes-below : (n : ℕ) → length (classesBelow n) ≡ n
-unfolding classesBelow
-classes-below zero = refl
-classes-below (suc n) = ap suc (classes-below n)
-
-pub classes-few : (word : ℕ) → classesHeld word ≤ classCount
-unfolding classesHeld
-classes-few word = omega (arith, length-select (wordGrants word) (classesBelow classCount), classes-below classCount)
 
 -- ---- the sum over the credentials: the first i are in it
 pub record SummedTo (grants : List Grants) (sum i : ℕ) : Type 0 where
