@@ -13,7 +13,7 @@ use Rattle.claims.specs.Module.{provisioned, wordGrants}
 use Rattle.image.specs.Image.{imageLong, numbersIn, maskIn, rowCountIn, grantsSaid, grantsIn, savedFrom, keptIn, restored, headFits, wordFits, isKeepable, differ, isImage}
 use Rattle.image_figures.specs.Figures.{sum, largest, classesBelow, classesHeld, classesGranted, largestNext, figuresIn, isSaid, sizeSaid, isGood, lineOf}
 use Rattle.image_figures.specs.declared.Line.the-variants.{Bad, Good}
-use Rattle.figures.specs.Drawer.{firstPiece, afterPiece, pieces, linesOf, goodOnes, totalsOf, isPast, printedOf}
+use Rattle.figures.specs.Drawer.{firstPiece, afterPiece, firstPieces, linesOf, goodOnes, totalsOf, isPast, printedOf}
 use Rattle.figures.specs.declared.Output.{Output}
 use Rattle.figures.specs.declared.Output.the-variants.{Image, Total}
 
@@ -58,7 +58,7 @@ pub record Drawers : Type 0 where
   pub cut-reaches : printedOf (0 ∷ 1 ∷ (take 41 plain ++ (42 ∷ 0 ∷ plain))) ≡ bad ∷ total 1 0 0 0 ∷ []
 
 pub drawers : Drawers
-unfolding printedOf pieces firstPiece afterPiece linesOf goodOnes totalsOf isPast sum largest classesBelow classesHeld classesGranted largestNext figuresIn isSaid sizeSaid isGood lineOf isImage imageLong numbersIn maskIn rowCountIn grantsSaid grantsIn savedFrom keptIn restored headFits wordFits isKeepable differ provisioned wordGrants tableOf padded select every pairwise rows numberOf numberAt sameBytes sameName
+unfolding printedOf firstPieces firstPiece afterPiece linesOf goodOnes totalsOf isPast sum largest classesBelow classesHeld classesGranted largestNext figuresIn isSaid sizeSaid isGood lineOf isImage imageLong numbersIn maskIn rowCountIn grantsSaid grantsIn savedFrom keptIn restored headFits wordFits isKeepable differ provisioned wordGrants tableOf padded select every pairwise rows numberOf numberAt sameBytes sameName
 drawers =
     record {
       one-image = refl;

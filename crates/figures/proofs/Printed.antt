@@ -11,7 +11,7 @@ use lib.ListN.{length, take, length-append}
 use Rattle.lists.proofs.Tests.{split}
 use Rattle.image_figures.specs.Figures.{lineOf}
 use Rattle.image_figures.specs.declared.Line.{Line}
-use Rattle.figures.specs.Drawer.{firstPiece, afterPiece, pieces, linesOf, totalsOf, mostImages, isPast, printedOf, stepOf, Stepped, Counted, OfPieces}
+use Rattle.figures.specs.Drawer.{firstPiece, afterPiece, firstPieces, linesOf, totalsOf, mostImages, isPast, printedOf, stepOf, Stepped, Counted, OfPieces}
 use Rattle.figures.specs.declared.Totals.{Totals}
 use Rattle.figures.specs.declared.Step.{Step}
 use Rattle.figures.specs.declared.Output.{Output}
@@ -28,8 +28,8 @@ run (suc n) lines b =
 line-of : List ℕ → Line
 line-of b = lineOf (firstPiece b .said) (firstPiece b .image)
 
-pieces-none : (n : ℕ) → pieces n [] ≡ []
-unfolding pieces
+pieces-none : (n : ℕ) → firstPieces n [] ≡ []
+unfolding firstPieces
 pieces-none zero = refl
 pieces-none (suc n) = refl
 
@@ -60,27 +60,27 @@ module _ (l : List Line) where
 
 -- ---- what is left to print, after some lines
 left : ℕ → List Line → List ℕ → List Output
-left n l b = map Image (linesOf (pieces n b)) ++ (cond (ltb n (length (pieces (suc n) b))) TooMany (Total (totalsOf (l ++ linesOf (pieces n b)))) ∷ [])
+left n l b = map Image (linesOf (firstPieces n b)) ++ (cond (ltb n (length (firstPieces (suc n) b))) TooMany (Total (totalsOf (l ++ linesOf (firstPieces n b)))) ∷ [])
 
 Left : ℕ → Type 0
 Left n = (l : List Line) (b : List ℕ) → length l + n ≡ mostImages → run (suc n) l b ≡ left n l b
 
 left-none : (n : ℕ) (l : List Line) → run (suc n) l [] ≡ left n l []
-unfolding run left linesOf pieces
+unfolding run left linesOf firstPieces
 left-none n l = let none : ltb n 0 ≡ false = le-ltb n 0 (omega arith) in rw (step-none l, pieces-none n, none, append-nil l)
 
 left-zero : Left zero
-unfolding Left run left linesOf pieces
+unfolding Left run left linesOf firstPieces
 left-zero l [] h = left-none zero l
 left-zero l (x ∷ b) h = rw (step-past l x b (omega arith)) refl
 
 left-more : (n : ℕ) → Left n → Left (suc n)
-unfolding Left run left linesOf pieces line-of
+unfolding Left run left linesOf firstPieces line-of
 left-more n rest l [] h = left-none (suc n) l
 left-more n rest l (x ∷ b) h =
     let few : length l ≡ mostImages → ⊥ = λ e. omega (arith, h, e) in
     let later = rest (l ++ (line-of (x ∷ b) ∷ [])) (afterPiece (x ∷ b)) (rw length-append (omega arith)) in
-    rw (step-line l x b few, later, append-assoc l (line-of (x ∷ b) ∷ []) (linesOf (pieces n (afterPiece (x ∷ b)))), ltb-suc n (length (pieces (suc n) (afterPiece (x ∷ b)))))
+    rw (step-line l x b few, later, append-assoc l (line-of (x ∷ b) ∷ []) (linesOf (firstPieces n (afterPiece (x ∷ b)))), ltb-suc n (length (firstPieces (suc n) (afterPiece (x ∷ b)))))
 
 left-is : (n : ℕ) → Left n
 left-is zero = left-zero

@@ -32,10 +32,10 @@ abbrev pub longestSaid : ℕ
 longestSaid = 65535
 
 -- the first n pieces
-unfoldable pub pieces : ℕ → List ℕ → List Piece
-pieces zero b = []
-pieces (suc n) [] = []
-pieces (suc n) (x ∷ b) = firstPiece (x ∷ b) ∷ pieces n (afterPiece (x ∷ b))
+unfoldable pub firstPieces : ℕ → List ℕ → List Piece
+firstPieces zero b = []
+firstPieces (suc n) [] = []
+firstPieces (suc n) (x ∷ b) = firstPiece (x ∷ b) ∷ firstPieces n (afterPiece (x ∷ b))
 
 -- ---- "For each it prints a line"
 unfoldable pub linesOf : List Piece → List Line
@@ -61,12 +61,12 @@ abbrev pub mostImages : ℕ
 mostImages = 4096
 
 unfoldable pub isPast : List ℕ → Bool
-isPast b = ltb mostImages (length (pieces (suc mostImages) b))
+isPast b = ltb mostImages (length (firstPieces (suc mostImages) b))
 
 -- ---- what is printed of a drawer, line by line
 unfoldable pub printedOf : List ℕ → List Output
 printedOf b =
-    let lines : List Line = linesOf (pieces mostImages b) in
+    let lines : List Line = linesOf (firstPieces mostImages b) in
     map Image lines ++ (cond (isPast b) TooMany (Total (totalsOf lines)) ∷ [])
 
 -- ---- the program's step: after these lines, what comes of a length and an image of which these bytes are there
