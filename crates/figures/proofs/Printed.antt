@@ -11,7 +11,7 @@ use lib.ListN.{length, take, length-append}
 use Rattle.lists.proofs.Tests.{split}
 use Rattle.image_figures.specs.Figures.{lineOf}
 use Rattle.image_figures.specs.declared.Line.{Line}
-use Rattle.figures.specs.Drawer.{firstPiece, afterPiece, firstPieces, linesOf, totalsOf, mostImages, isPast, printedOf, stepOf, Stepped, Counted, OfPieces}
+use Rattle.figures.specs.Drawer.{firstPiece, afterPiece, firstPieces, linesOf, totalsOf, totalsWith, mostImages, isPast, printedOf, stepOf, After, OfPieces}
 use Rattle.figures.specs.declared.Totals.{Totals}
 use Rattle.figures.specs.declared.Step.{Step}
 use Rattle.figures.specs.declared.Output.{Output}
@@ -21,7 +21,7 @@ use Rattle.figures.specs.declared.Output.the-variants.{Image, Total, Too
 pub run : ℕ → List Line → List ℕ → List Output
 run zero lines b = []
 run (suc n) lines b =
-    let next : Step = stepOf lines (firstPiece b .said) (firstPiece b .image) in
+    let next : Step = stepOf (firstPiece b .said) (firstPiece b .image) lines in
     next .output ∷ cond (next .more) (run n (lines ++ (lineOf (firstPiece b .said) (firstPiece b .image) ∷ [])) (afterPiece b)) []
 
 -- ---- the steps
@@ -40,7 +40,7 @@ ltb-suc m n =
     (λ e. let h = ltb-false m n e in le-ltb (suc m) (suc n) (omega (arith, h)) ∙ sym e)
 
 module _ (l : List Line) where
-  step-none : stepOf l (firstPiece [] .said) (firstPiece [] .image) ≡ record { totals = totalsOf l; output = Total (totalsOf l); more = false }
+  step-none : stepOf (firstPiece [] .said) (firstPiece [] .image) l ≡ record { totals = totalsOf l; output = Total (totalsOf l); more = false }
   unfolding stepOf firstPiece
   step-none = refl
 
@@ -49,12 +49,12 @@ module _ (l : List Line) where
     unfolding firstPiece
     there = ne-eqb (suc (length (take 1 b))) 0 (λ e. omega arith)
 
-    step-past : length l ≡ mostImages → stepOf l (firstPiece (x ∷ b) .said) (firstPiece (x ∷ b) .image) ≡ record { totals = totalsOf l; output = TooMany; more = false }
+    step-past : length l ≡ mostImages → stepOf (firstPiece (x ∷ b) .said) (firstPiece (x ∷ b) .image) l ≡ record { totals = totalsOf l; output = TooMany; more = false }
     unfolding stepOf
     step-past e = rw (there, eq-eqb (length l) mostImages e)
 
-    step-line : (length l ≡ mostImages → ⊥) → stepOf l (firstPiece (x ∷ b) .said) (firstPiece (x ∷ b) .image)
-        ≡ record { totals = totalsOf (l ++ (line-of (x ∷ b) ∷ [])); output = Image (line-of (x ∷ b)); more = true }
+    step-line : (length l ≡ mostImages → ⊥) → stepOf (firstPiece (x ∷ b) .said) (firstPiece (x ∷ b) .image) l
+        ≡ record { totals = totalsWith (line-of (x ∷ b)) l; output = Image (line-of (x ∷ b)); more = true }
     unfolding stepOf line-of
     step-line n = rw (there, ne-eqb (length l) mostImages n)
 
@@ -90,10 +90,6 @@ pub printed-is : (b : List ℕ) → run (suc mostImages) [] b ≡ printedOf b
 unfolding Left printedOf isPast left
 printed-is b = left-is mostImages [] b (omega arith)
 
--- ---- no second answer meets what the program's two steps promise
-module _ {t : Totals} (v : OfPieces t) where
-  pub counted-once : (x : Line) (a b : Totals) → Counted t x a → Counted t x b → a ≡ b
-  counted-once x a b p q = p .after (linesOf (v .read)) (v .are) ∙ sym (q .after (linesOf (v .read)) (v .are))
-
-  pub stepped-once : (said image : List ℕ) (a b : Step) → Stepped t said image a → Stepped t said image b → a ≡ b
-  stepped-once said image a b p q = p .after (linesOf (v .read)) (v .are) ∙ sym (q .after (linesOf (v .read)) (v .are))
+-- ---- no second answer meets what the program's step and its sum promise
+pub after-once : {A : Type 0} {t : Totals} {f : List Line → A} {a b : A} → OfPieces t → After t f a → After t f b → a ≡ b
+after-once v p q = p .is (linesOf (v .read)) (v .are) ∙ sym (q .is (linesOf (v .read)) (v .are))

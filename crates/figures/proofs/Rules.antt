@@ -13,6 +13,7 @@ use lib.Dec.{eqb}
 use lib.ListN.{length, take, drop, set, length-set, length-take, length-drop, length-append, length-map}
 use Rattle.lists.proofs.Tests.{split}
 use Rattle.io.specs.Counts.{Counts}
+use Rattle.io.proofs.Counting.{front, counts}
 use Rattle.rows.proofs.Rows.{map-append}
 use Rattle.table.specs.Table.{places}
 use Rattle.claims.specs.Module.{credentialCount}
@@ -21,7 +22,7 @@ use Rattle.image_figures.specs.declared.Figures.{Figures}
 use Rattle.image_figures.specs.declared.Line.{Line}
 use Rattle.image_figures.specs.declared.Line.the-variants.{Bad, Good}
 use Rattle.image_figures.proofs.Laws.{Small, SmallLine, line-small}
-use Rattle.figures.specs.Drawer.{Piece, longestSaid, linesOf, goodOnes, totalsOf, mostImages, stepOf, Stepped, Counted, OfPieces, OfPiece, Turned}
+use Rattle.figures.specs.Drawer.{Piece, longestSaid, linesOf, goodOnes, totalsOf, totalsWith, mostImages, stepOf, After, OfPieces, OfPiece, OneMore, Turned}
 use Rattle.figures.specs.declared.Totals.{Totals}
 use Rattle.figures.specs.declared.Turn.{Turn}
 use Rattle.figures.specs.declared.Step.{Step}
@@ -98,11 +99,13 @@ module _ {t : Totals} (v : OfPieces t) where
 
 -- ---- the two steps
 module _ (t : Totals) {x : Line} where
-  pub counted-bad : x ≡ Bad → Counted t x (record { images = t .images + 1; good = t .good; rows = t .rows; classes = t .classes })
-  counted-bad e = record { after = λ l h. rw (h, e) (totals-bad l) }
+  pub counted-bad : x ≡ Bad → After t (totalsWith x) (record { images = t .images + 1; good = t .good; rows = t .rows; classes = t .classes })
+  unfolding totalsWith
+  counted-bad e = record { is = λ l h. rw (h, e) (totals-bad l) }
 
-  pub counted-good : {f : Figures} → x ≡ Good f → Counted t x (record { images = t .images + 1; good = t .good + 1; rows = t .rows + f .rows; classes = t .classes + f .classes })
-  counted-good {f} e = record { after = λ l h. rw (h, e) (totals-good l f) }
+  pub counted-good : {f : Figures} → x ≡ Good f → After t (totalsWith x) (record { images = t .images + 1; good = t .good + 1; rows = t .rows + f .rows; classes = t .classes + f .classes })
+  unfolding totalsWith
+  counted-good {f} e = record { is = λ l h. rw (h, e) (totals-good l f) }
 
 pub step-few : {t : Totals} → OfPieces t → (t .images ≡ mostImages → ⊥) → t .images < mostImages
 step-few v k = omega (arith, k, images-few v)
@@ -111,19 +114,19 @@ module _ (t : Totals) (said image : List ℕ) where
   lines-so-far : (l : List Line) → t ≡ totalsOf l → t .images ≡ length l
   lines-so-far l h = ap (λ (u : Totals). u .images) h ∙ images-of l
 
-  pub step-total : length said ≡ 0 → Stepped t said image (record { totals = t; output = Total t; more = false })
+  pub step-total : length said ≡ 0 → After t (stepOf said image) (record { totals = t; output = Total t; more = false })
   unfolding stepOf
-  step-total e = record { after = λ l h. rw (h, e) }
+  step-total e = record { is = λ l h. rw (h, e) }
 
   module _ (n : length said ≡ 0 → ⊥) where
-    pub step-past : t .images ≡ mostImages → Stepped t said image (record { totals = t; output = TooMany; more = false })
+    pub step-past : t .images ≡ mostImages → After t (stepOf said image) (record { totals = t; output = TooMany; more = false })
     unfolding stepOf
-    step-past e = record { after = λ l h. rw (h, ne-eqb (length said) 0 n, eq-eqb (length l) mostImages (sym (lines-so-far l h) ∙ e)) }
+    step-past e = record { is = λ l h. rw (h, ne-eqb (length said) 0 n, eq-eqb (length l) mostImages (sym (lines-so-far l h) ∙ e)) }
 
     module _ (k : t .images ≡ mostImages → ⊥) where
-      pub step-line : {x : Line} {u : Totals} → x ≡ lineOf said image → Counted t x u → Stepped t said image (record { totals = u; output = Image x; more = true })
+      pub step-line : {x : Line} {u : Totals} → x ≡ lineOf said image → After t (totalsWith x) u → After t (stepOf said image) (record { totals = u; output = Image x; more = true })
       unfolding stepOf
-      step-line e c = record { after = λ l h. rw (ne-eqb (length said) 0 n, ne-eqb (length l) mostImages (λ q. k (lines-so-far l h ∙ q)), c .after l h, e) }
+      step-line e c = record { is = λ l h. rw (ne-eqb (length said) 0 n, ne-eqb (length l) mostImages (λ q. k (lines-so-far l h ∙ q)), c .is l h, e) }
 
 -- ---- a part that is being filled keeps its length
 pub record Filling (old new : List ℕ) (count : ℕ) : Type 0 where
@@ -141,17 +144,11 @@ module _ {old new : List ℕ} {count : ℕ} (v : Filling old new count) (more : 
   filling-more = record { long = same ∙ v .long; few = filling-room }
 
 -- ---- so many bytes of a list
-pub part-long : {n : ℕ} (l : List ℕ) → n ≤ length l → n ≡ length (take n l)
-part-long {n} l h = rw length-take (omega arith)
-
-pub part-counts : {n : ℕ} (l : List ℕ) → n ≤ length l → Counts n l
-part-counts l h = (h, part-long l h)
-
 pub size-long : {n : ℕ} (l : List ℕ) → n < 65536 → longestSaid ≤ length l → n ≡ length (take n l)
-size-long {n} l h k = part-long l (omega arith)
+size-long {n} l h k = front n l (omega arith)
 
 pub counts-before : {n : ℕ} (a b : List ℕ) → Counts n a → Counts n (a ++ b)
-counts-before {n} a b c = part-counts (a ++ b) (rw length-append (omega (arith, c .0)))
+counts-before {n} a b c = counts n (a ++ b) (rw length-append (omega (arith, c .0)))
 
 -- ---- a text that bytes are put after: its room stays
 abbrev textSize : ℕ
@@ -169,17 +166,17 @@ module _ {bytes : List ℕ} {count : ℕ} (v : Texting bytes count) where
   text-more byte h = record { room = length-set bytes count byte ∙ v .room; few = omega arith }
 
   pub text-end : Counts count bytes
-  text-end = part-counts bytes (omega (arith, v .room, v .few))
+  text-end = counts count bytes (omega (arith, v .room, v .few))
 
 -- ---- a turn
 pub of-piece : {x : Line} (said image : List ℕ) → x ≡ lineOf said image → OfPiece x
 of-piece said image e = record { piece = record { said = said; image = image }; is = e }
 
-pub turned-stop : {t : Totals} → OfPieces t → Turned t (record { totals = t; more = false })
+pub turned-stop : {t : Totals} {said image : List ℕ} → OfPieces t → Turned t said image (record { totals = t; more = false })
 turned-stop v = record { of-pieces = v; one-more = λ e. absurd (true≢false (sym e)) }
 
-pieces-more : (l : List Piece) (p : Piece) → length l < mostImages → OfPieces (totalsOf (linesOf l ++ (lineOf (p .said) (p .image) ∷ [])))
-unfolding linesOf
+pieces-more : (l : List Piece) (p : Piece) → length l < mostImages → OfPieces (totalsWith (lineOf (p .said) (p .image)) (linesOf l))
+unfolding linesOf totalsWith
 pieces-more l p few =
     record {
       read = l ++ (p ∷ []);
@@ -187,22 +184,41 @@ pieces-more l p few =
       are = ap totalsOf (sym (map-append (λ (p : Piece). lineOf (p .said) (p .image)) l (p ∷ [])));
     }
 
-pub turned-on : {t : Totals} (said image : List ℕ) {next : Step} → OfPieces t → Stepped t said image next → Turned t (record { totals = next .totals; more = next .more })
+step-pieces : {t : Totals} (said image : List ℕ) {next : Step} → OfPieces t → After t (stepOf said image) next → OfPieces (next .totals)
 unfolding stepOf
-turned-on {t} said image v s =
+step-pieces said image v s =
     let lines : List Line = linesOf (v .read) in
     let so-far : length (v .read) ≡ length lines = images-are v ∙ ap (λ (u : Totals). u .images) (v .are) ∙ images-of lines in
-    rw (s .after lines (v .are)) (split (eqb (length said) 0)
-    (λ z. rw (z, ← v .are) (turned-stop v))
+    rw (s .is lines (v .are)) (split (eqb (length said) 0)
+    (λ z. rw (z, ← v .are) v)
     (λ z.
     split (eqb (length lines) mostImages)
-    (λ q. rw (z, q, ← v .are) (turned-stop v))
-    (λ q.
-    let n = eqb-false (length lines) mostImages q in
-    rw (z, q) (record {
-      of-pieces = pieces-more (v .read) (record { said = said; image = image }) (omega (arith, n, so-far, v .few));
-      one-more = λ m. images-of (lines ++ (lineOf said image ∷ [])) ∙ length-append lines (lineOf said image ∷ []) ∙ omega (arith, so-far, images-are v);
-    }))))
+    (λ q. rw (z, q, ← v .are) v)
+    (λ q. let n = eqb-false (length lines) mostImages q in rw (z, q) (pieces-more (v .read) (record { said = said; image = image }) (omega (arith, n, so-far, v .few))))))
+
+-- of the three ends of a step the last alone goes on
+step-counted : {t : Totals} (said image : List ℕ) {next : Step} → After t (stepOf said image) next → next .more ≡ true → After t (totalsWith (lineOf said image)) (next .totals)
+unfolding stepOf
+step-counted said image {next} s m =
+    record {
+      is = λ l h.
+          let e : next ≡ stepOf said image l = s .is l h in
+          let more : stepOf said image l .more ≡ true = sym (ap (λ (x : Step). x .more) e) ∙ m in
+          ap (λ (x : Step). x .totals) e ∙ split (eqb (length said) 0)
+          (λ z. absurd (true≢false (sym (rw z at more))))
+          (λ z.
+          split (eqb (length l) mostImages)
+          (λ q. absurd (true≢false (sym (rw (z, q) at more))))
+          (λ q. rw (z, q)));
+    }
+
+pub turned-on : {t : Totals} (said image : List ℕ) (there long : ℕ) {next : Step} → OfPieces t → After t (stepOf (take there said) (take long image)) next
+    → Turned t said image (record { totals = next .totals; more = next .more })
+turned-on said image there long v s =
+    record {
+      of-pieces = step-pieces (take there said) (take long image) v s;
+      one-more = λ m. record { there = there; long = long; counted = step-counted (take there said) (take long image) s m };
+    }
 
 -- ---- the loop
 pub record Reporting (said₀ image₀ said image : List ℕ) (t : Totals) : Type 0 where
@@ -218,13 +234,20 @@ no-pieces = record { read = []; few = omega arith; are = refl }
 pub report-begin : (said image : List ℕ) → longestSaid ≤ length image → Reporting said image said image (record { images = 0; good = 0; rows = 0; classes = 0 })
 report-begin said image h = record { said-long = refl; image-long = refl; room = h; of-pieces = no-pieces }
 
+one-image : {t : Totals} {said image : List ℕ} {next : Totals} → OfPieces t → OneMore t said image next → next .images ≡ t .images + 1
+unfolding totalsWith
+one-image v o =
+    let lines : List Line = linesOf (v .read) in
+    let line : Line = lineOf (take (o .there) _) (take (o .long) _) in
+    ap (λ (u : Totals). u .images) (o .counted .is lines (v .are)) ∙ images-of (lines ++ (line ∷ [])) ∙ length-append lines (line ∷ []) ∙ ap (λ (n : ℕ). n + 1) (sym (ap (λ (u : Totals). u .images) (v .are) ∙ images-of lines))
+
 abbrev pub turnsLeft : Totals → Bool → ℕ
 turnsLeft t more = cond more (suc (mostImages - t .images)) 0
 
-pub turns-less : {t : Totals} {turn : Turn} {more : Bool} → more ≡ true → Turned t turn → turnsLeft (turn .totals) (turn .more) < turnsLeft t more
-turns-less {t} {turn} m v =
+pub turns-less : {t : Totals} {said image : List ℕ} {turn : Turn} {more : Bool} → more ≡ true → OfPieces t → Turned t said image turn → turnsLeft (turn .totals) (turn .more) < turnsLeft t more
+turns-less {t} {said} {image} {turn} m o v =
     rw m (split (turn .more)
-    (λ e. rw e (omega (arith, v .one-more e, images-few (v .of-pieces))))
+    (λ e. rw e (omega (arith, one-image o (v .one-more e), images-few (v .of-pieces))))
     (λ e. rw e (omega arith)))
 
-pub ruleset rules = (needs, good-fits, rows-fit, classes-fit, counted-bad, counted-good, step-total, step-past, step-few, step-line, filling-begin, part-long, part-counts, size-long, counts-before, of-piece, text-begin, text-more, text-end, turned-stop, turned-on, report-begin, turns-less)
+pub ruleset rules = (needs, good-fits, rows-fit, classes-fit, counted-bad, counted-good, step-total, step-past, step-few, step-line, filling-begin, front, counts, size-long, counts-before, of-piece, text-begin, text-more, text-end, turned-stop, turned-on, report-begin, turns-less)

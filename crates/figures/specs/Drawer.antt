@@ -56,6 +56,9 @@ totalsOf l =
       classes = sum (map (λ (f : Figures). f .classes) (goodOnes l));
     }
 
+unfoldable pub totalsWith : Line → List Line → Totals
+totalsWith line lines = totalsOf (lines ++ (line ∷ []))
+
 -- ---- "up to 4,096 images, bad ones counted .. Past 4,096 it prints `too many` and no total."
 abbrev pub mostImages : ℕ
 mostImages = 4096
@@ -69,19 +72,16 @@ printedOf b =
     let lines : List Line = linesOf (firstPieces mostImages b) in
     map Image lines ++ (cond (isPast b) TooMany (Total (totalsOf lines)) ∷ [])
 
--- ---- the program's step: after these lines, what comes of a length and an image of which these bytes are there
-unfoldable pub stepOf : List Line → List ℕ → List ℕ → Step
-stepOf lines said image =
+-- ---- the program's step, after these lines: what comes of a length and an image of which these bytes are there
+unfoldable pub stepOf : List ℕ → List ℕ → List Line → Step
+stepOf said image lines =
     cond (eqb (length said) 0) (record { totals = totalsOf lines; output = Total (totalsOf lines); more = false })
     (cond (eqb (length lines) mostImages) (record { totals = totalsOf lines; output = TooMany; more = false })
-    (record { totals = totalsOf (lines ++ (lineOf said image ∷ [])); output = Image (lineOf said image); more = true }))
+    (record { totals = totalsWith (lineOf said image) lines; output = Image (lineOf said image); more = true }))
 
--- it has the totals of these lines alone, whatever lines they are; and so has what counts one more
-pub record Stepped (t : Totals) (said image : List ℕ) (next : Step) : Type 0 where
-  pub after : (lines : List Line) → t ≡ totalsOf lines → next ≡ stepOf lines said image
-
-pub record Counted (t : Totals) (line : Line) (next : Totals) : Type 0 where
-  pub after : (lines : List Line) → t ≡ totalsOf lines → next ≡ totalsOf (lines ++ (line ∷ []))
+-- of the lines the program has the totals alone: it answers what f says of these lines, whatever lines they are
+pub record After {A : Type 0} (t : Totals) (f : List Line → A) (answer : A) : Type 0 where
+  pub is : (lines : List Line) → t ≡ totalsOf lines → answer ≡ f lines
 
 -- ---- what the program's totals are while it reads: those of some pieces, at most 4,096; and what a line is, that of a piece
 pub record OfPieces (t : Totals) : Type 0 where
@@ -93,7 +93,12 @@ pub record OfPiece (x : Line) : Type 0 where
   pub piece : Piece
   pub is : x ≡ lineOf (piece .said) (piece .image)
 
--- a turn of its loop: where it goes on, one piece more is counted
-pub record Turned (t : Totals) (turn : Turn) : Type 0 where
+-- a turn of its loop: where it goes on, one piece more is counted, of bytes that the two buffers begin with
+pub record OneMore (t : Totals) (said image : List ℕ) (next : Totals) : Type 0 where
+  pub there : ℕ
+  pub long : ℕ
+  pub counted : After t (totalsWith (lineOf (take there said) (take long image))) next
+
+pub record Turned (t : Totals) (said image : List ℕ) (turn : Turn) : Type 0 where
   pub of-pieces : OfPieces (turn .totals)
-  pub one-more : turn .more ≡ true → turn .totals .images ≡ t .images + 1
+  pub one-more : turn .more ≡ true → OneMore t said image (turn .totals)

@@ -4,7 +4,7 @@ ghost use mathlib.Core.Path.{_≡_};
 ghost use Prim.Native.Nat.{_≤_, _<_};
 ghost use lib.ListN.{length};
 ghost use Rattle.io.specs.Counts.{Counts};
-ghost use Rattle.figures.specs.Drawer.{longestSaid, mostImages, Counted, Stepped, OfPieces, OfPiece, Turned};
+ghost use Rattle.figures.specs.Drawer.{longestSaid, totalsWith, mostImages, stepOf, After, OfPieces, OfPiece, Turned};
 use image_figures::LENGTH_SIZE;
 use image_figures::Line;
 use libc::STDERR_FILENO;
@@ -39,7 +39,7 @@ fn counted(totals: Totals, line: Line) -> Totals
     requires { ⌜ OfPieces totals ⌝ }
     requires { ⌜ totals .images < mostImages ⌝ }
     requires { ⌜ OfPiece line ⌝ }
-    ensures { λ r. ⌜ Counted totals line r ⌝ }
+    ensures { λ r. ⌜ After totals (totalsWith line) r ⌝ }
 {
     let images = totals.images + 1;
     match line {
@@ -61,7 +61,7 @@ fn counted(totals: Totals, line: Line) -> Totals
 // What comes of the bytes of a length, as many as there are, and of those after it.
 fn next_step(totals: Totals, said: &[u8], image: &[u8]) -> Step
     requires { ⌜ OfPieces totals ⌝ }
-    ensures { λ r. ⌜ Stepped totals (now (said .entry)) (now (image .entry)) r ⌝ }
+    ensures { λ r. ⌜ After totals (stepOf (now (said .entry)) (now (image .entry))) r ⌝ }
 {
     if said.len() == 0 {
         return Step {
@@ -240,7 +240,7 @@ struct Turn {
 fn take_turn(totals: Totals, said: &mut [u8], image: &mut [u8]) -> Turn
     requires { ⌜ OfPieces totals ⌝ }
     requires { ⌜ longestSaid ≤ length (now image) ⌝ }
-    ensures { λ r. ⌜ Turned totals r ⌝ }
+    ensures { λ r. ⌜ Turned totals (now (said .exit)) (now (image .exit)) r ⌝ }
 {
     let stopped = Turn {
         totals: totals,

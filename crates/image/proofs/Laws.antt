@@ -199,6 +199,14 @@ five-parts : (m c o n p : ℕ) (y : List ℕ) → numbersBytes 2 (m ∷ c ∷ o 
 unfolding numbersBytes join bytesOf
 five-parts m c o n p y = refl
 
+words-eight : (b : List ℕ) → length (numbersIn credentialCount wordSize (drop wordsAt b)) ≡ credentialCount
+unfolding numbersIn
+words-eight b = length-map (rows credentialCount wordSize (drop wordsAt b)) numberOf ∙ rows-length credentialCount wordSize (drop wordsAt b)
+
+pub grants-eight : (b : List ℕ) → length (grantsIn b) ≡ credentialCount
+unfolding grantsIn
+grants-eight b = grants-length (maskIn b) (numbersIn credentialCount wordSize (drop wordsAt b)) ∙ words-eight b
+
 module _ (b : List ℕ) (g : Bytes b) (e : isImage b ≡ true) where
   v : Image b
   v = image b e
@@ -218,10 +226,6 @@ module _ (b : List ℕ) (g : Bytes b) (e : isImage b ≡ true) where
   unfolding imageLong
   rows-room = simp length-drop (omega (arith, v .long))
 
-  eight : length words ≡ credentialCount
-  unfolding numbersIn
-  eight = length-map (rows credentialCount wordSize (drop wordsAt b)) numberOf ∙ rows-length credentialCount wordSize (drop wordsAt b)
-
   in-words : Each (Small wordSize) words
   unfolding numbersIn
   in-words = array-good (number-codec wordSize) credentialCount (drop wordsAt b) words-room (bytes-drop wordsAt b g) (every-anything (rows credentialCount wordSize (drop wordsAt b)))
@@ -238,14 +242,10 @@ module _ (b : List ℕ) (g : Bytes b) (e : isImage b ≡ true) where
   unfolding grantsIn
   said-formed = grants-formed (maskIn b) words in-words (every-by (λ x q. q) (grantsSaid (maskIn b) words) (v .words))
 
-  said-length : length (grantsIn b) ≡ credentialCount
-  unfolding grantsIn
-  said-length = grants-length (maskIn b) words ∙ eight
-
   -- and the bytes of what they say
   mask-of : maskOf (grantsIn b) ≡ maskIn b
   unfolding grantsIn
-  mask-of = mask-back (maskIn b) words (rw eight (h .mask))
+  mask-of = mask-back (maskIn b) words (rw (words-eight b) (h .mask))
 
   words-of : map wordIn (grantsIn b) ≡ words
   unfolding grantsIn
@@ -332,7 +332,7 @@ module _ (b : List ℕ) (g : Bytes b) (e : isImage b ≡ true) where
 
   restored-credentials : length (restored b .credentials) ≡ credentialCount
   unfolding restored
-  restored-credentials = said-length b g e
+  restored-credentials = grants-eight b
 
   formed : (p : Process) → RowFits p → isKeepable (restored b) p ≡ true → FormedProcess p
   unfolding isKeepable

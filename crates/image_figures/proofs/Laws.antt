@@ -1,37 +1,28 @@
 -- How large the figures of a line can be; and of a good image's words those of provisioned credentials alone count.
 -- Assumes nothing.
 use Prim.Native.Nat.{ℕ, _+_, _*_, _≤_}
-use mathlib.Core.Path.{_≡_, refl, ap, _∙_}
+use mathlib.Core.Path.{_≡_, refl, ap}
 use mathlib.Core.Bool.{Bool, true}
 use mathlib.Core.List.{List, [], _∷_}
 use native.Mathlib.Omega.{arith}
 use borrow.Author.Tests.{eqb-true}
-use lib.Dec.{eqb}
-use lib.ListN.{length, drop, length-map}
+use lib.ListN.{length}
 use Rattle.lists.specs.Lists.{select}
 use Rattle.lists.proofs.Tests.{split, and-left, and-right}
-use Rattle.rows.specs.Bytes.{numberOf}
 use Rattle.rows.specs.Rows.{rows, every}
-use Rattle.rows.proofs.Rows.{rows-length}
 use Rattle.table.specs.Table.{places}
 use Rattle.claims.specs.Module.{wordGrants, credentialCount}
 use Rattle.claims.specs.declared.Grants.{Grants}
-use Rattle.image.specs.Image.{wordsAt, wordSize, maskIn, numbersIn, grantsIn, wordFits, isImage}
-use Rattle.image.proofs.Laws.{image}
-use Rattle.image.proofs.Rows.{grants-length}
-use Rattle.image_figures.specs.Figures.{sum, classCount, classesBelow, classesHeld, classesGranted, figuresIn, isSaid, sizeSaid, isGood, lineOf}
+use Rattle.image.specs.Image.{grantsIn, wordFits, isImage}
+use Rattle.image.proofs.Laws.{image, grants-eight}
+use Rattle.image_figures.specs.Figures.{sum, classCount, classesBelow, classesHeld, classesGranted, figuresIn, isGood, lineOf}
 use Rattle.image_figures.specs.declared.Figures.{Figures}
 use Rattle.image_figures.specs.declared.Line.{Line}
 use Rattle.image_figures.specs.declared.Line.the-variants.{Bad, Good}
 use Rattle.image_figures.proofs.Classes.{classes-few}
+use Rattle.image_figures.proofs.Rules.{good-is}
 
 -- ---- how large the figures are
-grants-eight : (b : List ℕ) → length (grantsIn b) ≡ credentialCount
-unfolding grantsIn numbersIn
-grants-eight b =
-    grants-length (maskIn b) (numbersIn credentialCount wordSize (drop wordsAt b))
-    ∙ length-map (rows credentialCount wordSize (drop wordsAt b)) numberOf ∙ rows-length credentialCount wordSize (drop wordsAt b)
-
 granted-few : (l : List Grants) → classesGranted l ≤ length l * classCount
 unfolding classesGranted sum
 granted-few [] = omega arith
@@ -46,12 +37,10 @@ SmallLine Bad = Unit
 SmallLine (Good f) = Small f
 
 pub line-small : (said image : List ℕ) → SmallLine (lineOf said image)
-unfolding lineOf isGood figuresIn
+unfolding lineOf figuresIn
 line-small said b =
     split (isGood said b)
-    (λ e.
-    let t : isImage b ≡ true = and-right (eqb (length b) (sizeSaid said)) (isImage b) (and-right (isSaid said) _ e) in
-    rw e (record { rows-few = image b t .few; classes-few = rw (grants-eight b) at (granted-few (grantsIn b)) }))
+    (λ e. rw e (record { rows-few = image b (good-is said b e) .few; classes-few = rw (grants-eight b) at (granted-few (grantsIn b)) }))
     (λ e. rw e tt)
 
 -- ---- "zero where unprovisioned": such a word holds no class

@@ -128,17 +128,20 @@ module _ (said : List ℕ) where
         (λ s. rw (s, eq-eqb (length image) (sizeSaid said) (k ∙ e)))
         (λ s. rw s (good-lone s (k ∙ e)))
 
+    pub good-is : isGood said image ≡ true → isImage image ≡ true
+    unfolding isGood
+    good-is t = and-right (eqb (length image) (sizeSaid said)) (isImage image) (and-right (isSaid said) _ t)
+
     module _ {good : Bool} (e : good ≡ isGood said image) where
       pub line-bad : not good ≡ true → Bad ≡ lineOf said image
       unfolding lineOf
       line-bad n = rw (← e, not-true good n)
 
-      pub good-is : not good ≡ false → isImage image ≡ true
-      unfolding isGood
-      good-is n = and-right (eqb (length image) (sizeSaid said)) (isImage image) (and-right (isSaid said) _ (sym e ∙ not-false good n))
+      pub line-image : not good ≡ false → isImage image ≡ true
+      line-image n = good-is (sym e ∙ not-false good n)
 
       pub line-good : not good ≡ false → {figures : Figures} → figures ≡ figuresIn image → Good figures ≡ lineOf said image
       unfolding lineOf
       line-good n g = rw (← e, not-false good n, g)
 
-pub ruleset rules = (needs, classes-counted, sum-begin, sum-fits, sum-next, sum-done, largest-begin, larger-next, larger-before, largest-done, saved-room, figures-few, figures-long, figures-all, size-none, size-whole, good-cut, good-image, line-bad, good-is, line-good)
+pub ruleset rules = (needs, classes-counted, sum-begin, sum-fits, sum-next, sum-done, largest-begin, larger-next, larger-before, largest-done, saved-room, figures-few, figures-long, figures-all, size-none, size-whole, good-cut, good-image, line-bad, line-image, line-good)

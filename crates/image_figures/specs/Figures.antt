@@ -48,7 +48,6 @@ unfoldable pub figuresIn : List ℕ → Figures
 figuresIn b = record { rows = rowCountIn b; classes = classesGranted (grantsIn b); largest = largestNext (keptIn b) }
 
 -- ---- "images of order 2, each after its length in 2 bytes, little endian": of either, the bytes that are there
-
 abbrev pub lengthSize : ℕ
 lengthSize = 2
 

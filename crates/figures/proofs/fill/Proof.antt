@@ -2,8 +2,9 @@ use Prim.Native.Nat.{_-_}
 use mathlib.Core.Path.{_∙_}
 use native.Mathlib.Omega.{arith}
 use lib.ListN.{length}
-use Rattle.figures.proofs.Rules.{Filling, filling-more, part-counts, rules}
-use Rattle.figures.proofs.Rules.{Filling, filling-more, part-counts, rules}
+use Rattle.io.proofs.Counting.{counts}
+use Rattle.figures.proofs.Rules.{Filling, filling-more, rules}
+use Rattle.figures.proofs.Rules.{Filling, filling-more, rules}
 use Rattle.figures.proofs.fill.Statement.{statement}
 use Rattle.figures.proofs.fill.Tie as tie
 
@@ -44,7 +45,7 @@ same-length : tie.Need-same-length Inv-loop μ-loop
 same-length c = c .before .before .before .before .before .part .given .1 ∙ c .before .before .before .before .before .before .before .before .before .loop .inv .long
 
 returns : tie.Need-returns Inv-loop μ-loop
-returns c = part-counts _ (omega (arith, c .before .before .before .before .before .part .given .1, c .before .before .before .before .before .before .before .before .before .loop .inv .few))
+returns c = counts _ _ (omega (arith, c .before .before .before .before .before .part .given .1, c .before .before .before .before .before .before .before .before .before .loop .inv .few))
 
 add-count : tie.Need-add-count Inv-loop μ-loop
 add-count c = search rules
