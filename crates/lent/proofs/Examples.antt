@@ -26,7 +26,7 @@ use Rattle.history.specs.Fits.{IsWord}
 use Rattle.image.specs.Image as Image
 use Rattle.resumed.specs.Resumed.{toldBy}
 use Rattle.entries_image.specs.Entries.{restoreNumber}
-use Rattle.lent.specs.Lent.{Response, Made, Called, Listed, Renewed, Restored, Chain, none, called, renewed, restored, Since, begun, since}
+use Rattle.lent.specs.Lent.{Response, Made, Called, Listed, Renewed, Restored, called, renewed, restored, Chain, none, then, Since, begun, since}
 
 abbrev opening : Call
 opening = Open (record { 0 = 0 })
@@ -86,8 +86,8 @@ word-small i = small i 8
 
 chain : (slice : List ℕ) → Chain slice (Renewed flags words (1 unless canFresh slice flags words) ∷ Called true opening (entryNumber true (cond (canFresh slice flags words) (stateBytes (fresh (pairsOf flags words))) slice) opening) ∷ []) (entryBytes true (cond (canFresh slice flags words) (stateBytes (fresh (pairsOf flags words))) slice) opening)
 chain slice =
-    renewed word-small (record { number-is = refl; bytes-are = refl })
-    (called (λ e. tt) (record { number-is = refl; bytes-are = refl }) none)
+    then (renewed word-small (record { number-is = refl; bytes-are = refl }))
+    (then (called (λ e. tt) (record { number-is = refl; bytes-are = refl })) none)
 
 -- and a module from an image, one without credentials and rows, in whatever slice, and an open
 abbrev empty : List ℕ
@@ -108,5 +108,5 @@ left slice = cond (eqb (restoreNumber slice empty) 0) (stateBytes (Image.restore
 
 chain-restored : (slice : List ℕ) → Chain slice (Restored empty (restoreNumber slice empty) ∷ Called true opening (entryNumber true (left slice) opening) ∷ []) (entryBytes true (left slice) opening)
 chain-restored slice =
-    restored empty-bytes (record { number-is = refl; bytes-are = refl })
-    (called (λ e. tt) (record { number-is = refl; bytes-are = refl }) none)
+    then (restored empty-bytes (record { number-is = refl; bytes-are = refl }))
+    (then (called (λ e. tt) (record { number-is = refl; bytes-are = refl })) none)
