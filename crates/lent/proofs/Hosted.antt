@@ -3,7 +3,7 @@
 use Prim.Native.Nat.{ℕ}
 use mathlib.Core.Path.{_≡_, refl, sym, ap, _∙_}
 use mathlib.Core.Bool.{Bool, true, false}
-use mathlib.Core.List.{List, [], _∷_}
+use mathlib.Core.List.{List}
 use lib.ListN.{length, getD, take}
 use lib.Dec.{eqb}
 use borrow.Author.Tests.{eqb-false}
@@ -13,7 +13,7 @@ use Rattle.claims.specs.Numbers.{_unless_}
 use Rattle.claims.specs.declared.State.{State}
 use Rattle.calls.specs.Calls.{Call, List′, fresh}
 use Rattle.calls.specs.Run.{step, run}
-use Rattle.layout.specs.Layout.{stateBytes, stateOf}
+use Rattle.layout.specs.Layout.{stateOf}
 use Rattle.layout.proofs.Laws.{state-back}
 use Rattle.state_record.specs.Entry.{Entry}
 use Rattle.arguments.specs.Arguments.{pairsOf}
@@ -28,7 +28,7 @@ use Rattle.resumed.specs.Changes.{changesImage}
 use Rattle.resumed.proofs.Changes.{image-kept}
 use Rattle.entries_image.specs.Entries.{ImageEntry, RestoreEntry}
 use Rattle.lent.specs.Lent.{Made, Entered, called, list-called, renewed, restored, Since, begun, noting, Holds, cycledSince}
-use Rattle.lent.specs.Hosted.{entryChanges, Step, Hosted, none, kept, written, cycled, stepping, sinceSteps, IsNewest}
+use Rattle.lent.specs.Hosted.{entryChanges, Happening, Hosted, none, kept, written, cycled, sinceAll, IsNewest}
 use Rattle.lent.proofs.Images.{restore-refused, image-written, image-of, restored-image}
 use Rattle.lent.proofs.Theorems.{not-fine-bytes, Goes, goes-is, goes-state, made-number, made-bytes, goes-holds, goes-restored-done, goes-on, goes-fresh, goes-again}
 
@@ -55,8 +55,8 @@ entry-keeps w g (renewed fits e) h = ap (λ x. imageBytes (stateOf x)) (fresh-re
 entry-keeps w g (restored {n = n} bytes e) h = ap (λ x. imageBytes (stateOf x)) (restore-refused e (eqb-false n 0 h))
 
 -- ---- so the image that was written last is that of the state now, through power cycles too
-newest-by : {b image last newest : List ℕ} {steps : List Step} (w : Since) → Goes w b → image ≡ imageBytes (stateOf b) → Hosted b image steps last newest → IsNewest (sinceSteps w steps) last newest
-unfolding sinceSteps
+newest-by : {b image last newest : List ℕ} {happenings : List Happening} (w : Since) → Goes w b → image ≡ imageBytes (stateOf b) → Hosted b image happenings last newest → IsNewest (sinceAll w happenings) last newest
+unfolding sinceAll
 newest-by {b} w g is none =
     let h : Holds w b = goes-holds w b g in
     record { holds = h; bytes = is; image = image-of w (goes-state w b g) h is }
@@ -69,13 +69,13 @@ newest-by {b} w g is (cycled {after = after} bytes r k) =
     newest-by (cycledSince w) on (sym (restored-image bytes r)) k
 
 -- from a fresh module on, whose image is written
-pub hosted-made : {before flags words slice old new : List ℕ} {long : ℕ} → ((i : ℕ) → IsWord (getD words i 0)) → FreshEntry before flags words 0 slice → ImageEntry slice old 0 new long → {steps : List Step} {last newest : List ℕ} → Hosted slice (take long new) steps last newest → IsNewest (sinceSteps (begun (fresh (pairsOf flags words)) nobody) steps) last newest
+pub hosted-made : {before flags words slice old new : List ℕ} {long : ℕ} → ((i : ℕ) → IsWord (getD words i 0)) → FreshEntry before flags words 0 slice → ImageEntry slice old 0 new long → {happenings : List Happening} {last newest : List ℕ} → Hosted slice (take long new) happenings last newest → IsNewest (sinceAll (begun (fresh (pairsOf flags words)) nobody) happenings) last newest
 hosted-made {flags = flags} {words = words} {slice = slice} h e i k =
     let w : Since = begun (fresh (pairsOf flags words)) nobody in
     let g : Goes w slice = goes-fresh h e in
     newest-by w g (image-written i (goes-state w slice g)) k
 
 -- and from a module that was restored on
-pub hosted-restored : {before image slice : List ℕ} → Bytes image → RestoreEntry before image 0 slice → {steps : List Step} {last newest : List ℕ} → Hosted slice image steps last newest → IsNewest (sinceSteps (begun (Image.restored image) (toldBy image)) steps) last newest
+pub hosted-restored : {before image slice : List ℕ} → Bytes image → RestoreEntry before image 0 slice → {happenings : List Happening} {last newest : List ℕ} → Hosted slice image happenings last newest → IsNewest (sinceAll (begun (Image.restored image) (toldBy image)) happenings) last newest
 hosted-restored {before} {image} h r k =
     newest-by (begun (Image.restored image) (toldBy image)) (goes-restored-done before image h r) (sym (restored-image h r)) k

@@ -63,17 +63,17 @@ not-fine-bytes b call = refl
 
 -- ---- an entry that makes one, on a slice that holds a state
 module _ (st : State) (v : IsState st) where
-  held : holdsState (stateBytes st) ≡ true
+  pub held : holdsState (stateBytes st) ≡ true
   held = holds-written v
 
   pub back : stateOf (stateBytes st) ≡ st
   back = state-back (v .formed)
 
-  fine-number : (call : Call) → entryNumber true (stateBytes st) call ≡ number st call
+  pub fine-number : (call : Call) → entryNumber true (stateBytes st) call ≡ number st call
   unfolding isMade entryNumber _unless_ _▸_
   fine-number call = rw (held, back)
 
-  fine-bytes : (call : Call) → entryBytes true (stateBytes st) call ≡ stateBytes (step st call)
+  pub fine-bytes : (call : Call) → entryBytes true (stateBytes st) call ≡ stateBytes (step st call)
   unfolding isMade entryBytes step
   fine-bytes call = rw (held, back)
 

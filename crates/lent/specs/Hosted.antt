@@ -22,38 +22,39 @@ entryChanges before (Listed fine s claim wanted n r) = changesImage (stateOf bef
 entryChanges before (Renewed flags words n) = eqb n No.done
 entryChanges before (Restored image n) = eqb n No.done
 
--- what happens to a module, one after another
-pub data Step : Type 0 where
-  Enters : Made → Step
-  PowerCycle : Step
+-- what happens to a module
+pub data Happening : Type 0 where
+  Enters : Made → Happening
+  PowerCycle : Happening
 
 -- from a slice and the image that the flash has to a slice and an image
-pub data Hosted : List ℕ → List ℕ → List Step → List ℕ → List ℕ → Type 0 where
+pub data Hosted : List ℕ → List ℕ → List Happening → List ℕ → List ℕ → Type 0 where
   none : {slice image : List ℕ} → Hosted slice image [] slice image
   -- an entry that leaves the image as it was: none is written
-  kept : {before image after last newest : List ℕ} {entry : Made} {steps : List Step}
+  kept : {before image after last newest : List ℕ} {entry : Made} {happenings : List Happening}
       → Entered before entry after → entryChanges before entry ≡ false
-      → Hosted after image steps last newest
-      → Hosted before image (Enters entry ∷ steps) last newest
+      → Hosted after image happenings last newest
+      → Hosted before image (Enters entry ∷ happenings) last newest
   -- after every other one is, and may be after any
-  written : {before image after old new last newest : List ℕ} {long : ℕ} {entry : Made} {steps : List Step}
+  written : {before image after old new last newest : List ℕ} {long : ℕ} {entry : Made} {happenings : List Happening}
       → Entered before entry after → ImageEntry after old 0 new long
-      → Hosted after (take long new) steps last newest
-      → Hosted before image (Enters entry ∷ steps) last newest
-  -- the power goes, and the slice with it; a module is made from the flash's image, in whatever slice
-  cycled : {before image slice after last newest : List ℕ} {steps : List Step}
+      → Hosted after (take long new) happenings last newest
+      → Hosted before image (Enters entry ∷ happenings) last newest
+  -- the power goes, and the slice with it; a module is made from the flash's image, in whatever slice. An entry after which the power went before its image was
+  -- written is none of these: its answer was told to nobody
+  cycled : {before image slice after last newest : List ℕ} {happenings : List Happening}
       → Bytes image → RestoreEntry slice image 0 after
-      → Hosted after image steps last newest
-      → Hosted before image (PowerCycle ∷ steps) last newest
+      → Hosted after image happenings last newest
+      → Hosted before image (PowerCycle ∷ happenings) last newest
 
--- ---- since when it is told, and what, after such steps
-abbrev pub stepping : Step → Since → Since
-stepping (Enters entry) w = noting entry w
-stepping PowerCycle w = cycledSince w
+-- ---- since when it is told, and what, after such happenings
+abbrev pub afterwards : Happening → Since → Since
+afterwards (Enters entry) w = noting entry w
+afterwards PowerCycle w = cycledSince w
 
-unfoldable pub sinceSteps : Since → List Step → Since
-sinceSteps w [] = w
-sinceSteps w (step ∷ steps) = sinceSteps (stepping step w) steps
+unfoldable pub sinceAll : Since → List Happening → Since
+sinceAll w [] = w
+sinceAll w (one ∷ happenings) = sinceAll (afterwards one w) happenings
 
 -- ---- what is to hold of the slice and the image in which they ended
 pub record IsNewest (w : Since) (last newest : List ℕ) : Type 0 where
