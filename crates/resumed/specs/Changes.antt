@@ -1,6 +1,7 @@
 -- Which calls change the image of a module, and so after which a host has to write one: docs/IMAGE.md has the same list. "flash must return the newest": the image
 -- that was written last, where one was written after each of them and after no other call.
-use Prim.Native.Nat.{ℕ}
+use Prim.Native.Nat.{ℕ, _+_}
+use mathlib.Core.Path.{_≡_}
 use mathlib.Core.Bool.{Bool, true, false, cond, _&&_}
 use mathlib.Core.List.{List, [], _∷_}
 use lib.Dec.{eqb}
@@ -36,6 +37,21 @@ touchesImage st (SetWord s claim c word) = true
 -- where they are done: `n` is the number that the call was answered. A refusal changes none: the number that it may spend is an active process's, which is in no image
 abbrev pub changesImage : State → Call → ℕ → Bool
 changesImage st call n = eqb n No.done && touchesImage st call
+
+-- what they make of the image's rows, n before the call and m after it: one more, one less, and as many with a set word. No other call is one of them
+abbrev pub RowsChange : Call → ℕ → ℕ → Type 0
+RowsChange (Open s) n m = ⊥
+RowsChange (Close s) n m = ⊥
+RowsChange (Select s byte) n m = ⊥
+RowsChange (Start s c name) n m = ⊥
+RowsChange (Continue s c name) n m = n ≡ m + 1
+RowsChange (Elevate s c name verdict) n m = ⊥
+RowsChange (Drop s) n m = ⊥
+RowsChange (End s u keep) n m = m ≡ n + 1
+RowsChange (Record s claim class) n m = ⊥
+RowsChange (List′ s claim wanted room) n m = ⊥
+RowsChange (Kill s claim name) n m = n ≡ m + 1
+RowsChange (SetWord s claim c word) n m = m ≡ n
 
 -- the image that was written last, `image` being that before the calls
 unfoldable pub newest : List ℕ → State → List Call → List ℕ
