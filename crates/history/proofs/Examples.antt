@@ -15,7 +15,7 @@ use Rattle.calls.specs.declared.Wanted.the-variants.{Every}
 use Rattle.calls.proofs.Sequences.{name, session, credential, class, userYes, yes′, no′, computed}
 use Rattle.history.specs.History.{Event, history}
 use Rattle.history.specs.Lives.{Life, Gone, Live, Raised, Kept, counts, ends, shuts, drops, resumes, after, charges, tellsPassed, onward, follow, told, nobody}
-use Rattle.history.specs.Demand.{TwoPassed}
+use Rattle.history.specs.Demand.{IsPassedOf, TwoPassed}
 use Rattle.history.proofs.Told.{live-not-gone}
 
 -- two names that differ in their last byte
@@ -135,7 +135,7 @@ refusedAndEnded =
     ∷ End (session 0) (userYes 0 1) false
     ∷ []
 
-two-passed : TwoPassed nobody (history (fresh grants) refusedAndEnded) P
+pub two-passed : TwoPassed nobody (history (fresh grants) refusedAndEnded) P
 unfolding computed history counts ends shuts drops resumes after charges tellsPassed onward follow
 two-passed =
     record {
@@ -148,4 +148,35 @@ two-passed =
       one = record { session = session 0; claim = userYes 0 0; carried = refl; told = refl; before = []; lives = refl };
       stays = (live-not-gone, tt);
       two = record { session = session 0; claim = userYes 0 1; carried = refl; told = refl; before = 0 ∷ []; lives = refl };
+    }
+
+-- ---- two claims with one number that passed, the one of P's process and the other of Q's: no two of one name
+abbrev bothStarted : List Call
+bothStarted =
+    Open (session 0)
+    ∷ Select (session 0) 0x10
+    ∷ Start (session 0) (credential 0) P
+    ∷ Start (session 0) (credential 1) Q
+    ∷ []
+
+pub record SameNumber : Type 0 where
+  pub first : Event
+  pub second : Event
+  pub are : history (fresh grants) (bothStarted ++ (recorded 0 0 0 ∷ List′ (session 0) (yes′ 1 0) Every 106 ∷ [])) ≡ history (fresh grants) bothStarted ++ (first ∷ second ∷ [])
+  pub one : IsPassedOf (told nobody (history (fresh grants) bothStarted) P) first
+  pub two : IsPassedOf (told nobody (history (fresh grants) bothStarted ++ (first ∷ [])) Q) second
+  pub same : one .claim .number ≡ two .claim .number
+  pub accepted : (first .answered ≡ 0) × (second .answered ≡ 0)
+
+pub same-number : SameNumber
+unfolding computed history counts ends shuts drops resumes after charges tellsPassed onward follow
+same-number =
+    record {
+      first = record { call = recorded 0 0 0; answered = 0 };
+      second = record { call = List′ (session 0) (yes′ 1 0) Every 106; answered = 0 };
+      are = refl;
+      one = record { session = session 0; claim = userYes 0 0; carried = refl; told = refl; before = []; lives = refl };
+      two = record { session = session 0; claim = userYes 1 0; carried = refl; told = refl; before = []; lives = refl };
+      same = refl;
+      accepted = (refl, refl);
     }

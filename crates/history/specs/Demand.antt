@@ -42,6 +42,11 @@ pub record IsPassedOf (life : Life) (e : Event) : Type 0 where
   pub before : List ℕ
   pub lives : life ≡ Live session (claim .credential) before
 
+-- the claim of the event passed, and is one of the process of this name and of no other, by what is told of each name
+pub record OfOneName (tell : Name → Life) (e : Event) (name : Name) : Type 0 where
+  pub of : IsPassedOf (tell name) e
+  pub only : (other : Name) → IsPassedOf (tell other) e → other .bytes ≡ name .bytes
+
 -- none of the events removes the process of the name, which has this life before them
 abbrev pub Stays : Name → List Event → Life → Type 0
 Stays name [] life = Unit {0}
