@@ -511,6 +511,25 @@ fn a_code_that_004_has_not_is_not_written() {
 }
 
 #[test]
+fn an_operation_or_an_error_that_004_has_not_takes_two_bytes_and_the_rest() {
+    let firsts = [
+        (0x83, 0),
+        (0x83, 4),
+        (0x85, 0),
+        (0x85, 4),
+        (0x7f, 0),
+        (0x7f, 12),
+        (0x7f, 254),
+        (0x7f, 256 + 3),
+    ];
+    for (code, first) in firsts {
+        let values = [first, 7, 1, 1, 1, 0, 2];
+        assert_eq!(number_of_refused(code, values, &[1, 2], 3), 15);
+        assert_eq!(number_of_refused(code, values, &[1, 2], 4), 14);
+    }
+}
+
+#[test]
 fn seven_values_are_asked_for_first() {
     for count in [0, 6, 8] {
         let (mut values, mut at) = (vec![5; count], 9);

@@ -72,34 +72,62 @@ pub enum Rest {
     Never,
 }
 
-// A message, or a piece of a list's element, by what it is made of.
+// A message, or a piece of a list, by what it is made of; in brackets 004's tables. Formats.antt has what stands at which byte, at `shapeOf`.
 pub enum Layout {
+    // no code, operation or error of 004
     NoMessage,
+    // GET_AUTH_VERSION (23), GET_AUTH_CAPABILITIES (28), ELEVATE_PRIVILEGE (55), END_ELEVATED_PRIVILEGE (57), TAKE_OWNERSHIP (59); SELECT_AUTH_VERSION_RSP (27),
+    // SET_CRED_ID_PARAMS_DONE (35), SET_AUTH_POLICY_DONE (41), PRIVILEGE_ELEVATED (56), ELEVATED_PRIVILEGE_ENDED (58), OWNERSHIP_TAKEN (60), AUTH_DEFAULTS_APPLIED (64)
     Plain,
+    // SELECT_AUTH_VERSION (26)
     VersionNumber,
+    // GET_CRED_ID_PARAMS (36), GET_AUTH_POLICY (42), GET_AUTH_PROCESSES (44), END_AUTH_RSP (53)
     OneCredential,
+    // SET_CRED_ID_PARAMS (33) with ParameterChange (34)
     ChangeCredential,
+    // SET_AUTH_POLICY (39) with PolicyChange (40)
     ChangePolicies,
+    // SET_CRED_ID_PARAMS (33) and SET_AUTH_POLICY (39) with Lock or Unlock (34, 40)
     LockOrUnlocking,
+    // START_AUTH (49)
     StartAuth,
+    // END_AUTH (52)
     EndAuth,
+    // AUTH_RESET_TO_DEFAULT (61)
     Reset,
+    // KILL_AUTH_PROCESS (47)
     CredentialAndName,
+    // AUTH_VERSION (24)
     VersionList,
+    // CRED_ID_PARAMS (37)
     CredentialParameters,
+    // AUTH_POLICY (43)
     PolicyAnswer,
+    // START_AUTH_RSP (51)
     StartAuthResponse,
+    // AUTH_CAPABILITIES (29)
     Capabilities,
+    // AUTH_PROCESSES (45)
     ProcessList,
+    // PROCESS_KILLED (48)
     NameAlone,
+    // AUTH_ERROR (20) with the errors of Table 21 that have no data
     PlainError,
+    // AUTH_ERROR with UnsupportedRequest, 0x09
     UnsupportedRequest,
+    // AUTH_ERROR with TermAuthProc, 0x0b
     Terminated,
+    // AUTH_ERROR, vendor or standards-defined, 0xff (22)
     VendorError,
+    // an entry of AUTH_VERSION (25)
     VersionPiece,
+    // a process of AUTH_PROCESSES (46)
     ProcessPiece,
+    // the owner of a policy (4, 29) or of a reset element (63)
     OwnerPiece,
+    // a policy behind its owner (4)
     PolicyPiece,
+    // a reset element behind its owner (63)
     ResetPiece,
 }
 

@@ -1,5 +1,5 @@
--- The loop over a list that include/slavotuk.h prescribes: "read the piece at the front of the rest, then that at the front of what lies behind it", by calls of
--- slavotuk_read_piece of which nothing is known but their contract.
+-- The loop over a list that include/slavotuk.h prescribes: the piece at the front of the rest, then that at the front of what lies behind it, until nothing does, by
+-- calls of slavotuk_read_piece of which nothing is known but their contract.
 use Prim.Native.Nat.{ℕ, _-_, _<_}
 use mathlib.Core.Path.{_≡_}
 use mathlib.Core.List.{List, [], _∷_}
