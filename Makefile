@@ -17,7 +17,7 @@ PREFIX ?= /usr/local
 LIBDIR := $(PREFIX)/lib
 INCLUDEDIR := $(PREFIX)/include
 
-SOURCES := crates.txt $(shell find crates -path '*/must-fail' -prune -o -type f -print)
+SOURCES := crates.txt $(shell find crates \( -name must-fail -o -name wrong \) -prune -o -type f -print)
 CARGO := cargo run --quiet --release --package
 
 # the header has the version; the soname changes with its first number
@@ -66,7 +66,11 @@ lib: tools $(call lib-files,$(LIB),$(WITH_SHARED))
 # for this machine: the hosts link nothing else
 own: tools $(call lib-files,$(OWN),yes)
 
-build/lib-%/libslavotuk.a: $(SOURCES) arch/archive arch/kit
+# proved once for both
+build/bitcode/options: $(SOURCES) arch/bitcode arch/kit
+	@arch/bitcode $(@D)
+
+build/lib-%/libslavotuk.a: build/bitcode/options arch/archive arch/kit
 	@arch/archive $* $@
 
 # all of the archive, with the entries alone to be seen from outside
@@ -111,7 +115,6 @@ faults: own build/figures
 bench: own build/figures
 	@$(CARGO) slavotuk-bench
 
-# the wrong builds are made of the bitcode that the archive for Arm leaves behind
 trace: own $(call lib-files,build/lib-x86_64) $(call lib-files,build/lib-aarch64)
 	@tests/trace
 

@@ -2,6 +2,7 @@
 
 use crate::map::{self, Citation, Column, Map, Target};
 use crate::scope::{self, Scope};
+use crate::source::Kind;
 use crate::tree::{Folder, Id, Tree};
 use std::collections::{BTreeMap, BTreeSet, HashSet};
 use std::path::Path;
@@ -24,6 +25,7 @@ pub fn check(root: &Path, tree: &Tree, map: &Map) -> Vec<Verdict> {
         contracts_definitions_are_shown(tree, &shown),
         files_are_named(tree, map),
         answers_are_one(tree),
+        nothing_is_asked(tree),
     ]
 }
 
@@ -151,8 +153,9 @@ fn edits_fit(root: &Path, tree: &Tree) -> Verdict {
                 .or_insert_with(|| std::fs::read_to_string(path).unwrap_or_default());
             if hunk.change(text).is_none() {
                 verdict.wrong.push(format!(
-                    "{}/must-fail/{}: `{}` is not in {} exactly once",
+                    "{}/{}/{}: `{}` is not in {} exactly once",
                     edit.crate_name,
+                    edit.shelf.name(),
                     edit.name,
                     hunk.old.trim(),
                     hunk.file
@@ -266,24 +269,73 @@ pub fn one_answer(tree: &Tree, function: Id) -> Vec<Id> {
         .collect()
 }
 
+/// The lines of a function before its contract: its name, its parameters and the type of its answer.
+fn signature(tree: &Tree, function: Id) -> String {
+    let lines = tree.declaration(function).statement.iter();
+    let before = lines.take_while(|line| {
+        let line = line.trim_start();
+        !line.starts_with("requires") && !line.starts_with("ensures")
+    });
+    before.map(|line| format!("{line} ")).collect()
+}
+
+/// A theorem for the answer, and one for each slice or number that is lent to be written.
 fn answers_are_one(tree: &Tree) -> Verdict {
+    let mut verdict = Verdict {
+        rule: "answers and lent buffers of public functions have a theorem that there is one",
+        looked_at: 0,
+        wrong: Vec::new(),
+    };
+    for id in tree.public_functions() {
+        let signature = signature(tree, id);
+        let theorems = one_answer(tree, id);
+        let of = |word: &str| {
+            let statements = theorems.iter().map(|theorem| tree.declaration(*theorem));
+            statements
+                .filter(|theorem| theorem.statement.join(" ").contains(&format!(": {word} ")))
+                .count()
+        };
+        let answers = usize::from(signature.contains("-> "));
+        let lent = signature.matches("&mut ").count();
+        verdict.looked_at += answers + lent;
+        for (wanted, word) in [(answers, "OneAnswer"), (lent, "OneContent")] {
+            let found = of(word);
+            for _ in found..wanted {
+                verdict.wrong.push(format!(
+                    "{}: `{}` wants {wanted} theorems `{word}` and has {found}",
+                    tree.file(id).crate_name,
+                    tree.declaration(id).name
+                ));
+            }
+        }
+    }
+    verdict
+}
+
+/// Whether a function has a `requires`.
+pub fn asks(tree: &Tree, id: Id) -> bool {
+    let declaration = tree.declaration(id);
+    declaration.kind == Kind::Function
+        && declaration
+            .statement
+            .iter()
+            .any(|line| line.trim_start().starts_with("requires"))
+}
+
+/// "No caller checks anything beforehand."
+fn nothing_is_asked(tree: &Tree) -> Verdict {
     let functions: Vec<Id> = tree.public_functions().collect();
-    let missing = functions
-        .iter()
-        .filter(|id| one_answer(tree, **id).is_empty());
-    let wrong = missing
-        .map(|id| {
-            format!(
-                "{}: no theorem that `{}` has one answer",
-                tree.file(*id).crate_name,
-                tree.declaration(*id).name
-            )
-        })
-        .collect();
+    let wrong = functions.iter().filter(|id| asks(tree, **id)).map(|id| {
+        format!(
+            "{}: `{}` asks something of its caller",
+            tree.file(*id).crate_name,
+            tree.declaration(*id).name
+        )
+    });
     Verdict {
-        rule: "public functions have a theorem that there is one answer",
+        rule: "public functions ask nothing of their callers",
         looked_at: functions.len(),
-        wrong,
+        wrong: wrong.collect(),
     }
 }
 

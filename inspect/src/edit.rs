@@ -1,11 +1,40 @@
-//! Reads a wrong build (`.edit`): a comment, and texts of the crate's files with what stands for them.
+//! Reads a wrong build (`.edit`): a comment, where it is refused, and texts of the crate's files with what stands for them.
+
+/// Where a wrong build lies in its crate, and so who tries it.
+#[derive(Clone, Copy, Debug, PartialEq, Eq)]
+pub enum Shelf {
+    /// those that documents 01 and 02 name: `rt ci` tries them
+    MustFail,
+    /// all others: `slavotuk-inspect wrong` does
+    Wrong,
+}
+
+impl Shelf {
+    pub const ALL: [Shelf; 2] = [Shelf::MustFail, Shelf::Wrong];
+
+    pub fn name(self) -> &'static str {
+        match self {
+            Shelf::MustFail => "must-fail",
+            Shelf::Wrong => "wrong",
+        }
+    }
+}
 
 #[derive(Clone, Debug)]
 pub struct Edit {
     pub crate_name: String,
+    pub shelf: Shelf,
     pub name: String,
     pub comment: String,
+    pub at: Fact,
     pub hunks: Vec<Hunk>,
+}
+
+/// The fact that fails under an edit: the file of the proof, from the crate's folder on, and the name of what is proved there.
+#[derive(Clone, Debug, Default, PartialEq, Eq)]
+pub struct Fact {
+    pub file: String,
+    pub name: String,
 }
 
 #[derive(Clone, Debug)]
@@ -24,13 +53,20 @@ pub struct Change {
     pub after: String,
 }
 
-pub fn read(crate_name: &str, name: &str, text: &str) -> Edit {
+pub fn read(crate_name: &str, shelf: Shelf, name: &str, text: &str) -> Edit {
     let mut comment = Vec::new();
+    let mut at = Fact::default();
     let mut hunks: Vec<Hunk> = Vec::new();
     let mut file = "";
     for line in text.lines() {
         if let Some(words) = line.strip_prefix('#') {
             comment.push(words.trim());
+        } else if let Some(fact) = value(line, "at:") {
+            let (file, name) = fact.split_once(' ').unwrap_or((fact, ""));
+            at = Fact {
+                file: file.to_string(),
+                name: name.to_string(),
+            };
         } else if let Some(path) = line.strip_prefix("file:") {
             file = path.trim();
         } else if let Some(old) = value(line, "old:") {
@@ -45,8 +81,10 @@ pub fn read(crate_name: &str, name: &str, text: &str) -> Edit {
     }
     Edit {
         crate_name: crate_name.to_string(),
+        shelf,
         name: name.to_string(),
         comment: comment.join(" "),
+        at,
         hunks,
     }
 }
@@ -90,8 +128,12 @@ mod tests {
 
     #[test]
     fn the_comment_the_files_and_the_texts_are_read() {
-        let edit = read("names", "x", "# stops\n# early\nfile: src/lib.rt\nold:     while i < 48 {\nnew:     while i < 16 {\nold: a\nnew:\n");
+        let edit = read("names", Shelf::Wrong, "x", "# stops\n# early\nat: proofs/same/Proof.antt loop-again\nfile: src/lib.rt\nold:     while i < 48 {\nnew:     while i < 16 {\nold: a\nnew:\n");
         assert_eq!(edit.comment, "stops early");
+        assert_eq!(
+            (edit.at.file.as_str(), edit.at.name.as_str()),
+            ("proofs/same/Proof.antt", "loop-again")
+        );
         assert_eq!(edit.hunks.len(), 2);
         assert_eq!(edit.hunks[0].old, "    while i < 48 {");
         assert_eq!(

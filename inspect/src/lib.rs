@@ -15,4 +15,5 @@ pub mod scope;
 pub mod source;
 pub mod tree;
 pub mod words;
+pub mod wrong;
 pub mod xml;

@@ -1,11 +1,13 @@
 //! `slavotuk-inspect check` and `slavotuk-inspect page`, in the repository's folder.
 #![forbid(unsafe_code)]
 
+use slavotuk_inspect::believed::Figure;
 use slavotuk_inspect::check;
 use slavotuk_inspect::map::{self, Map};
 use slavotuk_inspect::page::{self, Book, Origin};
 use slavotuk_inspect::run::Run;
 use slavotuk_inspect::tree::Tree;
+use slavotuk_inspect::wrong;
 use std::fs;
 use std::io;
 use std::path::Path;
@@ -14,9 +16,12 @@ use std::process::{Command, ExitCode};
 const HELP: &str = "\
 usage: slavotuk-inspect check
        slavotuk-inspect page FILE
+       slavotuk-inspect wrong [CRATE..]
 
 check   docs/STATEMENTS.md against the sources: what is wrong with it, and last 'N passed, M failed'
 page    writes the inspector's page
+wrong   tries the wrong builds of these crates, or of all, that `rt` does not try, and reads the logs of those that it does; last 'N passed, M failed'.
+        All crates have to be proved
 ";
 
 fn main() -> ExitCode {
@@ -25,6 +30,7 @@ fn main() -> ExitCode {
     let done = match words.as_slice() {
         ["check"] => checked(),
         ["page", file] => written(Path::new(file)),
+        ["wrong", crates @ ..] => tried(crates),
         _ => {
             eprint!("{HELP}");
             return ExitCode::from(2);
@@ -46,6 +52,21 @@ fn checked() -> io::Result<bool> {
     Ok(check::report(&verdicts))
 }
 
+fn tried(crates: &[&str]) -> io::Result<bool> {
+    let root = Path::new(".");
+    let tree = Tree::read(root)?;
+    if let Some(name) = crates
+        .iter()
+        .find(|name| tree.crates.iter().all(|c| c.name != **name))
+    {
+        return Err(io::Error::new(
+            io::ErrorKind::NotFound,
+            format!("crates.txt lists no crate {name}"),
+        ));
+    }
+    wrong::report(root, &tree, Path::new("arch/prover"), crates)
+}
+
 fn written(file: &Path) -> io::Result<bool> {
     let root = Path::new(".");
     let (tree, map) = (Tree::read(root)?, Map::read(root)?);
@@ -60,10 +81,15 @@ fn written(file: &Path) -> io::Result<bool> {
         fs::create_dir_all(folder)?;
     }
     fs::write(file, page::write(&book))?;
-    let (sentences, lines) = (map.rows().count(), book.believed.all_lines(&tree));
+    let lines = Figure::ALL.map(|figure| book.believed.all_lines(&tree, figure));
     println!(
-        "{}: {sentences} sentences, {lines} lines to be believed",
-        file.display()
+        "{}: {} sentences; lines to be believed: {} for {}, {} for {}",
+        file.display(),
+        map.rows().count(),
+        lines[0],
+        Figure::ALL[0].title(),
+        lines[1],
+        Figure::ALL[1].title()
     );
     Ok(true)
 }

@@ -65,6 +65,15 @@ pub struct Section {
     pub blocks: Vec<Block>,
 }
 
+impl Section {
+    fn rows(&self) -> impl Iterator<Item = &Row> {
+        self.blocks.iter().flat_map(|block| match block {
+            Block::Sentences(_, rows) => rows.as_slice(),
+            Block::Prose(_) => &[],
+        })
+    }
+}
+
 pub struct Map {
     pub sections: Vec<Section>,
     /// tables that have some of the columns and not all, in their order: their lines
@@ -147,11 +156,15 @@ impl Map {
     }
 
     pub fn rows(&self) -> impl Iterator<Item = &Row> {
-        let blocks = self.sections.iter().flat_map(|section| &section.blocks);
-        blocks.flat_map(|block| match block {
-            Block::Sentences(_, rows) => rows.as_slice(),
-            Block::Prose(_) => &[],
-        })
+        self.sections.iter().flat_map(Section::rows)
+    }
+
+    /// The rows of the section with a title.
+    pub fn section_rows<'a>(&'a self, title: &'a str) -> impl Iterator<Item = &'a Row> {
+        let sections = self.sections.iter();
+        sections
+            .filter(move |section| section.title == title)
+            .flat_map(Section::rows)
     }
 
     pub fn citations(&self) -> impl Iterator<Item = Citation<'_>> {

@@ -1,6 +1,8 @@
 //! What the last gate run proved: the log that tests/gate leaves, which has the date, the commit and the kit's identity before what
-//! `rt ci` printed.
+//! `rt ci` printed, and what `slavotuk-inspect wrong` did.
 
+use crate::edit::Shelf;
+use crate::wrong;
 use std::collections::HashMap;
 use std::fs;
 use std::path::Path;
@@ -37,14 +39,9 @@ impl Run {
     pub fn read(root: &Path) -> Option<Run> {
         let mut run = Run::of(&fs::read_to_string(root.join(PATH)).ok()?);
         for ((crate_name, edit), refusal) in &mut run.refusals {
-            let log = root
-                .join("target/must-fail")
-                .join(crate_name)
-                .join(edit)
-                .join(".log");
-            refusal.words = fs::read_to_string(log)
-                .map(|text| first_error(&text))
-                .unwrap_or_default();
+            let logs = Shelf::ALL.map(|shelf| wrong::log_path(root, shelf, crate_name, edit));
+            let log = logs.iter().find_map(|path| fs::read_to_string(path).ok());
+            refusal.words = error_at(&log.unwrap_or_default(), &refusal.place);
         }
         Some(run)
     }
@@ -67,36 +64,37 @@ impl Run {
                 };
             } else if let Some(words) = line.strip_prefix("rt: ") {
                 run.told(words, &mut logic);
+            } else if let Some(words) = line.strip_prefix("wrong: ") {
+                run.tried(words);
             }
         }
         run
     }
 
     fn told(&mut self, words: &str, logic: &mut Proved) {
-        if let Some(refused) = words
-            .strip_prefix("must-fail ")
-            .and_then(|rest| rest.split_once(": refused, "))
-        {
-            let (name, rest) = refused;
-            if let Some((crate_name, edit)) = name.split_once('/') {
-                let place = rest
-                    .split_once("first at ")
-                    .and_then(|(_, place)| place.split([';', ')']).next())
-                    .unwrap_or_default();
-                let refusal = Refusal {
-                    place: place.to_string(),
-                    words: String::new(),
-                };
-                self.refusals
-                    .insert((crate_name.to_string(), edit.to_string()), refusal);
-            }
-        } else if let Some((name, _)) = words.split_once(" proved (") {
+        if let Some((name, _)) = words.split_once(" proved (") {
             self.crates.push(Proved {
                 crate_name: name.to_string(),
                 ..std::mem::take(logic)
             });
         }
         self.end = words.to_string();
+    }
+
+    fn tried(&mut self, words: &str) {
+        let refused = words.split_once(": refused at ");
+        let Some(((crate_name, edit), rest)) =
+            refused.and_then(|(name, rest)| Some((name.split_once('/')?, rest)))
+        else {
+            return;
+        };
+        let place = rest.split(' ').next().unwrap_or_default();
+        let refusal = Refusal {
+            place: place.to_string(),
+            words: String::new(),
+        };
+        self.refusals
+            .insert((crate_name.to_string(), edit.to_string()), refusal);
     }
 }
 
@@ -105,11 +103,11 @@ fn count(line: &str, key: &str) -> usize {
     value.and_then(|digits| digits.parse().ok()).unwrap_or(0)
 }
 
-/// What the first error says, without its place.
-fn first_error(log: &str) -> String {
+/// What the error at a place says.
+fn error_at(log: &str, place: &str) -> String {
     let line = log
         .lines()
-        .find_map(|line| line.split_once(": error: "))
+        .find_map(|line| line.split_once(&format!("/{place}: error: ")))
         .map_or("", |(_, words)| words);
     line.to_string()
 }
@@ -123,7 +121,8 @@ mod tests {
         let run = Run::of(
             "date: 2026-11-15 18:00 UTC\ncommit: abc\nkit: rattle-kit-5b\nfn names::same: proved\nlogic=proved functions=10 sum=06 native=nat\n\
              rt: names proved (10 s)\nlogic=proved functions=32 axioms=1 target=x\nrt: steps proved (34 s)\n\
-             rt: must-fail names/sixteen: refused, as it must be (first at proofs/same/Proof.antt:20:3; 3 s)\nrt: ok, 2 crates proved, 1 must-fail edits refused\n",
+             rt: must-fail names/sixteen: refused, as it must be (first at proofs/Unique.antt:2:3; 3 s)\nrt: ok, 2 crates proved, 1 must-fail edits refused\n\
+             wrong: names/sixteen: refused at proofs/same/Proof.antt:20:3\nwrong: names/zero: refused at proofs/same/Proof.antt:21:3 (1.4 s)\nwrong: names/one: FAILED: NOT REFUSED\n",
         );
         assert_eq!(
             (run.date.as_str(), run.commit.as_str(), run.kit.as_str()),
@@ -135,17 +134,24 @@ mod tests {
             axioms,
         };
         assert_eq!(run.crates, [proved("names", 10, 0), proved("steps", 32, 1)]);
-        let refusal = &run.refusals[&("names".to_string(), "sixteen".to_string())];
-        assert_eq!(refusal.place, "proofs/same/Proof.antt:20:3");
+        let place = |name: &str| {
+            run.refusals[&("names".to_string(), name.to_string())]
+                .place
+                .as_str()
+        };
+        assert_eq!(run.refusals.len(), 2);
+        assert_eq!(
+            (place("sixteen"), place("zero")),
+            ("proofs/same/Proof.antt:20:3", "proofs/same/Proof.antt:21:3")
+        );
         assert_eq!(run.end, "ok, 2 crates proved, 1 must-fail edits refused");
     }
 
     #[test]
-    fn the_first_error_is_told_without_its_place() {
-        assert_eq!(
-            first_error("note: x\n/a/b.antt:3:4: error: not so\n/c: error: more\n"),
-            "not so"
-        );
-        assert_eq!(first_error(""), "");
+    fn the_error_at_a_place_is_told_without_it() {
+        let log =
+            "note: x\n/a/proofs/b.antt:3:4: error: not so\n/a/proofs/c.antt:3:4: error: more\n";
+        assert_eq!(error_at(log, "proofs/c.antt:3:4"), "more");
+        assert_eq!(error_at("", "proofs/c.antt:3:4"), "");
     }
 }

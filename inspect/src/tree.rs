@@ -1,6 +1,6 @@
 //! The sources: every crate of crates.txt with what its files declare and its wrong builds.
 
-use crate::edit::{self, Edit};
+use crate::edit::{self, Edit, Shelf};
 use crate::source::{counts, Content, Declaration, Kind};
 use crate::{antt, rattle};
 use std::fs;
@@ -87,7 +87,9 @@ impl Tree {
             for kind in Folder::ALL {
                 tree.files.extend(files(&folder, &name, kind)?);
             }
-            tree.edits.extend(edits(&folder.join("must-fail"), &name)?);
+            for shelf in Shelf::ALL {
+                tree.edits.extend(edits(&folder, &name, shelf)?);
+            }
             tree.crates[at].own_proof_lines = proof_lines(&folder.join("proofs"))?;
         }
         Ok(tree)
@@ -267,13 +269,14 @@ fn files(folder: &Path, crate_name: &str, kind: Folder) -> io::Result<Vec<File>>
     Ok(found)
 }
 
-fn edits(folder: &Path, crate_name: &str) -> io::Result<Vec<Edit>> {
-    let paths = listed(folder, "edit")?;
+fn edits(folder: &Path, crate_name: &str, shelf: Shelf) -> io::Result<Vec<Edit>> {
+    let paths = listed(&folder.join(shelf.name()), "edit")?;
     paths
         .iter()
         .map(|path| {
             Ok(edit::read(
                 crate_name,
+                shelf,
                 &stem(path),
                 &fs::read_to_string(path)?,
             ))

@@ -131,12 +131,36 @@ fn a_file_of_definitions_that_is_not_named() {
 
 #[test]
 fn a_public_function_with_no_theorem_of_one_answer() {
-    let told = ["names: no theorem that `same` has one answer"];
+    let told = ["names: `same` wants 1 theorems `OneAnswer` and has 0"];
     fails(
         "once",
         "crates/names/proofs/Unique.antt",
         "OneAnswer",
         "Answer",
+        &told,
+    );
+}
+
+#[test]
+fn a_lent_buffer_with_no_theorem_of_one_content() {
+    let told = ["names: `same` wants 1 theorems `OneContent` and has 0"];
+    fails(
+        "content",
+        "crates/names/src/lib.rt",
+        "b: Name)",
+        "b: &mut [u8])",
+        &told,
+    );
+}
+
+#[test]
+fn a_public_function_that_asks_something() {
+    let told = ["names: `same` asks something of its caller"];
+    fails(
+        "asks",
+        "crates/names/src/lib.rt",
+        "    ensures { λ r. ⌜ r ≡ sameName",
+        "    requires { ⌜ a ≡ b ⌝ }\n    ensures { λ r. ⌜ r ≡ sameName",
         &told,
     );
 }

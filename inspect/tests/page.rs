@@ -3,7 +3,7 @@
 mod common;
 
 use common::Fixture;
-use slavotuk_inspect::believed::Believed;
+use slavotuk_inspect::believed::{Believed, Figure};
 use slavotuk_inspect::map::{self, Map};
 use slavotuk_inspect::page::{self, Book, Origin};
 use slavotuk_inspect::run::Run;
@@ -127,7 +127,8 @@ fn where_no_run_is_at_hand_it_says_so() {
 #[test]
 fn a_run_is_told_with_its_date_commit_and_kit() {
     let log = "date: then\ncommit: def\nkit: kit-5\nlogic=proved functions=1 sum=0\nrt: names proved (1 s)\n\
-               rt: must-fail names/one_byte: refused, as it must be (first at proofs/same/Proof.antt:3:4; 1 s)\nrt: ok, 1 crates proved\n";
+               rt: must-fail names/one_byte: refused, as it must be (first at proofs/Unique.antt:1:2; 1 s)\nrt: ok, 1 crates proved\n\
+               wrong: names/one_byte: refused at proofs/same/Proof.antt:3:4\n";
     let html = small("run", Some(log));
     let told = plain(between(&html, "<h2 id=\"run\">", "<h2"));
     assert!(
@@ -188,7 +189,9 @@ fn the_lines_to_be_believed_are_those_that_the_page_marks() {
     let scopes: Vec<Scope> = (0..tree.files.len())
         .map(|file| Scope::of(&tree, file))
         .collect();
-    assert_eq!(marked, Believed::of(&tree, &map, &scopes).all_lines(&tree));
+    let believed = Believed::of(&tree, &map, &scopes);
+    let counted = Figure::ALL.map(|figure| believed.all_lines(&tree, figure));
+    assert_eq!(marked, counted.iter().sum::<usize>());
 }
 
 #[test]

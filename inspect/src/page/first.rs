@@ -1,7 +1,8 @@
 //! The first page: what is proved, what is assumed, how much has to be believed, and what the last gate run proved.
 
-use crate::believed::Part;
-use crate::page::html::{crate_anchor, escaped, link, number, several};
+use crate::believed::{Figure, Part};
+use crate::check;
+use crate::page::html::{anchor, crate_anchor, escaped, link, number, several};
 use crate::page::{prose, sentences, Book};
 use crate::run::Run;
 use crate::tree::Folder;
@@ -20,6 +21,7 @@ pub fn page(book: &Book) -> String {
         proved(book),
         run(book),
         believed(book),
+        asking(book),
         sentences::front(book),
     ]
     .concat()
@@ -82,23 +84,56 @@ fn map(book: &Book) -> String {
     }
 }
 
-fn believed(book: &Book) -> String {
-    let lines = book.believed.all_lines(book.tree);
+/// The functions that ask something of their callers, which these prove: private ones, since the check asks that no public one does.
+fn asking(book: &Book) -> String {
+    let mut rows = String::new();
+    for of in &book.tree.crates {
+        let own = book
+            .tree
+            .declarations()
+            .filter(|id| book.tree.file(*id).crate_name == of.name && check::asks(book.tree, *id));
+        let names: Vec<String> = own
+            .map(|id| link(&anchor(book.tree, id), &book.tree.declaration(id).name))
+            .collect();
+        if !names.is_empty() {
+            rows.push_str(&format!(
+                "<tr><td>{}</td><td>{}</td></tr>\n",
+                link(&crate_anchor(&of.name), &of.name),
+                names.join(", ")
+            ));
+        }
+    }
     format!(
-        "<h2 id=\"believed\">How much has to be believed</h2>\n<p><strong>{} lines</strong>: those that have a bar at their left in <a \
-         href=\"#library\">the listing below</a>, counted without comments and imports. Proofs are checked, and need not be read.</p>\n<details><summary>Crate by \
-         crate</summary>{}</details>\n",
-        number(lines),
-        believed_table(book)
+        "<h2 id=\"asking\">Private functions that ask something</h2>\n<p>No public function has a <code>requires</code>. These private ones do, and each caller is \
+         proved to give what they ask.</p>\n<details><summary>Crate by crate</summary><div class=\"wide\"><table><tr><th>crate</th><th>functions</th></tr>\n{rows}\
+         </table></div></details>\n"
+    )
+}
+
+fn believed(book: &Book) -> String {
+    let figures: String = Figure::ALL
+        .iter()
+        .map(|figure| {
+            format!(
+                "<p><strong>{} lines</strong> for {}.</p>\n<details><summary>Crate by crate</summary>{}</details>\n",
+                number(book.believed.all_lines(book.tree, *figure)),
+                figure.title(),
+                believed_table(book, *figure)
+            )
+        })
+        .collect();
+    format!(
+        "<h2 id=\"believed\">How much has to be believed</h2>\n<p>The lines that have a bar at their left in <a href=\"#library\">the listing below</a>, counted \
+         without comments and imports: what the rows cite, and all that that cites. Proofs are checked, and need not be read.</p>\n{figures}"
     )
 }
 
 /// The lines to be believed, crate by crate.
-fn believed_table(book: &Book) -> String {
+fn believed_table(book: &Book, figure: Figure) -> String {
     let mut rows = String::new();
     let mut all = [0; 3];
     for of in &book.tree.crates {
-        let lines = book.believed.lines(book.tree, &of.name);
+        let lines = book.believed.lines(book.tree, figure, &of.name);
         if lines.iter().sum::<usize>() > 0 {
             rows.push_str(&believed_row(
                 &link(&crate_anchor(&of.name), &of.name),

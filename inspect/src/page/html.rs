@@ -45,10 +45,8 @@ pub fn crate_anchor(name: &str) -> String {
 }
 
 pub fn edit_anchor(tree: &Tree, at: usize) -> String {
-    format!(
-        "{}.must-fail.{}",
-        tree.edits[at].crate_name, tree.edits[at].name
-    )
+    let edit = &tree.edits[at];
+    format!("{}.{}.{}", edit.crate_name, edit.shelf.name(), edit.name)
 }
 
 pub fn row_anchor(number: usize) -> String {

@@ -286,6 +286,8 @@ fn wrong_builds(book: &Book, crate_name: &str) -> String {
     }
     match html.as_str() {
         "" => html,
-        articles => format!("<div class=\"builds\"><h4>crates/{crate_name}/must-fail: wrong builds</h4>\n{articles}</div>\n"),
+        articles => format!(
+            "<div class=\"builds\"><h4>crates/{crate_name}: wrong builds</h4>\n{articles}</div>\n"
+        ),
     }
 }

@@ -263,7 +263,7 @@ fn navigation(book: &Book) -> String {
     format!(
         "<nav aria-label=\"Contents\">\n<p class=\"title\"><a href=\"#top\">Slavotuk</a></p>\n<div id=\"search\" role=\"search\"></div>\n\
          <ul>\n<li><a href=\"#proved\">What is proved</a></li><li><a href=\"#run\">The last gate run</a></li>\
-         <li><a href=\"#believed\">How much has to be believed</a></li>{}\n<li><a href=\"#pictures\">Pictures</a></li>\n\
+         <li><a href=\"#believed\">How much has to be believed</a></li>\n<li><a href=\"#asking\">Private functions that ask something</a></li>{}\n<li><a href=\"#pictures\">Pictures</a></li>\n\
          <li><a href=\"#sentences\">Sentences</a><ul>{}</ul></li>\n<li><a href=\"#library\">Definitions, code, wrong builds</a>\
          <ul class=\"crates\">{}</ul></li>\n<li><a href=\"#index\">Index of names</a></li>\n</ul>\n</nav>\n",
         items(&front),
