@@ -4,14 +4,16 @@ use Prim.Native.Nat.{ℕ}
 use mathlib.Core.Path.{_≡_, refl}
 use mathlib.Core.Bool.{true, false}
 use mathlib.Core.List.{List, [], _∷_, _++_, map}
-use lib.ListN.{replicate}
+use lib.ListN.{length, replicate}
 use Rattle.names.specs.declared.Name.{Name}
 use Rattle.table.specs.Table.{standing}
 use Rattle.claims.specs.declared.Claim.the-variants.{Elevated}
 use Rattle.claims.specs.declared.Grants.{Grants}
-use Rattle.calls.specs.Calls.{Call, Open, Close, Select, Start, Continue, Elevate, Drop, End, Record, List′, Kill, SetWord, fresh}
+use Rattle.calls.specs.Calls.{Call, Open, Close, Select, Start, Continue, Elevate, Drop, End, Record, List′, Kill, SetWord, listed, fresh}
+use Rattle.calls.specs.Listing.{rowsOf, listing}
 use Rattle.calls.specs.Run.{run}
 use Rattle.calls.specs.declared.Wanted.the-variants.{Every}
+use Rattle.calls.proofs.Orders.{twelve}
 use Rattle.calls.proofs.Sequences.{name, session, credential, class, userYes, yes′, no′, computed}
 use Rattle.history.specs.History.{Event, history}
 use Rattle.history.specs.Lives.{Life, Gone, Live, Raised, Kept, counts, ends, shuts, drops, resumes, after, charges, tellsPassed, onward, follow, told, nobody}
@@ -106,9 +108,12 @@ pub record Examples : Type 0 where
   pub refused-are : map (λ (e : Event). e .answered) (history (fresh grants) refused) ≡ 0 ∷ 0 ∷ 0 ∷ 0 ∷ 10 ∷ 9 ∷ 8 ∷ 1 ∷ 15 ∷ 6 ∷ 2 ∷ 5 ∷ 5 ∷ []
   pub after-refused : Told refused (Live (session 0) (credential 0) (2 ∷ 1 ∷ 0 ∷ [])) (Live (session 0) (credential 1) (0 ∷ []))
   pub next-is : map (λ p. p .next) (standing (run (fresh grants) continued .table)) ≡ 4 ∷ []
+  -- "no listing exceeds 616 bytes", and there is one of just as many: with twelve standing, in what the call answers and in the bytes of its message
+  pub longest-listing : listed twelve (session 0) (yes′ 0 0) Every 616 .length ≡ 616
+  pub longest-message : length (listing (rowsOf twelve Every)) ≡ 616
 
 pub examples : Examples
-unfolding computed history counts ends shuts drops resumes after charges tellsPassed onward follow
+unfolding computed listed history counts ends shuts drops resumes after charges tellsPassed onward follow
 examples =
     record {
       numbers-are = refl;
@@ -123,6 +128,8 @@ examples =
       refused-are = refl;
       after-refused = record { of-P = refl; of-Q = refl };
       next-is = refl;
+      longest-listing = refl;
+      longest-message = refl;
     }
 
 -- ---- two claims of one process that passed, as demand 3's `once` speaks of them: the call of the first is refused with 10, and the second removes the process
