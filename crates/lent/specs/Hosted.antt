@@ -35,7 +35,7 @@ pub data Hosted : List ℕ → List ℕ → List Happening → List ℕ → List
       → Entered before entry after → entryChanges before entry ≡ false
       → Hosted after image happenings last newest
       → Hosted before image (Enters entry ∷ happenings) last newest
-  -- after every other one is, and may be after any
+  -- after every other entry one is written, and after any one may be
   written : {before image after old new last newest : List ℕ} {long : ℕ} {entry : Made} {happenings : List Happening}
       → Entered before entry after → ImageEntry after old 0 new long
       → Hosted after (take long new) happenings last newest
