@@ -131,7 +131,7 @@ cycledSince w = begun (cycled (run (w .first) (callsIn (w .events)))) (λ name. 
 
 -- what the image of such a slice is
 pub record IsImageOf (w : Since) (image : List ℕ) : Type 0 where
-  -- "What a module wrote is always accepted"
+  -- what a module wrote is always accepted
   pub accepted : isImage image ≡ true
   -- it makes the module that the calls come to, after a power cycle
   pub restored : Image.restored image ≡ cycledSince w .first
