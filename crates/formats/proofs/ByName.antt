@@ -8,7 +8,7 @@ use mathlib.Core.Bool.{Bool, true, false, not, _&&_}
 use mathlib.Core.List.{List, [], _∷_, _++_, map}
 use lib.Count.{ones, onesIn}
 use lib.Dec.{eqb}
-use lib.ListN.{length, replicate}
+use lib.ListN.{replicate}
 use Rattle.lists.specs.Lists.{any, padded}
 use Rattle.formats.specs.declared.Field.{Field}
 use Rattle.formats.specs.declared.Form.{Form}
@@ -277,7 +277,7 @@ pieceLines =
     ∷ []
 
 -- ---- the definitions are held to the lines
-abbrev pinned : Form → Held → Bool
+abbrev pub pinned : Form → Held → Bool
 pinned form held =
     eqb (form .width) (held .width)
     && not (any (λ (value : ℕ). not (isAllowed form value)) (held .taken))
@@ -285,13 +285,13 @@ pinned form held =
     && not (any (λ (m : Meaning). not (eqb (meant form (m .number)) (m .value))) (held .read))
 
 -- field by field, each where the one before it ends
-abbrev pinnedFrom : ℕ → List Field → List Held → ℕ → Bool
+abbrev pub pinnedFrom : ℕ → List Field → List Held → ℕ → Bool
 pinnedFrom begins [] [] restBegins = eqb begins restBegins
 pinnedFrom begins [] (h ∷ hs) restBegins = false
 pinnedFrom begins (f ∷ fs) [] restBegins = false
 pinnedFrom begins (f ∷ fs) (h ∷ hs) restBegins = eqb begins (h .begins) && pinned (formOf f) h && pinnedFrom (begins + h .width) fs hs restBegins
 
-abbrev held : ℕ → Line → Bool
+abbrev pub held : ℕ → Line → Bool
 held begins l = pinnedFrom begins (fieldsOf (l .layout)) (l .fields) (l .restBegins)
 
 pub record ByName : Type 0 where

@@ -79,7 +79,7 @@ formOf ErrorCode = between 1 0 255
 formOf ErrorData = between 1 0 255
 formOf NoErrorData = between 1 0 0
 
--- what a number of its bytes means: "Reserved bytes and bits are written zero and ignored on reading"
+-- what a number of its bytes means: reserved bits are "ignored when read"
 unfoldable pub meant : Form → ℕ → ℕ
 meant form n = cond (eqb (form .values) 0) n (n % form .values)
 
@@ -94,8 +94,8 @@ isSingle form value = cond (form .single) (eqb (ones value) 1) true
 unfoldable pub isAllowed : Form → ℕ → Bool
 isAllowed form value = isWithin form value && isSingle form value
 
--- ---- the messages. A message is its code at byte 0, a reserved byte, its fields from byte 2 on, and what follows them. So is a piece of a list, whose
--- fields begin at its byte 0.
+-- ---- the messages. A message is its code at byte 0, a reserved byte, its fields from byte 2 on, and what follows them. A piece of a list is its fields,
+-- from its byte 0 on, and what follows them.
 -- What follows is `Exactly` so many bytes; as many as the value at a place says (`Said`), the first field being place 0; at least as many, and at most a number
 -- (`SaidTo`); as many parts of a list as the value at a place says (`Parts`); `Never` where nothing can follow, since there is no such message
 pub record Shape : Type 0 where
@@ -159,7 +159,7 @@ shapeOf ProcessList = AuthProcInfoCount ∷ [] thenRest Parts ProcessInfo 0
 -- PROCESS_KILLED (Table 48): at 2 AuthProcID
 shapeOf NameAlone = [] thenRest Exactly 48
 -- ---- AUTH_ERROR (Table 20), by its ErrorCode (Table 21): at 2 ErrorCode, 3 ErrorData, 4 ExtendedErrorData
--- all that follow here not: ErrorData 0x00, "No extended error data is provided"
+-- the errors that have no line below: ErrorData 0x00, "No extended error data is provided"
 shapeOf PlainError = ErrorCode ∷ NoErrorData ∷ [] thenRest Exactly 0
 -- UnsupportedRequest, 0x09: ErrorData is the "RequestResponseCode in the request message"
 shapeOf UnsupportedRequest = ErrorCode ∷ ErrorData ∷ [] thenRest Exactly 0

@@ -32,7 +32,7 @@ unfolding responses
 responses-all chooser = refl
 
 -- of the layouts, that of no message alone never ends
-abbrev ends : Rest → Bool
+abbrev pub ends : Rest → Bool
 ends (Exactly n) = true
 ends (Said at) = true
 ends (SaidTo at most) = true
@@ -51,14 +51,14 @@ none-missing = each-imp (λ code. is-message (layoutOf code 1)) all where
   all = search (each-nil, each-cons) depth 34
 
 -- ---- by computation: what the bytes 0 to 255 are, and that each line of the messages by name has its layout
-abbrev bytesFrom : ℕ → ℕ → List ℕ
+abbrev pub bytesFrom : ℕ → ℕ → List ℕ
 bytesFrom n zero = []
 bytesFrom n (suc m) = n ∷ bytesFrom (suc n) m
 
 abbrev pub codes : List ℕ
 codes = bytesFrom 0 256
 
-abbrev isOne : Layout → Bool
+abbrev pub isOne : Layout → Bool
 isOne layout = ends (restOf layout)
 
 pub record Codes : Type 0 where

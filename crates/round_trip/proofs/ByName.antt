@@ -20,35 +20,35 @@ use Rattle.messages.specs.declared.MessageRead.{MessageRead}
 use Rattle.messages.specs.Messages.{layoutIn, headOf, messageValues, isMessage, readMessage, bodyBytes, layoutFor, messageBytes, carries, carriesPiece}
 
 -- ---- the message of a line, and what reading it has to answer
-abbrev bytes : Line → List ℕ
+abbrev pub bytes : Line → List ℕ
 bytes l = messageBytes (l .code) (l .values) (l .follows)
 
-abbrev answer : Line → MessageRead
+abbrev pub answer : Line → MessageRead
 answer l = record { number = 0; values = l .values; rest = l .restBegins }
 
 -- ---- the same with another value in one of its fields: whether it is written, and whether it is read
-abbrev writtenWith : Line → ℕ → ℕ → Bool
+abbrev pub writtenWith : Line → ℕ → ℕ → Bool
 writtenWith l at value = carries (l .code) (set (l .values) at value) (l .follows)
 
-abbrev readAs : MessageRead → ℕ → ℕ → Bool
+abbrev pub readAs : MessageRead → ℕ → ℕ → Bool
 readAs read at value = eqb (read .number) 0 && eqb (getD (read .values) at 0) value
 
-abbrev readWith : Line → ℕ → ℕ → Bool
+abbrev pub readWith : Line → ℕ → ℕ → Bool
 readWith l at value = readAs (readMessage (messageBytes (l .code) (set (l .values) at value) (l .follows))) at value
 
 -- of some field, from a place on, with a value that may not stand there
-abbrev anyRefused : (ℕ → ℕ → Bool) → ℕ → List Held → Bool
+abbrev pub anyRefused : (ℕ → ℕ → Bool) → ℕ → List Held → Bool
 anyRefused taken at [] = false
 anyRefused taken at (h ∷ hs) = any (taken at) (h .refused) || anyRefused taken (suc at) hs
 
 -- ---- of a piece
-abbrev pieceBytesOf : Line → List ℕ
+abbrev pub pieceBytesOf : Line → List ℕ
 pieceBytesOf l = bodyBytes (l .layout) (l .values) (l .follows)
 
-abbrev pieceAnswer : Line → Piece
+abbrev pub pieceAnswer : Line → Piece
 pieceAnswer l = record { fits = true; values = l .values; rest = l .restBegins; long = l .long }
 
-abbrev pieceWrittenWith : Line → ℕ → ℕ → Bool
+abbrev pub pieceWrittenWith : Line → ℕ → ℕ → Bool
 pieceWrittenWith l at value = carriesPiece (l .layout) (set (l .values) at value) (l .follows)
 
 pub record ByName : Type 0 where

@@ -17,7 +17,7 @@ use Rattle.formats.specs.declared.Field.the-variants.{Unused}
 use Rattle.formats.specs.declared.Layout.{Layout}
 use Rattle.formats.specs.Formats.{formOf, meant, isWithin, isSingle, isAllowed, fieldsOf}
 use Rattle.formats.proofs.Laws.{form-sound, bits-sound}
-use Rattle.fields.specs.Fields.{valueCount, fields, valuesIn, areAllowed, fieldBytes}
+use Rattle.fields.specs.Fields.{fields, valuesIn, areAllowed, fieldBytes}
 use Rattle.fields.proofs.Laws.{fields-from}
 
 -- ---- one field: a value that may stand in it has no reserved bit, and its bytes hold it
