@@ -13,10 +13,9 @@ use borrow.Author.Tests.{eqb-false, eq-eqb, ne-eqb, ltb-true}
 use lib.Dec.{eqb}
 use lib.IntN.{ℤ, pos, negsuc}
 use lib.Signed.{ltZ}
-use lib.ListN.{length, take, drop, set, length-set, length-take, length-drop, length-append, length-map}
+use lib.ListN.{length, take, drop, length-append, length-map}
 use Rattle.lists.proofs.Tests.{split, and-right}
-use Rattle.io.specs.Counts.{Counts}
-use Rattle.io.proofs.Counting.{front, counts}
+use Rattle.io.proofs.Counting.{front}
 use Rattle.rows.proofs.Rows.{map-append}
 use Rattle.table.specs.Table.{places}
 use Rattle.claims.specs.Module.{credentialCount}
@@ -27,6 +26,7 @@ use Rattle.image_figures.specs.declared.Line.the-variants.{Bad, Good}
 use Rattle.image_figures.proofs.Laws.{Small, SmallLine, line-small}
 use Rattle.figures.specs.Drawer.{Piece, linesOf, goodOnes, totalsOf, totalsWith, mostImages, stepOf, After, OfPieces, OfPiece}
 use Rattle.figures.specs.Drawer.{stopOf, isFailure, FilledTo, Buffers, pieceIn, PieceIn, hasFailed, isPrinted, toldOf, Tells, turnOf, Turned}
+use Rattle.figures.proofs.Texts.{spelled, text-begin, text-more, text-all, text-full, text-none, number-added, three-added, line-bad, line-good, text-image, text-total, text-past}
 use Rattle.figures.specs.declared.Totals.{Totals}
 use Rattle.figures.specs.declared.Turn.{Turn}
 use Rattle.figures.specs.declared.Step.{Step}
@@ -170,19 +170,9 @@ pub record Filling (old new : List ℕ) (count : ℕ) : Type 0 where
 pub filling-begin : (old : List ℕ) → Filling old old 0
 filling-begin old = record { long = refl; few = omega arith }
 
-module _ {old new : List ℕ} {count : ℕ} (v : Filling old new count) (after : List ℕ) (same : length after ≡ length new) where
-  module _ (more : ℕ) (few : more ≤ length (take (length after - count) (drop count after))) where
-    pub filling-room : count + more ≤ length after
-    filling-room = let k = simp (length-take, length-drop) at few in omega (arith, k, same, v .few)
-
-    pub filling-more : Filling old after (count + more)
-    filling-more = record { long = same ∙ v .long; few = filling-room }
-
-  pub filling-long : length after ≡ length old
-  filling-long = same ∙ v .long
-
-  pub filled-short : {stop : Stop} (got : ℤ) → stop ≡ stopOf got → FilledTo (length after) (record { count = count; stop = stop })
-  filled-short got e = record { few = omega (arith, same, v .few); whole = λ f. absurd (never-full got (sym e ∙ f)) }
+pub filled-short : {old new : List ℕ} {count : ℕ} {stop : Stop} (after : List ℕ) (got : ℤ) → Filling old new count → length after ≡ length new → stop ≡ stopOf got
+    → FilledTo (length after) (record { count = count; stop = stop })
+filled-short after got v same e = record { few = omega (arith, same, v .few); whole = λ f. absurd (never-full got (sym e ∙ f)) }
 
 pub filled-whole : {old new : List ℕ} {count : ℕ} → Filling old new count → length new ≤ count → FilledTo (length new) (record { count = count; stop = Full })
 filled-whole v h = record { few = v .few; whole = λ f. omega (arith, v .few) }
@@ -205,34 +195,12 @@ piece-read {size = size} {said₀ = said₀} {image₀ = image₀} part v a p e 
       image-fits = rw length-append (omega (arith, q .few));
     }
 
-module _ {said image : List ℕ} {read : PieceRead} (v : Buffers said image) (p : PieceIn said image read) where
-  pub said-long : read .said .count ≡ length (take (read .said .count) said)
-  said-long = front (read .said .count) said (omega (arith, p .said-there .few, v .for-length))
-
-  pub image-long : read .image .count ≡ length (take (read .image .count) image)
-  image-long = front (read .image .count) image (p .image-fits)
+pub said-long : {said image : List ℕ} {read : PieceRead} → Buffers said image → PieceIn said image read → read .said .count ≡ length (take (read .said .count) said)
+said-long {said} {read = read} v p = front (read .said .count) said (omega (arith, p .said-there .few, v .for-length))
 
 pub failed-either : (read : PieceRead) {head rest : Bool} → head ≡ isFailure (read .said .stop) → rest ≡ isFailure (read .image .stop) → (head || rest) ≡ hasFailed read
 unfolding hasFailed
 failed-either read e f = rw (e, f)
-
--- ---- a text that bytes are put after: its room stays
-abbrev textSize : ℕ
-textSize = 80
-
-pub record Texting (bytes : List ℕ) (count : ℕ) : Type 0 where
-  pub room : length bytes ≡ textSize
-  pub few : count ≤ textSize
-
-pub text-begin : (bytes : List ℕ) {count : ℕ} → length bytes ≡ textSize → Counts count bytes → Texting bytes count
-text-begin bytes h c = record { room = h; few = omega (arith, c .0) }
-
-module _ {bytes : List ℕ} {count : ℕ} (v : Texting bytes count) where
-  pub text-more : (byte : ℕ) → count < textSize → Texting (set bytes count byte) (count + 1)
-  text-more byte h = record { room = length-set bytes count byte ∙ v .room; few = omega arith }
-
-  pub text-end : Counts count bytes
-  text-end = counts count bytes (omega (arith, v .room, v .few))
 
 -- ---- a turn
 pub tells-nothing : {output : Output} → Tells output Unwritten
@@ -353,4 +321,4 @@ turns-less {turn = turn} m v s =
     (λ e. rw e (omega (arith, one-image v s e, images-few (turned-pieces v s))))
     (λ e. rw e (omega arith)))
 
-pub ruleset rules = (needs, good-fits, rows-fit, classes-fit, counted-bad, counted-good, step-total, step-past, step-few, step-line, filling-begin, front, counts, stop-failed, stop-ended, filled-short, filled-whole, buffers-kept, size-long, piece-read, said-long, image-long, failed-either, of-piece, text-begin, text-more, text-end, tells-nothing, tells-it, turned-unread, turned-read, turned-pieces, no-lines, report-begin, turns-less)
+pub ruleset rules = (needs, good-fits, rows-fit, classes-fit, counted-bad, counted-good, step-total, step-past, step-few, step-line, filling-begin, front, stop-failed, stop-ended, filled-short, filled-whole, buffers-kept, size-long, piece-read, said-long, failed-either, of-piece, spelled, text-begin, text-more, text-all, text-full, text-none, number-added, three-added, line-bad, line-good, text-image, text-total, text-past, tells-nothing, tells-it, turned-unread, turned-read, turned-pieces, no-lines, report-begin, turns-less)

@@ -6,6 +6,7 @@ ghost use Prim.Native.Nat.{_<_};
 ghost use lib.ListN.{length};
 ghost use Rattle.io.specs.Counts.{Counts};
 ghost use Rattle.figures.specs.Drawer.{totalsOf, totalsWith, mostImages, stepOf, After, OfPieces, OfPiece, stopOf, FilledTo, Buffers, PieceIn, isFailure, hasFailed, Tells, isPrinted, Turned};
+ghost use Rattle.figures.specs.Text.{numberThen, threeText, lineText, textOf, Holds, Added, Spells};
 use image_figures::LENGTH_SIZE;
 use image_figures::Line;
 use libc::STDERR_FILENO;
@@ -182,7 +183,7 @@ struct Text {
 }
 
 fn no_text() -> Text
-    ensures { λ r. ⌜ Counts (r .length) (r .bytes) ⌝ }
+    ensures { λ r. ⌜ Holds [] r ⌝ }
 {
     Text {
         bytes: [0; TEXT_SIZE],
@@ -193,7 +194,7 @@ fn no_text() -> Text
 // The text, and after it as many bytes as there is room for, which is all of any line.
 fn with(text: Text, part: &[u8]) -> Text
     requires { ⌜ Counts (text .length) (text .bytes) ⌝ }
-    ensures { λ r. ⌜ Counts (r .length) (r .bytes) ⌝ }
+    ensures { λ r. ⌜ Added text (now (part .entry)) r ⌝ }
 {
     let mut bytes = text.bytes;
     let mut length = text.length;
@@ -209,26 +210,26 @@ fn with(text: Text, part: &[u8]) -> Text
     }
 }
 
-fn with_number(text: Text, number: u64) -> Text
+fn with_number(text: Text, number: u64, end: &[u8]) -> Text
     requires { ⌜ Counts (text .length) (text .bytes) ⌝ }
-    ensures { λ r. ⌜ Counts (r .length) (r .bytes) ⌝ }
+    ensures { λ r. ⌜ Added text (numberThen number (now (end .entry))) r ⌝ }
 {
     let mut digits = [0u8; 20];
     let count = io::decimal(number, &mut digits);
-    with(text, &digits[..count])
+    with(with(text, &digits[..count]), end)
 }
 
 fn with_three(text: Text, one: u64, two: u64, three: u64) -> Text
     requires { ⌜ Counts (text .length) (text .bytes) ⌝ }
-    ensures { λ r. ⌜ Counts (r .length) (r .bytes) ⌝ }
+    ensures { λ r. ⌜ Added text (threeText one two three) r ⌝ }
 {
-    let first = with(with_number(text, one), b" ");
-    let second = with(with_number(first, two), b" ");
-    with(with_number(second, three), b"\n")
+    let first = with_number(text, one, b" ");
+    let second = with_number(first, two, b" ");
+    with_number(second, three, b"\n")
 }
 
 fn text_of_line(line: Line) -> Text
-    ensures { λ r. ⌜ Counts (r .length) (r .bytes) ⌝ }
+    ensures { λ r. ⌜ Holds (lineText line) r ⌝ }
 {
     match line {
         Line::Bad => with(no_text(), b"bad\n"),
@@ -242,7 +243,7 @@ fn text_of_line(line: Line) -> Text
 }
 
 fn text_of(output: Output) -> Text
-    ensures { λ r. ⌜ Counts (r .length) (r .bytes) ⌝ }
+    ensures { λ r. ⌜ Spells (textOf output) r ⌝ }
 {
     match output {
         Output::Image(line) => text_of_line(line),
