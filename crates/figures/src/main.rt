@@ -1,5 +1,7 @@
 // The figures of a drawer of images: document 02, order 6. It reads standard input, and prints a line for each image and the total. docs/FIGURES.md tells
-// how the desk uses it. What is counted, and when it ends, is proved; that standard input is read and the text printed is run.
+// how the desk uses it. Proved: what comes of exactly the bytes that were read, from totals that begin with those of no image; that a read which failed ends
+// it without a total; the text of each line. Run, and not proved: that `read` hands over the bytes of standard input in their order, that `write` writes the
+// text that it is handed, and that no word is taken on the command line.
 ghost use mathlib.Core.Path.{_≡_};
 ghost use mathlib.Core.List.{[]};
 ghost use Prim.Native.Nat.{_<_};
