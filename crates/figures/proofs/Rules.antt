@@ -25,7 +25,7 @@ use Rattle.image_figures.specs.declared.Line.{Line}
 use Rattle.image_figures.specs.declared.Line.the-variants.{Bad, Good}
 use Rattle.image_figures.proofs.Laws.{Small, SmallLine, line-small}
 use Rattle.figures.specs.Drawer.{Piece, linesOf, goodOnes, totalsOf, totalsWith, mostImages, stepOf, After, OfPieces, OfPiece}
-use Rattle.figures.specs.Drawer.{stopOf, isFailure, FilledTo, Buffers, pieceIn, PieceIn, hasFailed, isPrinted, toldOf, Tells, turnOf, Turned}
+use Rattle.figures.specs.Drawer.{stopOf, isFailure, FilledTo, Buffers, pieceIn, PieceIn, hasFailed, isPrinted, isLast, toldOf, Tells, turnOf, Turned}
 use Rattle.figures.proofs.Texts.{spelled, text-begin, text-more, text-all, text-full, text-none, number-added, three-added, line-bad, line-good, text-image, text-total, text-past}
 use Rattle.figures.specs.declared.Totals.{Totals}
 use Rattle.figures.specs.declared.Turn.{Turn}
@@ -251,6 +251,22 @@ step-counted said image l m =
     (λ q. absurd (true≢false (sym (rw (z, q) at m))))
     (λ q. rw (z, q)))
 
+-- and the others say what is last
+step-last : (said image : List ℕ) (l : List Line) → stepOf said image l .more ≡ false → isLast (Printed (stepOf said image l .output)) ≡ true
+unfolding stepOf
+step-last said image l m =
+    split (eqb (length said) 0)
+    (λ z. rw z)
+    (λ z.
+    split (eqb (length l) mostImages)
+    (λ q. rw (z, q))
+    (λ q. absurd (true≢false (rw (z, q) at m))))
+
+told-last : (written : Bool) (step : Step) → (step .more ≡ false → isLast (Printed (step .output)) ≡ true) → (written && step .more) ≡ false → isLast (toldOf written (step .output)) ≡ true
+unfolding toldOf
+told-last true step h m = h m
+told-last false step h m = refl
+
 module _ {t : Totals} (read : PieceRead) (said image : List ℕ) {failed : Bool} (e : failed ≡ hasFailed read) where
   pub turned-unread : failed ≡ true → Turned t read said image (record { totals = t; told = Unread; more = false })
   unfolding turnOf
@@ -262,7 +278,11 @@ module _ {t : Totals} (read : PieceRead) (said image : List ℕ) {failed : Bool}
   unfolding turnOf pieceIn
   turned-read f a o p = record { written = o .written; is = record { is = λ l h. rw (← e, f, p, o .is, is-written (o .written) _, a .is l h) } }
 
--- what a turn leaves: the totals of some pieces, and where it goes on, one image more
+-- where no turn comes after, what was said is last
+pub record Last (told : Told) (more : Bool) : Type 0 where
+  pub is : more ≡ false → isLast told ≡ true
+
+-- what a turn leaves: the totals of some pieces; where it goes on, one image more, and where not, what is said last
 module _ {t : Totals} {read : PieceRead} {said image : List ℕ} {turn : Turn} (v : OfPieces t) (s : Turned t read said image turn) where
   abbrev lines : List Line
   lines = linesOf (v .read)
@@ -294,12 +314,20 @@ module _ {t : Totals} {read : PieceRead} {said image : List ℕ} {turn : Turn} (
       let line : Line = lineOf (taken .said) (taken .image) in
       ap (λ (u : Totals). u .images) (one-more m) ∙ images-of (lines ++ (line ∷ [])) ∙ length-append lines (line ∷ []) ∙ ap (λ (n : ℕ). n + 1) (sym (ap (λ (u : Totals). u .images) (v .are) ∙ images-of lines))
 
+  pub turned-last : Last (turn .told) (turn .more)
+  unfolding turnOf
+  turned-last =
+      rw turn-is (split (hasFailed read)
+      (λ f. rw f (record { is = λ m. refl }))
+      (λ f. rw f (record { is = λ m. told-last (s .written) (stepOf (taken .said) (taken .image) lines) (step-last (taken .said) (taken .image) lines) m })))
+
 -- ---- the loop
-pub record Reporting (said₀ image₀ said image : List ℕ) (t : Totals) : Type 0 where
+pub record Reporting (said₀ image₀ said image : List ℕ) (t : Totals) (told : Told) (more : Bool) : Type 0 where
   pub said-long : length said ≡ length said₀
   pub image-long : length image ≡ length image₀
   pub buffers : Buffers said image
   pub of-pieces : OfPieces t
+  pub last : Last told more
 
 pub no-lines : record { images = 0; good = 0; rows = 0; classes = 0 } ≡ totalsOf []
 unfolding totalsOf goodOnes sum
@@ -309,8 +337,11 @@ no-pieces : OfPieces (totalsOf [])
 unfolding linesOf
 no-pieces = record { read = []; few = omega arith; are = refl }
 
-pub report-begin : {said image : List ℕ} {t : Totals} → Buffers said image → t ≡ totalsOf [] → Reporting said image said image t
-report-begin v e = record { said-long = refl; image-long = refl; buffers = v; of-pieces = rw e no-pieces }
+pub report-begin : {said image : List ℕ} {t : Totals} → Buffers said image → t ≡ totalsOf [] → {told : Told} → Reporting said image said image t told true
+report-begin v e = record { said-long = refl; image-long = refl; buffers = v; of-pieces = rw e no-pieces; last = record { is = λ m. absurd (true≢false m) } }
+
+pub last-said : {told : Told} {more : Bool} → Last told more → more ≡ false → isLast told ≡ true
+last-said v m = v .is m
 
 abbrev pub turnsLeft : Totals → Bool → ℕ
 turnsLeft t more = cond more (suc (mostImages - t .images)) 0
@@ -321,4 +352,4 @@ turns-less {turn = turn} m v s =
     (λ e. rw e (omega (arith, one-image v s e, images-few (turned-pieces v s))))
     (λ e. rw e (omega arith)))
 
-pub ruleset rules = (needs, good-fits, rows-fit, classes-fit, counted-bad, counted-good, step-total, step-past, step-few, step-line, filling-begin, front, stop-failed, stop-ended, filled-short, filled-whole, buffers-kept, size-long, piece-read, said-long, failed-either, of-piece, spelled, text-begin, text-more, text-all, text-full, text-none, number-added, three-added, line-bad, line-good, text-image, text-total, text-past, tells-nothing, tells-it, turned-unread, turned-read, turned-pieces, no-lines, report-begin, turns-less)
+pub ruleset rules = (needs, good-fits, rows-fit, classes-fit, counted-bad, counted-good, step-total, step-past, step-few, step-line, filling-begin, front, stop-failed, stop-ended, filled-short, filled-whole, buffers-kept, size-long, piece-read, said-long, failed-either, of-piece, spelled, text-begin, text-more, text-all, text-full, text-none, number-added, three-added, line-bad, line-good, text-image, text-total, text-past, tells-nothing, tells-it, turned-unread, turned-read, turned-pieces, turned-last, no-lines, report-begin, last-said, turns-less)

@@ -137,6 +137,14 @@ isPrinted (Printed output) = true
 isPrinted Unread = false
 isPrinted Unwritten = false
 
+-- the last is no image's line
+abbrev pub isLast : Told → Bool
+isLast (Printed (Image line)) = false
+isLast (Printed (Total totals)) = true
+isLast (Printed TooMany) = true
+isLast Unread = true
+isLast Unwritten = true
+
 unfoldable pub toldOf : Bool → Output → Told
 toldOf written output = cond written (Printed output) Unwritten
 

@@ -3,11 +3,12 @@
 // it without a total; the text of each line. Run, and not proved: that `read` hands over the bytes of standard input in their order, that `write` writes the
 // text that it is handed, and that no word is taken on the command line.
 ghost use mathlib.Core.Path.{_≡_};
+ghost use mathlib.Core.Bool.{true};
 ghost use mathlib.Core.List.{[]};
 ghost use Prim.Native.Nat.{_<_};
 ghost use lib.ListN.{length};
 ghost use Rattle.io.specs.Counts.{Counts};
-ghost use Rattle.figures.specs.Drawer.{totalsOf, totalsWith, mostImages, stepOf, After, OfPieces, OfPiece, stopOf, FilledTo, Buffers, PieceIn, isFailure, hasFailed, Tells, isPrinted, Turned};
+ghost use Rattle.figures.specs.Drawer.{totalsOf, totalsWith, mostImages, stepOf, After, OfPieces, OfPiece, stopOf, FilledTo, Buffers, PieceIn, isFailure, hasFailed, Tells, isPrinted, isLast, Turned};
 ghost use Rattle.figures.specs.Text.{numberThen, threeText, lineText, textOf, Holds, Added, Spells};
 use image_figures::LENGTH_SIZE;
 use image_figures::Line;
@@ -336,17 +337,22 @@ fn no_totals() -> Totals
     }
 }
 
-fn report(said: &mut [u8], image: &mut [u8])
+// Answers with what is said last.
+fn report(said: &mut [u8], image: &mut [u8]) -> Told
     requires { ⌜ Buffers (now said) (now image) ⌝ }
+    ensures { λ r. ⌜ isLast r ≡ true ⌝ }
 {
     let mut totals = no_totals();
+    let mut told = Told::Unread;
     let mut more = true;
     while more {
         let piece = read_piece(said, image);
         let turn = take_turn(totals, piece, said, image);
         totals = turn.totals;
+        told = turn.told;
         more = turn.more;
     }
+    told
 }
 
 fn main() {

@@ -3,10 +3,10 @@ use Rattle.figures.proofs.report.Statement.{statement}
 use Rattle.figures.proofs.report.Tie as tie
 
 abbrev Inv-loop : tie.InvT-loop
-Inv-loop said₀ image₀ totals₀ more₀ said image totals more = Reporting said₀ image₀ said image totals
+Inv-loop said₀ image₀ totals₀ told₀ more₀ said image totals told more = Reporting said₀ image₀ said image totals told more
 
 abbrev μ-loop : tie.MeasureT-loop
-μ-loop said₀ image₀ totals₀ more₀ said image totals more = turnsLeft totals more
+μ-loop said₀ image₀ totals₀ told₀ more₀ said image totals told more = turnsLeft totals more
 
 no-totals-requires : tie.Need-no-totals-requires Inv-loop μ-loop
 no-totals-requires c κs = search rules
