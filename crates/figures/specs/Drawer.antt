@@ -20,7 +20,7 @@ use Rattle.figures.specs.declared.Stop.the-variants.{Full, Ended, Failed
 use Rattle.figures.specs.declared.Filled.{Filled}
 use Rattle.figures.specs.declared.PieceRead.{PieceRead}
 use Rattle.figures.specs.declared.Told.{Told}
-use Rattle.figures.specs.declared.Told.the-variants.{Printed, Unread, Unwritten}
+use Rattle.figures.specs.declared.Told.the-variants.{Nothing, Printed, Unread, Unwritten}
 
 -- ---- a drawer's pieces: of a length, and of the image after it, the bytes that are there
 pub record Piece : Type 0 where
@@ -133,12 +133,14 @@ hasFailed piece = isFailure (piece .said .stop) || isFailure (piece .image .stop
 
 -- ---- what is said in a turn
 abbrev pub isPrinted : Told → Bool
+isPrinted Nothing = false
 isPrinted (Printed output) = true
 isPrinted Unread = false
 isPrinted Unwritten = false
 
 -- the last is no image's line
 abbrev pub isLast : Told → Bool
+isLast Nothing = false
 isLast (Printed (Image line)) = false
 isLast (Printed (Total totals)) = true
 isLast (Printed TooMany) = true

@@ -260,8 +260,9 @@ fn text_of(output: Output) -> Text
     }
 }
 
-// What is said in a turn: what was printed; or, on standard error, that the drawer could not be read, or the line not written.
+// What is said: nothing before the first turn; what was printed; or, on standard error, that the drawer could not be read, or the line not written.
 enum Told {
+    Nothing,
     Printed(Output),
     Unread,
     Unwritten,
@@ -284,6 +285,7 @@ fn is_printed(told: Told) -> bool
     ensures { λ r. ⌜ r ≡ isPrinted told ⌝ }
 {
     match told {
+        Told::Nothing => false,
         Told::Printed(output) => true,
         Told::Unread => false,
         Told::Unwritten => false,
@@ -343,7 +345,7 @@ fn report(said: &mut [u8], image: &mut [u8]) -> Told
     ensures { λ r. ⌜ isLast r ≡ true ⌝ }
 {
     let mut totals = no_totals();
-    let mut told = Told::Unread;
+    let mut told = Told::Nothing;
     let mut more = true;
     while more {
         let piece = read_piece(said, image);
