@@ -33,7 +33,7 @@ use Rattle.claims.specs.declared.UserClaim.{UserClaim}
 use Rattle.claims.proofs.Laws.{unless-false, clear-first, clear-rest, clear-when, clear-unless, by-when, by-unless, by-then}
 use Rattle.calls.specs.declared.Answer.the-variants.{Done, RefusedClaim}
 use Rattle.calls.specs.declared.Outcome.{Outcome}
-use Rattle.calls.specs.Calls.{Call, Open, Close, Select, Start, Continue, Elevate, Drop, End, Record, List′, Kill, SetWord, killOthers, isVersion, hasNamed, reach, number, counted, effect, protection, aheadNumber, protectedNumber, passes, charged, left, answerNumber, refusal, outcome, fresh}
+use Rattle.calls.specs.Calls.{Call, Open, Close, Select, Start, Continue, Elevate, Drop, End, Record, ListProcesses, Kill, SetWord, killOthers, isVersion, hasNamed, reach, number, counted, effect, protection, aheadNumber, protectedNumber, passes, charged, left, answerNumber, refusal, outcome, fresh}
 use Rattle.calls.specs.Run.{step}
 use Rattle.calls.proofs.Cut.{left-passed, left-stopped}
 use Rattle.calls.proofs.Laws.{outcome-done, outcome-refused, answer-number}
@@ -85,7 +85,7 @@ number-small st (Elevate s c name verdict) = search smalls depth 12
 number-small st (Drop s) = search smalls
 number-small st (End s u keep) = search smalls
 number-small st (Record s claim class) = search smalls
-number-small st (List′ s claim wanted room) = search smalls depth 12
+number-small st (ListProcesses s claim wanted room) = search smalls depth 12
 number-small st (Kill s claim name) = search smalls
 number-small st (SetWord s claim c word) = search smalls depth 12
 
@@ -217,7 +217,7 @@ VerdictNeeds st (Elevate s c name verdict) = ElevationNeeds st s c verdict
 VerdictNeeds st (Drop s) = Unit {0}
 VerdictNeeds st (End s u keep) = Needs st s (ByUser u)
 VerdictNeeds st (Record s claim class) = Needs st s claim
-VerdictNeeds st (List′ s claim wanted room) = Needs st s claim
+VerdictNeeds st (ListProcesses s claim wanted room) = Needs st s claim
 VerdictNeeds st (Kill s claim name) = Needs st s claim
 VerdictNeeds st (SetWord s claim c word) = Needs st s claim
 
@@ -259,7 +259,7 @@ module _ (st : State) where
   verdict-needs (Drop s) e = tt
   verdict-needs (End s u keep) e = needs s (ByUser u) (clear-first _ _ e)
   verdict-needs (Record s claim class) e = needs s claim (clear-first _ _ (clear-rest _ _ e))
-  verdict-needs (List′ s claim wanted room) e = needs s claim (clear-first _ _ (clear-rest _ _ e))
+  verdict-needs (ListProcesses s claim wanted room) e = needs s claim (clear-first _ _ (clear-rest _ _ e))
   verdict-needs (Kill s claim name) e = needs s claim (clear-first _ _ e)
   verdict-needs (SetWord s claim c word) e = needs s claim (clear-first _ _ (clear-rest _ _ e))
 

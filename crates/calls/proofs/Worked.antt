@@ -8,7 +8,7 @@ use lib.ListN.{drop}
 use Rattle.table.specs.Table.{standing}
 use Rattle.calls.specs.declared.Wanted.the-variants.{Every}
 use Rattle.calls.specs.Listing.{rowsOf, listing}
-use Rattle.calls.specs.Calls.{Open, Select, Start, Continue, End, Record, List′, Kill, fresh}
+use Rattle.calls.specs.Calls.{Open, Select, Start, Continue, End, Record, ListProcesses, Kill, fresh}
 use Rattle.calls.proofs.Sequences.{P, Q, R, pairs, session, credential, class, userYes, yes′, no′, Step, _⇒_, Answered, after, computed}
 
 -- "Where a step doesn't say, the session is 0, the claim is a user claim and the verdict is yes." Steps 1 to 10
@@ -47,8 +47,8 @@ listed =
     ∷ (Kill (session 0) (yes′ 0 0) R ⇒ 0)
     ∷ (Record (session 0) (yes′ 1 2) (class 4) ⇒ 6)
     -- 10.
-    ∷ (List′ (session 0) (yes′ 0 1) Every 54 ⇒ 15)
-    ∷ (List′ (session 0) (yes′ 0 2) Every 55 ⇒ 0)
+    ∷ (ListProcesses (session 0) (yes′ 0 1) Every 54 ⇒ 15)
+    ∷ (ListProcesses (session 0) (yes′ 0 2) Every 55 ⇒ 0)
     ∷ []
 
 -- step 11

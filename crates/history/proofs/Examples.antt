@@ -9,7 +9,7 @@ use Rattle.names.specs.declared.Name.{Name}
 use Rattle.table.specs.Table.{standing}
 use Rattle.claims.specs.declared.Claim.the-variants.{Elevated}
 use Rattle.claims.specs.declared.Grants.{Grants}
-use Rattle.calls.specs.Calls.{Call, Open, Close, Select, Start, Continue, Elevate, Drop, End, Record, List′, Kill, SetWord, listed, fresh}
+use Rattle.calls.specs.Calls.{Call, Open, Close, Select, Start, Continue, Elevate, Drop, End, Record, ListProcesses, Kill, SetWord, listed, fresh}
 use Rattle.calls.specs.Listing.{rowsOf, listing}
 use Rattle.calls.specs.Run.{run}
 use Rattle.calls.specs.declared.Wanted.the-variants.{Every}
@@ -83,7 +83,7 @@ refused =
     ∷ Record (session 0) (yes′ 0 0) (class 4)
     ∷ Record (session 0) (no′ 0 1) (class 4)
     ∷ Record (session 0) (yes′ 0 1) (class 3)
-    ∷ List′ (session 0) (yes′ 0 1) Every 105
+    ∷ ListProcesses (session 0) (yes′ 0 1) Every 105
     ∷ Kill (session 0) (yes′ 1 0) (name 0x13)
     ∷ Kill (session 1) (yes′ 1 1) P
     ∷ SetWord (session 0) (yes′ 2 1) (credential 2) 0
@@ -169,7 +169,7 @@ bothStarted =
 pub record SameNumber : Type 0 where
   pub first : Event
   pub second : Event
-  pub are : history (fresh grants) (bothStarted ++ (recorded 0 0 0 ∷ List′ (session 0) (yes′ 1 0) Every 106 ∷ [])) ≡ history (fresh grants) bothStarted ++ (first ∷ second ∷ [])
+  pub are : history (fresh grants) (bothStarted ++ (recorded 0 0 0 ∷ ListProcesses (session 0) (yes′ 1 0) Every 106 ∷ [])) ≡ history (fresh grants) bothStarted ++ (first ∷ second ∷ [])
   pub one : IsPassedOf (told nobody (history (fresh grants) bothStarted) P) first
   pub two : IsPassedOf (told nobody (history (fresh grants) bothStarted ++ (first ∷ [])) Q) second
   pub same : one .claim .number ≡ two .claim .number
@@ -180,7 +180,7 @@ unfolding computed history counts ends shuts drops resumes after charges tellsPa
 same-number =
     record {
       first = record { call = recorded 0 0 0; answered = 0 };
-      second = record { call = List′ (session 0) (yes′ 1 0) Every 106; answered = 0 };
+      second = record { call = ListProcesses (session 0) (yes′ 1 0) Every 106; answered = 0 };
       are = refl;
       one = record { session = session 0; claim = userYes 0 0; carried = refl; told = refl; before = []; lives = refl };
       two = record { session = session 0; claim = userYes 1 0; carried = refl; told = refl; before = []; lives = refl };

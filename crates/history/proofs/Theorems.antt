@@ -30,7 +30,7 @@ use Rattle.claims.specs.declared.Grants.{Grants}
 use Rattle.claims.specs.declared.State.{State}
 use Rattle.claims.specs.declared.UserClaim.{UserClaim}
 use Rattle.claims.specs.declared.Claim.the-variants.{ByUser}
-use Rattle.calls.specs.Calls.{Call, List′, Start, Under, number, passes, listed, fresh}
+use Rattle.calls.specs.Calls.{Call, ListProcesses, Start, Under, number, passes, listed, fresh}
 use Rattle.calls.specs.Listing.{amongOf, rowOf, rowsOf, messageLength}
 use Rattle.calls.specs.Run.{step, run, numbers}
 use Rattle.calls.specs.declared.Wanted.{Wanted}
@@ -65,7 +65,7 @@ module _ (st : State) (v : Rules st) where
   pub listing-fits : (s : Session) (claim : Claim) (wanted : Wanted) (room : ℕ) → listed st s claim wanted room .length ≤ 616
   unfolding listed
   listing-fits s claim wanted room =
-      split (eqb (number st (List′ s claim wanted room)) 0) (λ e. rw e (message-fits wanted)) (λ e. rw e (omega arith))
+      split (eqb (number st (ListProcesses s claim wanted room)) 0) (λ e. rw e (message-fits wanted)) (λ e. rw e (omega arith))
 
 -- ---- from any state that keeps the rules, told so
 module _ (first : State) (rules : Rules first) (tell : Name → Life) (tells : Tells tell first) (calls : List Call) where

@@ -18,7 +18,7 @@ use Rattle.names.specs.declared.Name.{Name}
 use Rattle.claims.specs.Numbers.{_when_, _unless_, _▸_}
 use Rattle.claims.specs.declared.Claim.the-variants.{Elevated}
 use Rattle.claims.specs.declared.State.{State}
-use Rattle.calls.specs.Calls.{Call, Open, Elevate, Start, List′, number, fresh}
+use Rattle.calls.specs.Calls.{Call, Open, Elevate, Start, ListProcesses, number, fresh}
 use Rattle.calls.specs.Run.{step, run, numbers}
 use Rattle.calls.specs.declared.Wanted.the-variants.{Every}
 use Rattle.calls.proofs.Sequences.{P, Q, session, credential, Step, callsOf, Answered, after}
@@ -70,7 +70,7 @@ refusedInTheMiddle =
     ∷ []
 
 -- three calls were made, with the numbers that their entries answered
-three-calls : (w : Since) → since (begun (w .first) (w .tell)) refusedInTheMiddle .events ≡ answered opening 0 ∷ answered starting 3 ∷ answered (List′ (record { 0 = 0 }) Elevated Every 2) 3 ∷ []
+three-calls : (w : Since) → since (begun (w .first) (w .tell)) refusedInTheMiddle .events ≡ answered opening 0 ∷ answered starting 3 ∷ answered (ListProcesses (record { 0 = 0 }) Elevated Every 2) 3 ∷ []
 unfolding since
 three-calls w = refl
 

@@ -11,7 +11,7 @@ use Rattle.lists.proofs.Tests.{split, clash}
 use Rattle.rows.specs.Bytes.{Bytes}
 use Rattle.claims.specs.Numbers.{_unless_}
 use Rattle.claims.specs.declared.State.{State}
-use Rattle.calls.specs.Calls.{Call, List′, fresh}
+use Rattle.calls.specs.Calls.{Call, ListProcesses, fresh}
 use Rattle.calls.specs.Run.{step, run}
 use Rattle.layout.specs.Layout.{stateOf}
 use Rattle.layout.proofs.Laws.{state-back}
@@ -50,7 +50,7 @@ fresh-refused {before} {flags} {words} {n = n} e h =
 
 entry-keeps : {b after : List ℕ} {entry : Made} (w : Since) → Goes w b → Entered b entry after → entryChanges b entry ≡ false → imageBytes (stateOf after) ≡ imageBytes (stateOf b)
 entry-keeps {b} {after} w g (called {fine} {call} {n} fits e) h = call-keeps w b g fine call n after fits e h
-entry-keeps {b} {after} w g (list-called {fine} {s} {claim} {wanted} {n} {r} e) h = call-keeps w b g fine (List′ s claim wanted (length (r .old))) n after (λ q. tt) (e .entry) h
+entry-keeps {b} {after} w g (list-called {fine} {s} {claim} {wanted} {n} {r} e) h = call-keeps w b g fine (ListProcesses s claim wanted (length (r .old))) n after (λ q. tt) (e .entry) h
 entry-keeps w g (renewed fits e) h = ap (λ x. imageBytes (stateOf x)) (fresh-refused e h)
 entry-keeps w g (restored {n = n} bytes e) h = ap (λ x. imageBytes (stateOf x)) (restore-refused e (eqb-false n 0 h))
 

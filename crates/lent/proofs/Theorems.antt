@@ -23,7 +23,7 @@ use Rattle.names.proofs.Laws.{RowFits}
 use Rattle.claims.specs.Numbers.{_unless_, _▸_}
 use Rattle.claims.specs.declared.Claim.{Claim}
 use Rattle.claims.specs.declared.State.{State}
-use Rattle.calls.specs.Calls.{Call, List′, number, listed, fresh}
+use Rattle.calls.specs.Calls.{Call, ListProcesses, number, listed, fresh}
 use Rattle.calls.specs.Listing.{rowsOf, messageLength, listing}
 use Rattle.calls.specs.Run.{step, run}
 use Rattle.calls.specs.declared.Wanted.{Wanted}
@@ -133,7 +133,7 @@ module _ (w : Since) (b : List ℕ) (g : Goes w b) where
   unfolding listed listedBytes rowsOf rowsAmong
   later-in s claim wanted old =
       let rows : List Row = rowsOf st wanted in
-      split (eqb (number st (List′ s claim wanted (length old))) 0)
+      split (eqb (number st (ListProcesses s claim wanted (length old))) 0)
       (λ e. rw e (drop-at (listing rows) (drop (messageLength (length rows)) old) (messageLength (length rows)) (length-listing rows (rows-whole wanted))))
       (λ e. rw e)
 
@@ -218,7 +218,7 @@ module _ (before image : List ℕ) (h : Bytes image) where
 -- ---- an entry
 pub goes-on : {b after : List ℕ} {entry : Made} (w : Since) → Goes w b → Entered b entry after → Goes (noting entry w) after
 goes-on {b} {after} w g (called {fine} {call} {n} fits e) = goes-called w b g fine call n after fits e
-goes-on {b} {after} w g (list-called {fine} {s} {claim} {wanted} {n} {r} e) = goes-called w b g fine (List′ s claim wanted (length (r .old))) n after (λ q. tt) (e .entry)
+goes-on {b} {after} w g (list-called {fine} {s} {claim} {wanted} {n} {r} e) = goes-called w b g fine (ListProcesses s claim wanted (length (r .old))) n after (λ q. tt) (e .entry)
 goes-on {b} {after} w g (renewed {flags} {words} {n} h e) = goes-renewed b flags words h w g n after e
 goes-on {b} {after} w g (restored {image} {n} h e) = goes-restored b image h w g n after e
 

@@ -8,7 +8,7 @@ use lib.Dec.{eqb}
 use lib.ListN.{length, take}
 use Rattle.rows.specs.Bytes.{Bytes}
 use Rattle.claims.specs.Numbers as No
-use Rattle.calls.specs.Calls.{List′}
+use Rattle.calls.specs.Calls.{ListProcesses}
 use Rattle.layout.specs.Layout.{stateOf}
 use Rattle.image.specs.Image.{imageBytes}
 use Rattle.resumed.specs.Changes.{changesImage}
@@ -18,7 +18,7 @@ use Rattle.lent.specs.Lent.{Made, Called, Listed, Renewed, Restored, Ent
 -- the entries that change an image, on the slice before them: such a call, a fresh module, and a restored one
 abbrev pub entryChanges : List ℕ → Made → Bool
 entryChanges before (Called fine call n) = changesImage (stateOf before) call n
-entryChanges before (Listed fine s claim wanted n r) = changesImage (stateOf before) (List′ s claim wanted (length (r .old))) n
+entryChanges before (Listed fine s claim wanted n r) = changesImage (stateOf before) (ListProcesses s claim wanted (length (r .old))) n
 entryChanges before (Renewed flags words n) = eqb n No.done
 entryChanges before (Restored image n) = eqb n No.done
 

@@ -13,7 +13,7 @@ use Rattle.names.specs.declared.Session.{Session}
 use Rattle.claims.specs.Numbers as No
 use Rattle.claims.specs.declared.Claim.{Claim}
 use Rattle.claims.specs.declared.State.{State}
-use Rattle.calls.specs.Calls.{Call, List′, fresh}
+use Rattle.calls.specs.Calls.{Call, ListProcesses, fresh}
 use Rattle.calls.specs.Run.{run}
 use Rattle.calls.specs.declared.Wanted.{Wanted}
 use Rattle.layout.specs.Layout.{stateOf, stateBytes, holdsState}
@@ -87,7 +87,7 @@ noted fine call n w =
 -- by an entry. With a fresh module or a restored one it begins anew; one that was refused is none
 abbrev pub noting : Made → Since → Since
 noting (Called fine call n) w = noted fine call n w
-noting (Listed fine s claim wanted n r) w = noted fine (List′ s claim wanted (length (r .old))) n w
+noting (Listed fine s claim wanted n r) w = noted fine (ListProcesses s claim wanted (length (r .old))) n w
 noting (Renewed flags words n) w = cond (eqb n No.done) (begun (fresh (pairsOf flags words)) nobody) w
 noting (Restored image n) w = cond (eqb n No.done) (begun (Image.restored image) (toldBy image)) w
 

@@ -35,7 +35,7 @@ use Rattle.claims.specs.declared.Claim.{Claim}
 use Rattle.claims.specs.declared.Claim.the-variants.{Elevated, ByUser}
 use Rattle.claims.specs.declared.State.{State}
 use Rattle.claims.specs.declared.UserClaim.{UserClaim}
-use Rattle.calls.specs.Calls.{Call, Open, Close, Drop, Select, Start, Continue, Elevate, End, Record, List′, Kill, SetWord, number, withTable, userProcess, elevation, activated, saved, oneMore, namedPlace, reach, counted, ended, effect}
+use Rattle.calls.specs.Calls.{Call, Open, Close, Drop, Select, Start, Continue, Elevate, End, Record, ListProcesses, Kill, SetWord, number, withTable, userProcess, elevation, activated, saved, oneMore, namedPlace, reach, counted, ended, effect}
 use Rattle.calls.specs.Run.{step, run}
 use Rattle.facts.specs.Facts.{processes, Rules}
 use Rattle.facts.proofs.Laws.{apart-turn}
@@ -200,7 +200,7 @@ module _ (st : State) where
       same-removed st i (active-unkept (ElevationIn s) (getD (processes st) i freePlace) (f .passes))
   same-effect (End s u keep) f h = same-ended s u keep f h
   same-effect (Record s claim class) f h = same-counted st s claim f
-  same-effect (List′ s claim wanted room) f h = same-counted st s claim f
+  same-effect (ListProcesses s claim wanted room) f h = same-counted st s claim f
   same-effect (Kill s claim name) f h = same-killed s claim name f h
   same-effect (SetWord s claim c word) f h = clash refl h
 
@@ -290,7 +290,7 @@ module _ (st : State) (v : Rules st) where
   rows-effect (Drop s) f h = clash h refl
   rows-effect (End s u keep) f h = rows-ended s u keep f h
   rows-effect (Record s claim class) f h = clash h refl
-  rows-effect (List′ s claim wanted room) f h = clash h refl
+  rows-effect (ListProcesses s claim wanted room) f h = clash h refl
   rows-effect (Kill s claim name) f h = rows-killed s claim name f h
   rows-effect (SetWord s claim c word) f h = unfold effect savedOf in ap length (same-counted st s claim (f .admission) .saved)
 

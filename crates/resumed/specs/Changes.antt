@@ -10,7 +10,7 @@ use Rattle.names.specs.Names.{sameName}
 use Rattle.names.specs.declared.Name.{Name}
 use Rattle.claims.specs.Numbers as No
 use Rattle.claims.specs.declared.State.{State}
-use Rattle.calls.specs.Calls.{Call, Open, Close, Drop, Select, Start, Continue, Elevate, End, Record, List′, Kill, SetWord, number}
+use Rattle.calls.specs.Calls.{Call, Open, Close, Drop, Select, Start, Continue, Elevate, End, Record, ListProcesses, Kill, SetWord, number}
 use Rattle.calls.specs.Run.{step}
 use Rattle.facts.specs.Facts.{processes}
 use Rattle.image.specs.Image.{isKept, imageBytes}
@@ -30,7 +30,7 @@ touchesImage st (Elevate s c name verdict) = false
 touchesImage st (Drop s) = false
 touchesImage st (End s u keep) = keep
 touchesImage st (Record s claim class) = false
-touchesImage st (List′ s claim wanted room) = false
+touchesImage st (ListProcesses s claim wanted room) = false
 touchesImage st (Kill s claim name) = hasSaved st name
 touchesImage st (SetWord s claim c word) = true
 
@@ -49,7 +49,7 @@ RowsChange (Elevate s c name verdict) n m = ⊥
 RowsChange (Drop s) n m = ⊥
 RowsChange (End s u keep) n m = m ≡ n + 1
 RowsChange (Record s claim class) n m = ⊥
-RowsChange (List′ s claim wanted room) n m = ⊥
+RowsChange (ListProcesses s claim wanted room) n m = ⊥
 RowsChange (Kill s claim name) n m = n ≡ m + 1
 RowsChange (SetWord s claim c word) n m = m ≡ n
 
