@@ -448,7 +448,7 @@ uint32_t slavotuk_read_row(const uint8_t *message, size_t message_length, size_t
  *
  * A message is its code, the values of its fields in their order, and the rest: the bytes that follow the fields. The code and
  * the reserved byte behind it are no values. A reserved field is one, and is 0; reserved bits are 0 in what is handed out and
- * may not be set in what is written. BaseAsymAlgo and BaseHashAlgo have exactly one bit set. The fields have 004's names:
+ * may not be set in what is written. The fields have 004's names:
  *
  *   GET_AUTH_VERSION, ELEVATE_PRIVILEGE, END_ELEVATED_PRIVILEGE, GET_AUTH_CAPABILITIES, TAKE_OWNERSHIP,
  *   SELECT_AUTH_VERSION_RSP, SET_CRED_ID_PARAMS_DONE, SET_AUTH_POLICY_DONE, PRIVILEGE_ELEVATED, ELEVATED_PRIVILEGE_ENDED,

@@ -6,7 +6,6 @@ use Prim.Native.Nat.{ℕ, zero, suc, _+_, _-_, _^_}
 use mathlib.Core.Path.{_≡_, refl}
 use mathlib.Core.Bool.{Bool, true, false, not, _&&_}
 use mathlib.Core.List.{List, [], _∷_, _++_, map}
-use lib.Count.{ones, onesIn}
 use lib.Dec.{eqb}
 use lib.ListN.{replicate}
 use Rattle.lists.specs.Lists.{any, padded}
@@ -17,7 +16,7 @@ use Rattle.formats.specs.declared.Layout.the-variants.{Plain, VersionNum
 use Rattle.formats.specs.declared.Part.the-variants.{VersionEntry, ProcessInfo, Owner, Policy, ResetElement}
 use Rattle.formats.specs.declared.Rest.{Rest}
 use Rattle.formats.specs.declared.Rest.the-variants.{Exactly, Said, SaidTo, Parts}
-use Rattle.formats.specs.Formats.{formOf, meant, isWithin, isSingle, isAllowed, fieldsOf, restOf}
+use Rattle.formats.specs.Formats.{formOf, meant, isAllowed, fieldsOf, restOf}
 
 -- ---- a field: at which byte it begins, how many bytes it has, the bounds of what may stand there, what is next to these and may not, and what some numbers
 -- of its bytes mean
@@ -77,17 +76,6 @@ bits begins width count = bitsTo begins width count (2 ^ count - 1)
 abbrev pub reserved : ℕ → ℕ → Held
 reserved begins width = bits begins width 0
 
--- so many bits, one of which is set; the others are reserved
-abbrev pub oneBit : ℕ → ℕ → ℕ → Held
-oneBit begins width count =
-    record {
-      begins = begins;
-      width = width;
-      taken = 1 ∷ 2 ^ (count - 1) ∷ [];
-      refused = 0 ∷ 3 ∷ (2 ^ (count - 1) + 1) ∷ 2 ^ count ∷ [];
-      read = full width means (2 ^ count - 1) ∷ (2 ^ count) means 0 ∷ [];
-    }
-
 -- ---- a line: the fields, where what follows them begins and what it is; and an example: the code, seven values, what follows, and how many bytes that has in all.
 -- Of a piece of a list the code is its kind
 pub record Line : Type 0 where
@@ -134,8 +122,8 @@ abbrev pub structureFrom : ℕ → List Held
 structureFrom begins =
     whole begins 2
     ∷ number (begins + 2) 1 1 1
-    ∷ oneBit (begins + 3) 8 12
-    ∷ oneBit (begins + 11) 8 7
+    ∷ bits (begins + 3) 8 12
+    ∷ bits (begins + 11) 8 7
     ∷ reserved (begins + 19) 4
     ∷ whole (begins + 23) 4
     ∷ []
@@ -304,5 +292,5 @@ pub record ByName : Type 0 where
   pub piece-rests : map (λ (l : Line). restOf (l .layout)) pieceLines ≡ map (λ (l : Line). l .rest) pieceLines
 
 pub by-name : ByName
-unfolding any padded ones onesIn formOf meant isWithin isSingle isAllowed fieldsOf restOf
+unfolding any padded formOf meant isAllowed fieldsOf restOf
 by-name = record { message-fields = refl; piece-fields = refl; message-rests = refl; piece-rests = refl }

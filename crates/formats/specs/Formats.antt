@@ -1,9 +1,8 @@
 -- What a message of 004 clause 9.2 is made of: the fields behind its code and reserved byte, what each may hold, and what follows them.
 -- `formOf` has what a field may hold. `shapeOf` has the messages, each with its name and the number of its table of 004.
 use Prim.Native.Nat.{ℕ, _%_}
-use mathlib.Core.Bool.{Bool, true, false, cond, _&&_}
+use mathlib.Core.Bool.{Bool, cond, _&&_}
 use mathlib.Core.List.{List, [], _∷_}
-use lib.Count.{ones}
 use lib.Dec.{eqb, leb}
 use Rattle.formats.specs.declared.Field.{Field}
 use Rattle.formats.specs.declared.Field.the-variants.{Unused, Reserved, AuthVersion, VersionNumberEntryCount, VersionNumberEntry, MessageCaps, AuthProcessCaps, DeviceProvisioningState, AuthRecordProcessTime, BaseAsymAlgoSupported, BaseHashAlgoSupported, SupportedPolicyOwnerIDCount, Change, LockOrUnlock, CredentialID, CredentialType, BaseAsymAlgo, BaseHashAlgo, CredentialDataSize, CredAttributes, NumPolicies, RegistryID, VendorIDLen, PolicyVersion, PolicyLen, AuthProcInfoCount, AuthProcessType, StartAttributes, NonceLen, EndAttributes, DataType, SVResetDataTypeCount, SVResetDataTypeLen, ErrorCode, ErrorData, NoErrorData}
@@ -18,15 +17,11 @@ use Rattle.formats.specs.declared.Rest.the-variants.{Exactly, Said, Said
 
 -- a number of so many bytes that is at least one number and at most another; every bit counts
 abbrev pub between : ℕ → ℕ → ℕ → Form
-between width least most = record { width = width; values = 0; least = least; most = most; single = false }
+between width least most = record { width = width; values = 0; least = least; most = most }
 
 -- bits of which the lowest count, so that they say one of so many values, and that say at most a number; the others are reserved
 abbrev pub flags : ℕ → ℕ → ℕ → Form
-flags width values most = record { width = width; values = values; least = 0; most = most; single = false }
-
--- such bits, of which exactly one is set, the highest at most
-abbrev pub oneFlag : ℕ → ℕ → ℕ → Form
-oneFlag width values highest = record { width = width; values = values; least = 1; most = highest; single = true }
+flags width values most = record { width = width; values = values; least = 0; most = most }
 
 unfoldable pub formOf : Field → Form
 -- no field
@@ -46,11 +41,11 @@ formOf SupportedPolicyOwnerIDCount = between 2 0 65535
 -- Tables 34 and 40: ParameterChange or PolicyChange, Lock or Unlock
 formOf Change = between 1 1 1
 formOf LockOrUnlock = between 1 2 3
--- Table 2: "Shall be 0x01 for this version"; of the bits of Tables 70 and 71, "exactly one bit set"; four reserved bytes
+-- Table 2: "Shall be 0x01 for this version"; four reserved bytes
 formOf CredentialID = between 2 0 65535
 formOf CredentialType = between 1 1 1
-formOf BaseAsymAlgo = oneFlag 8 4096 2048
-formOf BaseHashAlgo = oneFlag 8 128 64
+formOf BaseAsymAlgo = flags 8 4096 4095
+formOf BaseHashAlgo = flags 8 128 127
 formOf Reserved = flags 4 1 0
 formOf CredentialDataSize = between 4 0 4294967295
 -- Table 38: three bits
@@ -83,16 +78,9 @@ formOf NoErrorData = between 1 0 0
 unfoldable pub meant : Form → ℕ → ℕ
 meant form n = cond (eqb (form .values) 0) n (n % form .values)
 
-unfoldable pub isWithin : Form → ℕ → Bool
-isWithin form value = leb (form .least) value && leb value (form .most)
-
--- "exactly one bit set", where the form asks it
-unfoldable pub isSingle : Form → ℕ → Bool
-isSingle form value = cond (form .single) (eqb (ones value) 1) true
-
 -- a value that 004 has for the field. It has no reserved bit set, since the most that a form allows is below its count of values
 unfoldable pub isAllowed : Form → ℕ → Bool
-isAllowed form value = isWithin form value && isSingle form value
+isAllowed form value = leb (form .least) value && leb value (form .most)
 
 -- ---- the messages. A message is its code at byte 0, a reserved byte, its fields from byte 2 on, and what follows them. A piece of a list is its fields,
 -- from its byte 0 on, and what follows them.

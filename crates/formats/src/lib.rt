@@ -44,14 +44,12 @@ pub enum Field {
     NoErrorData,
 }
 
-// What a field holds: its bytes; of how many values the bits that count say one, 0 where all bits count; the least and the most that it may say; and whether
-// exactly one bit is set in it.
+// What a field holds: its bytes; of how many values the bits that count say one, 0 where all bits count; and the least and the most that it may say.
 pub struct Form {
     pub width: usize,
     pub values: u64,
     pub least: u64,
     pub most: u64,
-    pub single: bool,
 }
 
 // An element of a list.
@@ -139,7 +137,6 @@ fn between(width: usize, least: u64, most: u64) -> Form
         values: 0,
         least: least,
         most: most,
-        single: false,
     }
 }
 
@@ -151,19 +148,6 @@ fn flags(width: usize, values: u64, most: u64) -> Form
         values: values,
         least: 0,
         most: most,
-        single: false,
-    }
-}
-
-fn one_flag(width: usize, values: u64, highest: u64) -> Form
-    ensures { λ r. ⌜ r ≡ Formats.oneFlag width values highest ⌝ }
-{
-    Form {
-        width: width,
-        values: values,
-        least: 1,
-        most: highest,
-        single: true,
     }
 }
 
@@ -186,8 +170,8 @@ pub fn form_of(field: Field) -> Form
         Field::LockOrUnlock => between(1, 2, 3),
         Field::CredentialID => between(2, 0, 65535),
         Field::CredentialType => between(1, 1, 1),
-        Field::BaseAsymAlgo => one_flag(8, 4096, 2048),
-        Field::BaseHashAlgo => one_flag(8, 128, 64),
+        Field::BaseAsymAlgo => flags(8, 4096, 4095),
+        Field::BaseHashAlgo => flags(8, 128, 127),
         Field::Reserved => flags(4, 1, 0),
         Field::CredentialDataSize => between(4, 0, 4294967295),
         Field::CredAttributes => flags(2, 8, 7),

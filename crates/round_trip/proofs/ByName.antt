@@ -5,12 +5,11 @@ use Prim.Native.Nat.{ℕ, suc, _-_}
 use mathlib.Core.Path.{_≡_, refl}
 use mathlib.Core.Bool.{Bool, true, false, _&&_, _||_}
 use mathlib.Core.List.{List, [], _∷_, _++_, map}
-use lib.Count.{ones, onesIn}
 use lib.Dec.{eqb}
 use lib.ListN.{length, getD, take, drop, set, replicate}
 use Rattle.lists.specs.Lists.{any, padded}
 use Rattle.rows.specs.Bytes.{bytesOf, numberOf}
-use Rattle.formats.specs.Formats.{formOf, meant, isWithin, isSingle, isAllowed, fieldsOf, restOf}
+use Rattle.formats.specs.Formats.{formOf, meant, isAllowed, fieldsOf, restOf}
 use Rattle.formats.proofs.ByName.{Held, Line, messageLines, pieceLines}
 use Rattle.fields.specs.Fields.{fields, longOf, valuesIn, areAllowed, fieldBytes}
 use Rattle.pieces.specs.declared.Piece.{Piece}
@@ -70,7 +69,7 @@ pub record ByName : Type 0 where
   pub piece-beside-not-written : map (λ (l : Line). anyRefused (pieceWrittenWith l) 0 (l .fields)) pieceLines ≡ replicate 5 false
 
 pub by-name : ByName
-unfolding any padded ones onesIn bytesOf numberOf formOf meant isWithin isSingle isAllowed fieldsOf restOf fields longOf valuesIn areAllowed fieldBytes valuesOf headLong restLong pieceLong isPiece pieceIn first second behind isPart partLong areParts fitsRest find operations errors requests responses layoutOf layoutIn headOf messageValues isMessage readMessage bodyBytes layoutFor messageBytes carries carriesPiece
+unfolding any padded bytesOf numberOf formOf meant isAllowed fieldsOf restOf fields longOf valuesIn areAllowed fieldBytes valuesOf headLong restLong pieceLong isPiece pieceIn first second behind isPart partLong areParts fitsRest find operations errors requests responses layoutOf layoutIn headOf messageValues isMessage readMessage bodyBytes layoutFor messageBytes carries carriesPiece
 by-name =
     record {
       carried = refl;

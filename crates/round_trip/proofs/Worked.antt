@@ -8,7 +8,7 @@ use lib.ListN.{replicate}
 use Rattle.lists.specs.Lists.{padded}
 use Rattle.rows.specs.Bytes.{bytesOf, numberOf}
 use Rattle.formats.specs.declared.Part.the-variants.{Policy}
-use Rattle.formats.specs.Formats.{formOf, meant, isWithin, isSingle, isAllowed, fieldsOf, restOf}
+use Rattle.formats.specs.Formats.{formOf, meant, isAllowed, fieldsOf, restOf}
 use Rattle.fields.specs.Fields.{fields, longOf, valuesIn, areAllowed, fieldBytes}
 use Rattle.pieces.specs.Pieces.{valuesOf, headLong, restLong, pieceLong, isPiece, first, second, behind, isPart, partLong, areParts, fitsRest}
 use Rattle.message_codes.specs.Codes.{find, operations, errors, requests, responses, layoutOf}
@@ -71,7 +71,7 @@ pub record Worked : Type 0 where
   pub wrong-refused : map (λ (m : List ℕ). readMessage m .number) wrong ≡ replicate 13 14
 
 pub worked : Worked
-unfolding padded bytesOf numberOf formOf fieldsOf restOf meant isWithin isSingle isAllowed fields longOf valuesIn areAllowed fieldBytes valuesOf headLong restLong pieceLong isPiece first second behind isPart partLong areParts fitsRest find operations errors requests responses layoutOf layoutIn headOf messageValues isMessage readMessage bodyBytes layoutFor messageBytes carries pieceBytes partBytes
+unfolding padded bytesOf numberOf formOf fieldsOf restOf meant isAllowed fields longOf valuesIn areAllowed fieldBytes valuesOf headLong restLong pieceLong isPiece first second behind isPart partLong areParts fitsRest find operations errors requests responses layoutOf layoutIn headOf messageValues isMessage readMessage bodyBytes layoutFor messageBytes carries pieceBytes partBytes
 worked =
     record {
       ending-is = refl;

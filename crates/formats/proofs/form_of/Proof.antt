@@ -2,6 +2,10 @@ use Rattle.formats.proofs.Rules.{rules}
 use Rattle.formats.specs.Formats.{formOf}
 use Rattle.formats.proofs.form_of.Statement.{statement}
 use Rattle.formats.proofs.form_of.Tie as tie
+use Rattle.formats.proofs.form_of.Reads as reads
+use Rattle.formats.proofs.form_of.Lts as lts
+use Rattle.formats.proofs.between.Reads as between-reads
+use Rattle.formats.proofs.flags.Reads as flags-reads
 
 enum-told : tie.Need-enum-told
 enum-told c = search rules
@@ -96,20 +100,20 @@ between-requires-10 c κs = search rules
 enum-told-16 : tie.Need-enum-told-16
 enum-told-16 c = search rules
 
-one-flag-requires : tie.Need-one-flag-requires
-one-flag-requires c κs = search rules
+flags-requires-6 : tie.Need-flags-requires-6
+flags-requires-6 c κs = search rules
 
 enum-told-17 : tie.Need-enum-told-17
 enum-told-17 c = search rules
 
-one-flag-requires-2 : tie.Need-one-flag-requires-2
-one-flag-requires-2 c κs = search rules
+flags-requires-7 : tie.Need-flags-requires-7
+flags-requires-7 c κs = search rules
 
 enum-told-18 : tie.Need-enum-told-18
 enum-told-18 c = search rules
 
-flags-requires-6 : tie.Need-flags-requires-6
-flags-requires-6 c κs = search rules
+flags-requires-8 : tie.Need-flags-requires-8
+flags-requires-8 c κs = search rules
 
 enum-told-19 : tie.Need-enum-told-19
 enum-told-19 c = search rules
@@ -120,8 +124,8 @@ between-requires-11 c κs = search rules
 enum-told-20 : tie.Need-enum-told-20
 enum-told-20 c = search rules
 
-flags-requires-7 : tie.Need-flags-requires-7
-flags-requires-7 c κs = search rules
+flags-requires-9 : tie.Need-flags-requires-9
+flags-requires-9 c κs = search rules
 
 enum-told-21 : tie.Need-enum-told-21
 enum-told-21 c = search rules
@@ -168,8 +172,8 @@ between-requires-18 c κs = search rules
 enum-told-28 : tie.Need-enum-told-28
 enum-told-28 c = search rules
 
-flags-requires-8 : tie.Need-flags-requires-8
-flags-requires-8 c κs = search rules
+flags-requires-10 : tie.Need-flags-requires-10
+flags-requires-10 c κs = search rules
 
 enum-told-29 : tie.Need-enum-told-29
 enum-told-29 c = search rules
@@ -180,14 +184,14 @@ between-requires-19 c κs = search rules
 enum-told-30 : tie.Need-enum-told-30
 enum-told-30 c = search rules
 
-flags-requires-9 : tie.Need-flags-requires-9
-flags-requires-9 c κs = search rules
+flags-requires-11 : tie.Need-flags-requires-11
+flags-requires-11 c κs = search rules
 
 enum-told-31 : tie.Need-enum-told-31
 enum-told-31 c = search rules
 
-flags-requires-10 : tie.Need-flags-requires-10
-flags-requires-10 c κs = search rules
+flags-requires-12 : tie.Need-flags-requires-12
+flags-requires-12 c κs = search rules
 
 enum-told-32 : tie.Need-enum-told-32
 enum-told-32 c = search rules
@@ -398,15 +402,15 @@ form-of-spec =
     enum-told-15
     between-requires-10
     enum-told-16
-    one-flag-requires
-    enum-told-17
-    one-flag-requires-2
-    enum-told-18
     flags-requires-6
+    enum-told-17
+    flags-requires-7
+    enum-told-18
+    flags-requires-8
     enum-told-19
     between-requires-11
     enum-told-20
-    flags-requires-7
+    flags-requires-9
     enum-told-21
     between-requires-12
     enum-told-22
@@ -422,13 +426,13 @@ form-of-spec =
     enum-told-27
     between-requires-18
     enum-told-28
-    flags-requires-8
+    flags-requires-10
     enum-told-29
     between-requires-19
     enum-told-30
-    flags-requires-9
+    flags-requires-11
     enum-told-31
-    flags-requires-10
+    flags-requires-12
     enum-told-32
     between-requires-20
     enum-told-33
