@@ -369,10 +369,11 @@ uint32_t slavotuk_set_word(uint8_t *state, size_t state_length, uint32_t session
  * next numbers; docs/IMAGE.md draws it. Sessions and active processes are not in it and are lost, also a process that was saved
  * and continued.
  *
- * It changes where slavotuk_end keeps a process, slavotuk_continue takes one up, slavotuk_kill removes a saved one, and
- * slavotuk_set_word sets a word: write it again after each of these that is done, before the answer goes out and before the
- * next call. The memory that keeps it has to hand back the newest. From an older one, numbers that were spent since are good
- * again, processes that were killed since stand again, and words are the old ones.
+ * It changes where slavotuk_end keeps a process, slavotuk_continue takes one up, slavotuk_kill removes a saved one,
+ * slavotuk_set_word sets a word, and where slavotuk_fresh or slavotuk_restore makes a module: write it again after each of these
+ * that is done, before the answer goes out and before the next call; after a restore from the newest it is the same. No other
+ * call changes it, and none that is refused. The memory that keeps it has to hand back the newest. From an older one, numbers
+ * that were spent since are good again, processes that were killed since stand again, and words are the old ones.
  */
 
 /*
@@ -447,7 +448,7 @@ uint32_t slavotuk_read_row(const uint8_t *message, size_t message_length, size_t
  *
  * A message is its code, the values of its fields in their order, and the rest: the bytes that follow the fields. The code and
  * the reserved byte behind it are no values. A reserved field is one, and is 0; reserved bits are 0 in what is handed out and
- * may not be set in what is written. The fields have 004's names:
+ * may not be set in what is written. BaseAsymAlgo and BaseHashAlgo have exactly one bit set. The fields have 004's names:
  *
  *   GET_AUTH_VERSION, ELEVATE_PRIVILEGE, END_ELEVATED_PRIVILEGE, GET_AUTH_CAPABILITIES, TAKE_OWNERSHIP,
  *   SELECT_AUTH_VERSION_RSP, SET_CRED_ID_PARAMS_DONE, SET_AUTH_POLICY_DONE, PRIVILEGE_ELEVATED, ELEVATED_PRIVILEGE_ENDED,

@@ -329,7 +329,7 @@ static const struct {
 } samples[] = {
     {SLAVOTUK_GET_AUTH_VERSION, {0}, 0, 0},
     {SLAVOTUK_SELECT_AUTH_VERSION, {0x10}, 1, 0},
-    {SLAVOTUK_SET_CRED_ID_PARAMS, {1, 2, 1, 3, 4, 0, 5}, 28, 5},
+    {SLAVOTUK_SET_CRED_ID_PARAMS, {1, 2, 1, 0x800, 0x40, 0, 5}, 28, 5},
     {SLAVOTUK_GET_CRED_ID_PARAMS, {65535}, 2, 0},
     {SLAVOTUK_SET_AUTH_POLICY, {1, 2, 3}, 5, 24},
     {SLAVOTUK_GET_AUTH_POLICY, {1}, 2, 0},

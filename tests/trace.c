@@ -42,6 +42,7 @@ static uint8_t image[SLAVOTUK_IMAGE_SIZE];
 /* What a case begins with, of each set of names. */
 static uint8_t names[SETS][PLACES][NAME];
 static uint8_t full[SETS][SLAVOTUK_STATE_SIZE];
+static uint8_t own_reach[SETS][SLAVOTUK_STATE_SIZE];
 static uint8_t with_room[SETS][SLAVOTUK_STATE_SIZE];
 static uint8_t all_saved[SETS][SLAVOTUK_STATE_SIZE];
 static uint8_t saved_image[SETS][SLAVOTUK_IMAGE_SIZE];
@@ -146,7 +147,8 @@ static uint8_t *name_in_row(uint8_t *in, unsigned row) { return in + ROWS_AT + R
 
 /* ---- states */
 
-/* What stands, in the table's order. The first is whose claim a kill carries; session 3 and credential 7 have no process. */
+/* What stands, in the table's order. The first is whose claim a kill carries; session 3 and credential 7 have no process. From place STRANGERS on all are others'. */
+enum { STRANGERS = 7 };
 static const struct standing { uint8_t type, session, credential; } standing[PLACES] = {
     {SLAVOTUK_TYPE_ACTIVE_USER, 0, 0},      {SLAVOTUK_TYPE_ACTIVE_ELEVATION, 0, 1}, {SLAVOTUK_TYPE_SAVED_USER, 0, 2},
     {SLAVOTUK_TYPE_ACTIVE_USER, 1, 0},      {SLAVOTUK_TYPE_SAVED_USER, 1, 3},       {SLAVOTUK_TYPE_ACTIVE_ELEVATION, 1, 0},
@@ -157,11 +159,13 @@ static const struct standing { uint8_t type, session, credential; } standing[PLA
 #define MODULE state, sizeof state
 #define NAMED name, sizeof name
 
-static void open_sessions(void)
+/* Every credential has every class, or every one but that of killing others' processes. */
+static const uint32_t EVERY_CLASS = UINT32_MAX, KILLS_ITS_OWN = UINT32_MAX & ~(UINT32_C(1) << SLAVOTUK_CLASS_KILL_OTHERS);
+
+static void open_sessions(uint32_t word)
 {
     const uint8_t provisioned[SLAVOTUK_CREDENTIALS] = {1, 1, 1, 1, 1, 1, 1, 1};
-    uint32_t words[SLAVOTUK_CREDENTIALS];
-    memset(words, 0xff, sizeof words);
+    const uint32_t words[SLAVOTUK_CREDENTIALS] = {word, word, word, word, word, word, word, word};
     done("fresh", slavotuk_fresh(MODULE, provisioned, SLAVOTUK_CREDENTIALS, words, SLAVOTUK_CREDENTIALS));
     for (unsigned session = 0; session < SLAVOTUK_SESSIONS; session++) {
         done("open", slavotuk_open(MODULE, session));
@@ -182,10 +186,10 @@ static void stand(const struct standing *process)
 }
 
 /* The first so many of those that stand, or that many saved ones of credential 0. */
-static void make_state(uint8_t *made, unsigned set, unsigned count, int saved)
+static void make_state(uint8_t *made, unsigned set, unsigned count, int saved, uint32_t word)
 {
     static const struct standing saved_one = {SLAVOTUK_TYPE_SAVED_USER, 0, 0};
-    open_sessions();
+    open_sessions(word);
     for (unsigned place = 0; place < count; place++) {
         memcpy(name, names[set][place], NAME);
         stand(saved ? &saved_one : &standing[place]);
@@ -197,9 +201,10 @@ static void make_states(void)
 {
     for (unsigned set = 0; set < SETS; set++) {
         size_t length;
-        make_state(full[set], set, PLACES, 0);
-        make_state(with_room[set], set, PLACES - 1, 0);
-        make_state(all_saved[set], set, PLACES, 1);
+        make_state(own_reach[set], set, PLACES, 0, KILLS_ITS_OWN);
+        make_state(full[set], set, PLACES, 0, EVERY_CLASS);
+        make_state(with_room[set], set, PLACES - 1, 0, EVERY_CLASS);
+        make_state(all_saved[set], set, PLACES, 1, EVERY_CLASS);
         done("image", slavotuk_image(MODULE, saved_image[set], SLAVOTUK_IMAGE_SIZE, &length));
     }
 }
@@ -244,6 +249,9 @@ static unsigned one_bit(const struct spot *spot) { return 1u << spot->byte % 8; 
 /* The name that a call is handed differs from that of the place, and stands nowhere. */
 static void ask(const struct spot *spot) { differing(name, names[spot->set][spot->place], spot, one_bit(spot)); }
 
+/* The name that a call is handed is that of the place. */
+static void ask_by_name(const struct spot *spot) { memcpy(name, names[spot->set][spot->place], NAME); }
+
 /* The later name of a pair differs from the other. */
 static void pair_up(const struct spot *spot)
 {
@@ -280,6 +288,8 @@ static void surround(const struct spot *spot)
 
 static const struct group groups[] = {
     {"kill, no such name, 12 standing", full, ask, kill_it, SLAVOTUK_REFUSED_NO_PROCESS, 0, 0, PLACES, NAME, 0},
+    {"kill, no such name of its own, 12 standing", own_reach, ask, kill_it, SLAVOTUK_REFUSED_NO_PROCESS, 0, 0, PLACES, NAME, 0},
+    {"kill, a stranger's name, 12 standing", own_reach, ask_by_name, kill_it, SLAVOTUK_REFUSED_NO_PROCESS, 0, STRANGERS, PLACES - STRANGERS, 1, 0},
     {"start, done, 11 standing", with_room, ask, start_it, SLAVOTUK_DONE, 0, 0, PLACES - 1, NAME, 0},
     {"start, full, 12 standing", full, ask, start_it, SLAVOTUK_REFUSED_FULL, 0, 0, PLACES, NAME, 0},
     {"continue, no such name, 12 saved", all_saved, ask, continue_it, SLAVOTUK_REFUSED_NO_PROCESS, 0, 0, PLACES, NAME, 0},
@@ -391,13 +401,26 @@ static void try_group(const struct group *group)
     }
 }
 
+/* Calls that find the name which they are handed. */
+static const struct finding {
+    const char *what;
+    uint8_t (*begin)[SLAVOTUK_STATE_SIZE];
+    uint32_t (*call)(void);
+    uint32_t answer;
+} findings[] = {
+    {"kill, found", full, kill_it, SLAVOTUK_DONE},
+    {"start, name taken", full, start_it, SLAVOTUK_REFUSED_NAME_TAKEN},
+    {"elevate, name taken", full, elevate_it, SLAVOTUK_REFUSED_NAME_TAKEN},
+    {"continue, found", all_saved, continue_it, SLAVOTUK_DONE},
+};
+
 /* A search ends at the place that matches, so each place is a group. */
-static void try_found(void)
+static void try_found(const struct finding *finding)
 {
     static char text[40];
     for (unsigned place = 0; place < PLACES; place++) {
-        const struct group group = {text, full, surround, kill_it, SLAVOTUK_DONE, 0, place, 1, NAME, 0};
-        snprintf(text, sizeof text, "kill, found at place %u", place);
+        const struct group group = {text, finding->begin, surround, finding->call, finding->answer, 0, place, 1, NAME, 0};
+        snprintf(text, sizeof text, "%s at place %u", finding->what, place);
         if (is_chosen(place, PLACES)) {
             try_group(&group);
         }
@@ -409,7 +432,9 @@ static void try_groups(void)
     for (size_t at = 0; at < sizeof groups / sizeof groups[0]; at++) {
         try_group(&groups[at]);
     }
-    try_found();
+    for (size_t at = 0; at < sizeof findings / sizeof findings[0]; at++) {
+        try_found(&findings[at]);
+    }
 }
 
 /* ---- the whole */

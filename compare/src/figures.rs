@@ -12,7 +12,7 @@ use std::time::Instant;
 /// Some tests, and the line that they print.
 type Group = fn(&Setting) -> Result<String, String>;
 
-const GROUPS: [Group; 16] = [
+const GROUPS: [Group; 17] = [
     figures_bounds::known,
     figures_bounds::lone_bytes,
     figures_bounds::lengths,
@@ -28,6 +28,7 @@ const GROUPS: [Group; 16] = [
     figures_random::drawers,
     figures_process::short_reads,
     figures_failures::failures,
+    figures_failures::failed_reads,
     figures_process::memory,
 ];
 

@@ -205,6 +205,14 @@ impl Drawing<'_> {
         }
     }
 
+    /// One of these bits mostly.
+    fn algorithm(&mut self, defined: u64) -> u64 {
+        match self.random.below(20) {
+            0 => self.wide_bits(defined),
+            _ => 1 << self.random.below(defined.count_ones() as usize),
+        }
+    }
+
     fn array<const LENGTH: usize>(&mut self) -> [u8; LENGTH] {
         let mut array = [0; LENGTH];
         self.random.fill(&mut array);
@@ -255,8 +263,8 @@ impl Drawing<'_> {
                 0 => self.byte(),
                 _ => ASYMMETRIC_KEY,
             },
-            base_asym_algo: self.wide_bits(bits::BASE_ASYM_ALGO),
-            base_hash_algo: self.wide_bits(bits::BASE_HASH_ALGO),
+            base_asym_algo: self.algorithm(bits::BASE_ASYM_ALGO),
+            base_hash_algo: self.algorithm(bits::BASE_HASH_ALGO),
             credential_data: self.bytes(70_000),
         }
     }

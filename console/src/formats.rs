@@ -225,11 +225,11 @@ const fn credential(first: Field) -> [Field; 7] {
             .drawn(Drawn::Named(&[(1, "asymmetric key")]))
             .tables(&[2]),
         number("BaseAsymAlgo", 8)
-            .asked("bits 0 to 11")
+            .asked("one bit, 0 to 11")
             .drawn(ASYMMETRIC)
             .tables(&[2, 70]),
         number("BaseHashAlgo", 8)
-            .asked("bits 0 to 6")
+            .asked("one bit, 0 to 6")
             .drawn(HASHES)
             .tables(&[2, 71]),
         Field {

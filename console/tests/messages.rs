@@ -217,12 +217,15 @@ fn what_is_no_message_is_said() {
 }
 
 /// Lines whose values no message can carry.
-const REFUSED: [&str; 24] = [
+const REFUSED: [&str; 27] = [
     "SET_CRED_ID_PARAMS SetCredInfoOp=0 CredentialID=1",
     "SET_CRED_ID_PARAMS SetCredInfoOp=4 CredentialID=1",
     "SET_CRED_ID_PARAMS SetCredInfoOp=1 CredentialID=1 CredentialType=2 BaseAsymAlgo=1 BaseHashAlgo=1 CredentialData=",
     "SET_CRED_ID_PARAMS SetCredInfoOp=1 CredentialID=1 CredentialType=1 BaseAsymAlgo=0x1000 BaseHashAlgo=1 CredentialData=",
     "SET_CRED_ID_PARAMS SetCredInfoOp=1 CredentialID=1 CredentialType=1 BaseAsymAlgo=1 BaseHashAlgo=0x80 CredentialData=",
+    "SET_CRED_ID_PARAMS SetCredInfoOp=1 CredentialID=1 CredentialType=1 BaseAsymAlgo=0 BaseHashAlgo=1 CredentialData=",
+    "SET_CRED_ID_PARAMS SetCredInfoOp=1 CredentialID=1 CredentialType=1 BaseAsymAlgo=0x11 BaseHashAlgo=1 CredentialData=",
+    "CRED_ID_PARAMS CredAttributes=0 CredentialID=1 CredentialType=1 BaseAsymAlgo=1 BaseHashAlgo=3 CredentialData=",
     "SET_CRED_ID_PARAMS SetCredInfoOp=1 CredentialID=1 CredentialType=1 BaseAsymAlgo=1 BaseHashAlgo=1 CredentialDataSize=2 CredentialData=00",
     "SET_AUTH_POLICY SetAuthPolicyOp=1 CredentialID=1",
     "SET_AUTH_POLICY SetAuthPolicyOp=1 CredentialID=1 NumPolicies=2 part ID=0 VendorID= PolicyVersion=0 Policy=",

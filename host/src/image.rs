@@ -15,9 +15,10 @@ pub const FULL_IMAGE_LENGTH: usize = HEAD_LENGTH + ROW_LENGTH * PLACES;
 ///
 /// **Lost with the power** is what does not stand in it: that sessions were open, and every active process, also one that was saved before and continued.
 ///
-/// **The flash has to return the newest.** The image changes where a process is saved or continued, a saved one killed, or a word set: it is to be written again
-/// after each of these calls, before the answer goes out and before the next call. From an older one, numbers that were spent since are good again, processes
-/// that were killed since stand again, and words are the old ones.
+/// **The flash has to return the newest.** The image changes where a process is saved or continued, a saved one killed, or a word set, and where a module is made,
+/// fresh or from another image: it is to be written again after each of these calls, before the answer goes out and before the next call. No other call changes it,
+/// and none that is refused. From an older one, numbers that were spent since are good again, processes that were killed since stand again, and words are the
+/// old ones.
 ///
 /// ```
 /// use slavotuk::{Credential, Grants, Module, Name, Phase, Refusal, Session, Standing, UserClaim, VERSION_1_0};

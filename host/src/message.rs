@@ -11,7 +11,7 @@
 //! use slavotuk::message::{AuthPolicy, CredAttributes, List, Message, Policy, PolicyList, Svh};
 //! use slavotuk::{Refusal, WireCredential};
 //!
-//! let owner = Svh { id: 0, vendor_id: &[0x21, 0x01] };
+//! let owner = Svh { id: 3, vendor_id: &[0xde, 0xc1] };
 //! let policies = [
 //!     Policy { policy_owner_id: owner, policy_version: 0x1000, policy: &[1, 2, 3] },
 //!     Policy { policy_owner_id: owner, policy_version: 0x1100, policy: &[] },
@@ -25,7 +25,7 @@
 //!     },
 //! });
 //! let length = message.write(&mut buffer)?;
-//! assert_eq!(buffer[..9], [0x06, 0, 1, 0, 7, 0, 2, 0, 0]);
+//! assert_eq!(buffer[..9], [0x06, 0, 1, 0, 7, 0, 2, 0, 3]);
 //!
 //! let read = Message::read(&buffer[..length])?;
 //! assert_eq!((read.name(), read), ("AUTH_POLICY", message));

@@ -335,6 +335,10 @@ fn values_that_004_reserves_are_refused() {
         ("Lock with a whole credential", changed(0x83, &[(2, 2)])),
         ("CredentialType 0", changed(0x83, &[(5, 0)])),
         ("CredentialType 2", changed(0x83, &[(5, 2)])),
+        ("no asymmetric algorithm", changed(0x83, &[(6, 0)])),
+        ("two asymmetric algorithms", changed(0x83, &[(7, 1)])),
+        ("no hash algorithm", changed(0x04, &[(15, 0)])),
+        ("two hash algorithms", changed(0x04, &[(15, 3)])),
         ("SetAuthPolicyOp 0", changed(0x85, &[(2, 0)])),
         ("SetAuthPolicyOp 4", changed(0x85, &[(2, 4)])),
         ("a change of no policies", vec![0x85, 0, 1, 7, 0, 0, 0]),
@@ -425,6 +429,8 @@ fn reserved_bits_are_ignored() {
             "BaseHashAlgoSupported",
             changed(0x0b, &[(16, 0xff), (23, 1)]),
         ),
+        ("BaseAsymAlgo", changed(0x83, &[(7, 0xf0), (13, 0x80)])),
+        ("BaseHashAlgo", changed(0x83, &[(14, 0x82), (21, 1)])),
         ("CredAttributes", changed(0x04, &[(2, 0xfd), (3, 0xff)])),
         ("PolicyAttributes", changed(0x06, &[(2, 0xfa), (3, 1)])),
         ("START_AUTH Attributes", changed(0x87, &[(4, 0xff)])),
@@ -452,13 +458,19 @@ fn number_of_refused(code: u32, values: [u64; 7], rest: &[u8], room: usize) -> u
 
 #[test]
 fn values_that_no_message_can_carry_are_not_written() {
-    let refused: [(u32, [u64; 7], usize); 26] = [
+    let refused: [(u32, [u64; 7], usize); 32] = [
         (0x81, [1, 0, 0, 0, 0, 0, 0], 0),
         (0x82, [256, 0, 0, 0, 0, 0, 0], 0),
         (0x83, [0, 7, 1, 1, 1, 0, 0], 0),
         (0x83, [4, 7, 1, 1, 1, 0, 0], 0),
         (0x83, [2, 7, 1, 0, 0, 0, 0], 0),
         (0x83, [1, 7, 2, 1, 1, 0, 0], 0),
+        (0x83, [1, 7, 1, 0, 1, 0, 0], 0),
+        (0x83, [1, 7, 1, 3, 1, 0, 0], 0),
+        (0x83, [1, 7, 1, 0x1000, 1, 0, 0], 0),
+        (0x04, [0, 7, 1, 1, 0, 0, 0], 0),
+        (0x04, [0, 7, 1, 1, 0x7f, 0, 0], 0),
+        (0x04, [0, 7, 1, 1, 0x80, 0, 0], 0),
         (0x83, [1, 7, 1, 1, 1, 1, 0], 0),
         (0x83, [1, 7, 1, 1, 1, 0, 1], 0),
         (0x83, [1, 7, 1, 1, 1, 0, 1 << 32], 0),
@@ -495,6 +507,25 @@ fn a_code_that_004_has_not_is_not_written() {
     for code in [0, 0x10, 0x7e, 0x80, 0x90, 0xff, 0x181, u32::MAX] {
         assert_eq!(number_of_refused(code, [0; 7], &[1, 2], 3), 15);
         assert_eq!(number_of_refused(code, [0; 7], &[1, 2], 4), 14);
+    }
+}
+
+#[test]
+fn an_operation_or_an_error_that_004_has_not_takes_two_bytes_and_the_rest() {
+    let firsts = [
+        (0x83, 0),
+        (0x83, 4),
+        (0x85, 0),
+        (0x85, 4),
+        (0x7f, 0),
+        (0x7f, 12),
+        (0x7f, 254),
+        (0x7f, 256 + 3),
+    ];
+    for (code, first) in firsts {
+        let values = [first, 7, 1, 1, 1, 0, 2];
+        assert_eq!(number_of_refused(code, values, &[1, 2], 3), 15);
+        assert_eq!(number_of_refused(code, values, &[1, 2], 4), 14);
     }
 }
 

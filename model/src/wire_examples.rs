@@ -53,34 +53,40 @@ const CREDENTIAL: &[u8] = &[
     0, 0x30, 0x03, 0x06, 0x01, 0x2a,
 ];
 
-/// One with an owner of two bytes, one with no bytes at all.
+/// A policy of the standard's own, DMTF-DSP 289 (Tables 4 and 65) with a general policy (Tables 5 and 7), and one with no bytes at all.
 fn policy_list() -> PolicyList {
     PolicyList {
         credential_id: 0x0007,
         policies: vec![
             Policy {
                 policy_owner_id: Svh {
-                    id: 0x0c,
+                    id: 0x0b,
                     vendor_id: vec![0x21, 0x01],
                 },
-                policy_version: 0x0403_1000,
-                policy: vec![0xaa, 0xbb, 0xcc],
+                policy_version: 0x1000,
+                policy: GENERAL_POLICY.to_vec(),
             },
             Policy {
                 policy_owner_id: Svh {
                     id: 0x00,
                     vendor_id: vec![],
                 },
-                policy_version: 1,
+                policy_version: 0x0403_0201,
                 policy: vec![],
             },
         ],
     }
 }
 
+/// Type 1, 21 bytes: P-256 and P-384, SHA-256 and SHA-384, no privilege over others, both kinds of process.
+const GENERAL_POLICY: &[u8] = &[
+    0x01, 0x00, 0x15, 0x00, 0x90, 0, 0, 0, 0, 0, 0, 0, 0x03, 0, 0, 0, 0, 0, 0, 0, 0, 0, 0, 0, 0x03,
+];
+
 const POLICY_LIST: &[u8] = &[
-    0x07, 0x00, 0x02, 0x00, 0x0c, 0x02, 0x21, 0x01, 0x00, 0x10, 0x03, 0x04, 0x03, 0x00, 0xaa, 0xbb,
-    0xcc, 0x00, 0x00, 0x01, 0x00, 0x00, 0x00, 0x00, 0x00,
+    0x07, 0x00, 0x02, 0x00, 0x0b, 0x02, 0x21, 0x01, 0x00, 0x10, 0x00, 0x00, 0x19, 0x00, 0x01, 0x00,
+    0x15, 0x00, 0x90, 0, 0, 0, 0, 0, 0, 0, 0x03, 0, 0, 0, 0, 0, 0, 0, 0, 0, 0, 0, 0x03, 0x00, 0x00,
+    0x01, 0x02, 0x03, 0x04, 0x00, 0x00,
 ];
 
 #[rustfmt::skip]
@@ -143,9 +149,9 @@ fn responses() -> Vec<Example> {
                 auth_record_process_time: 31,
                 base_asym_algo_supported: 0x0890,
                 base_hash_algo_supported: 0x07,
-                supported_policy_owner_id_list: vec![Svh { id: 0x0c, vendor_id: vec![0x21, 0x01] }, Svh { id: 0x01, vendor_id: vec![] }],
+                supported_policy_owner_id_list: vec![Svh { id: 0x0b, vendor_id: vec![0x21, 0x01] }, Svh { id: 0x01, vendor_id: vec![] }],
             },
-            &[&[0x0b, 0, 0x39, 0, 0x0b, 0, 2, 31, 0x90, 0x08, 0, 0, 0, 0, 0, 0, 0x07, 0, 0, 0, 0, 0, 0, 0, 2, 0], &[0x0c, 2, 0x21, 0x01, 0x01, 0]],
+            &[&[0x0b, 0, 0x39, 0, 0x0b, 0, 2, 31, 0x90, 0x08, 0, 0, 0, 0, 0, 0, 0x07, 0, 0, 0, 0, 0, 0, 0, 2, 0], &[0x0b, 2, 0x21, 0x01, 0x01, 0]],
         ),
         example("AUTH_DEFAULTS_APPLIED", Message::AuthDefaultsApplied, &[&[0x0c, 0]]),
         example("OWNERSHIP_TAKEN", Message::OwnershipTaken, &[&[0x0d, 0]]),

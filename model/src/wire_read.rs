@@ -206,6 +206,9 @@ pub(crate) fn credential(reader: &mut Reader) -> Result<Credential, Number> {
     refuse_unless(credential_type == ASYMMETRIC_KEY, Number::Message)?;
     let base_asym_algo = reader.u64()? & bits::BASE_ASYM_ALGO;
     let base_hash_algo = reader.u64()? & bits::BASE_HASH_ALGO;
+    // "this field shall have exactly one bit set", of both
+    refuse_unless(base_asym_algo.count_ones() == 1, Number::Message)?;
+    refuse_unless(base_hash_algo.count_ones() == 1, Number::Message)?;
     reader.reserved(4)?;
     let credential_data_size = reader.u32()?;
     Ok(Credential {

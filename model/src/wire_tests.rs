@@ -136,8 +136,6 @@ fn what_is_not_reserved_is_not_ignored() {
         ("AUTH_RESET_TO_DEFAULT", 2, 0x01),
         ("AUTH_POLICY", 2, 0x04),
         ("CRED_ID_PARAMS", 2, 0x02),
-        ("CRED_ID_PARAMS", 8, 0x08),
-        ("CRED_ID_PARAMS", 15, 0x40),
         ("AUTH_CAPABILITIES", 2, 0x20),
         ("AUTH_CAPABILITIES", 4, 0x08),
         ("AUTH_CAPABILITIES", 9, 0x08),
@@ -148,6 +146,44 @@ fn what_is_not_reserved_is_not_ignored() {
         bytes[at] ^= bit;
         let message = read(&bytes).expect("still a message");
         assert_eq!(form(&message), bytes, "{name} {at}");
+    }
+}
+
+#[test]
+fn each_algorithm_alone_is_read() {
+    let alone = |at: usize, bit: usize| {
+        let mut bytes = named("CRED_ID_PARAMS").bytes;
+        bytes[at..at + 8].copy_from_slice(&(1u64 << bit).to_le_bytes());
+        bytes
+    };
+    let places = (0..12).map(|bit| (7, bit));
+    for (at, bit) in places.chain((0..7).map(|bit| (15, bit))) {
+        let bytes = alone(at, bit);
+        let message = read(&bytes).expect("still a message");
+        assert_eq!(form(&message), bytes, "{at} {bit}");
+    }
+}
+
+#[test]
+fn none_or_several_algorithms_are_refused() {
+    let changes: [(&str, &[(usize, u8)]); 10] = [
+        ("CRED_ID_PARAMS", &[(7, 0)]),
+        ("CRED_ID_PARAMS", &[(7, 0x81)]),
+        ("CRED_ID_PARAMS", &[(8, 0x08)]),
+        ("CRED_ID_PARAMS", &[(7, 0), (8, 0x10)]),
+        ("CRED_ID_PARAMS", &[(15, 0)]),
+        ("CRED_ID_PARAMS", &[(15, 0x42)]),
+        ("CRED_ID_PARAMS", &[(15, 0x80)]),
+        ("SET_CRED_ID_PARAMS ParameterChange", &[(6, 0xff)]),
+        ("SET_CRED_ID_PARAMS ParameterChange", &[(6, 0)]),
+        ("SET_CRED_ID_PARAMS ParameterChange", &[(14, 0x7f)]),
+    ];
+    for (name, places) in changes {
+        let mut bytes = named(name).bytes;
+        for (at, value) in places {
+            bytes[*at] = *value;
+        }
+        assert_eq!(read(&bytes), Err(Number::Message), "{name} {places:?}");
     }
 }
 
@@ -359,6 +395,12 @@ fn a_reserved_value_is_not_written() {
         ("AUTH_CAPABILITIES", 16, 0x80),
         ("AUTH_PROCESSES", 6, 0x03),
         ("CRED_ID_PARAMS", 6, 0x02),
+        ("CRED_ID_PARAMS", 7, 0x81),
+        ("CRED_ID_PARAMS", 7, 0x00),
+        ("CRED_ID_PARAMS", 8, 0x10),
+        ("CRED_ID_PARAMS", 15, 0x03),
+        ("CRED_ID_PARAMS", 15, 0x00),
+        ("CRED_ID_PARAMS", 15, 0x80),
     ];
     for (name, at, value) in changes {
         let Example { bytes, .. } = named(name);

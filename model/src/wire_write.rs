@@ -360,6 +360,8 @@ fn credential_can(credential: &Credential) -> Result<(), Number> {
     ask(credential.credential_type == ASYMMETRIC_KEY)?;
     ask(credential.base_asym_algo & !bits::BASE_ASYM_ALGO == 0)?;
     ask(credential.base_hash_algo & !bits::BASE_HASH_ALGO == 0)?;
+    ask(credential.base_asym_algo.count_ones() == 1)?;
+    ask(credential.base_hash_algo.count_ones() == 1)?;
     ask(u32::try_from(credential.credential_data.len()).is_ok())
 }
 

@@ -10,7 +10,7 @@ use Rattle.table.specs.Table.{tableOf}
 use Rattle.claims.specs.declared.Claim.the-variants.{Elevated}
 use Rattle.claims.specs.declared.State.{State}
 use Rattle.calls.specs.declared.Wanted.the-variants.{Every, Only}
-use Rattle.calls.specs.Calls.{Open, Close, Select, Start, Continue, Elevate, Drop, End, Record, List′, Kill, SetWord, withTable, userProcess, fresh}
+use Rattle.calls.specs.Calls.{Open, Close, Select, Start, Continue, Elevate, Drop, End, Record, ListProcesses, Kill, SetWord, withTable, userProcess, fresh}
 use Rattle.calls.proofs.Sequences.{P, Q, R, pairs, name, session, credential, class, userYes, userNo, yes′, no′, Step, _⇒_, Answered, after, computed}
 use Rattle.calls.proofs.Orders.{twelve}
 
@@ -46,9 +46,9 @@ argument =
     ∷ (Record (session 0) (yes′ 1 0) (class 32) ⇒ 1)
     ∷ (Record (session 0) (yes′ 1 0) (class 4) ⇒ 0)
     ∷ (Record (session 0) (yes′ 1 1) (class 31) ⇒ 10)
-    ∷ (List′ (session 0) (yes′ 0 0) (Only (credential 8)) 616 ⇒ 1)
-    ∷ (List′ (session 0) (yes′ 0 0) (Only (credential 7)) 616 ⇒ 0)
-    ∷ (List′ (session 0) (yes′ 0 1) Every 616 ⇒ 0)
+    ∷ (ListProcesses (session 0) (yes′ 0 0) (Only (credential 8)) 616 ⇒ 1)
+    ∷ (ListProcesses (session 0) (yes′ 0 0) (Only (credential 7)) 616 ⇒ 0)
+    ∷ (ListProcesses (session 0) (yes′ 0 1) Every 616 ⇒ 0)
     ∷ (SetWord (session 0) (yes′ 0 2) (credential 8) 0 ⇒ 1)
     ∷ (SetWord (session 0) (yes′ 0 2) (credential 7) 0 ⇒ 5)
     ∷ []
@@ -144,7 +144,7 @@ verdict =
     (Record (session 0) (no′ 1 0) (class 4) ⇒ 8)
     ∷ (Record (session 0) (yes′ 1 0) (class 4) ⇒ 0)
     ∷ (End (session 0) (userNo 1 1) false ⇒ 8)
-    ∷ (List′ (session 0) (no′ 0 0) Every 616 ⇒ 8)
+    ∷ (ListProcesses (session 0) (no′ 0 0) Every 616 ⇒ 8)
     ∷ (Kill (session 0) (no′ 0 0) R ⇒ 8)
     ∷ (SetWord (session 0) (no′ 0 0) (credential 1) 16 ⇒ 8)
     ∷ (Elevate (session 1) (credential 0) (name 3) false ⇒ 8)
@@ -166,10 +166,10 @@ abbrev notGranted : List Step
 notGranted =
     (Record (session 0) (yes′ 1 0) (class 5) ⇒ 10)
     ∷ (Record (session 0) (yes′ 1 1) (class 4) ⇒ 0)
-    ∷ (List′ (session 0) (yes′ 1 2) Every 616 ⇒ 10)
-    ∷ (List′ (session 0) (yes′ 1 3) (Only (credential 0)) 616 ⇒ 10)
-    ∷ (List′ (session 0) (yes′ 1 4) (Only (credential 1)) 616 ⇒ 0)
-    ∷ (List′ (session 0) (yes′ 0 0) (Only (credential 1)) 616 ⇒ 0)
+    ∷ (ListProcesses (session 0) (yes′ 1 2) Every 616 ⇒ 10)
+    ∷ (ListProcesses (session 0) (yes′ 1 3) (Only (credential 0)) 616 ⇒ 10)
+    ∷ (ListProcesses (session 0) (yes′ 1 4) (Only (credential 1)) 616 ⇒ 0)
+    ∷ (ListProcesses (session 0) (yes′ 0 0) (Only (credential 1)) 616 ⇒ 0)
     ∷ (SetWord (session 0) (yes′ 1 5) (credential 1) 20 ⇒ 10)
     ∷ (End (session 0) (userYes 1 6) true ⇒ 10)
     ∷ (SetWord (session 0) (yes′ 0 1) (credential 1) 20 ⇒ 0)
@@ -234,8 +234,8 @@ spentClosed = (Start (session 1) (credential 0) R ⇒ 12) ∷ (Close (session 0)
 -- 15 of the list call: "response buffer too short". Four rows have 208 bytes
 abbrev room : List Step
 room =
-    (List′ (session 0) (yes′ 0 0) Every 207 ⇒ 15)
-    ∷ (List′ (session 0) (yes′ 0 1) Every 208 ⇒ 0)
+    (ListProcesses (session 0) (yes′ 0 0) Every 207 ⇒ 15)
+    ∷ (ListProcesses (session 0) (yes′ 0 1) Every 208 ⇒ 0)
     ∷ []
 
 pub record Conditions : Type 0 where

@@ -15,7 +15,7 @@ use Rattle.claims.specs.declared.Admission.{Admission}
 use Rattle.claims.specs.declared.Claim.{Claim}
 use Rattle.claims.specs.declared.State.{State}
 use Rattle.claims.proofs.Laws.{stop, pass, rows, by-when, by-unless, by-then, clear-first, clear-rest}
-use Rattle.calls.specs.Calls.{Call, Open, Close, Drop, Select, Start, Continue, Elevate, End, Record, List′, Kill, SetWord, setWords, hasNamed, lacksSaving, mayList, isShort, reach, number, counted, effect, Free, Under, protection, aheadNumber, protectedNumber, passes, refusedAfter, charged, left, outcome}
+use Rattle.calls.specs.Calls.{Call, Open, Close, Drop, Select, Start, Continue, Elevate, End, Record, ListProcesses, Kill, SetWord, setWords, hasNamed, lacksSaving, mayList, isShort, reach, number, counted, effect, Free, Under, protection, aheadNumber, protectedNumber, passes, refusedAfter, charged, left, outcome}
 use Rattle.calls.specs.declared.Outcome.{Outcome}
 use Rattle.calls.proofs.Laws.{outcome-done, refusal-leaves, checked-number}
 
@@ -30,7 +30,7 @@ rest st (Continue s c name) = 0
 rest st (Elevate s c name verdict) = 0
 rest st (End s u keep) = 10 when lacksSaving st (u .credential) keep
 rest st (Record s claim class) = 10 unless granted st (claimant st s claim) class
-rest st (List′ s claim wanted room) = 10 unless mayList st (claimant st s claim) wanted ▸ 15 when isShort st wanted room
+rest st (ListProcesses s claim wanted room) = 10 unless mayList st (claimant st s claim) wanted ▸ 15 when isShort st wanted room
 rest st (Kill s claim name) = 6 unless hasNamed st name (reach st (claimant st s claim))
 rest st (SetWord s claim c word) = 10 unless granted st (claimant st s claim) setWords ▸ 5 unless provisioned st c
 
@@ -49,7 +49,7 @@ number-cut st (Continue s c name) = alone _
 number-cut st (Elevate s c name verdict) = alone _
 number-cut st (End s u keep) = refl
 number-cut st (Record s claim class) = refl
-number-cut st (List′ s claim wanted room) = refl
+number-cut st (ListProcesses s claim wanted room) = refl
 number-cut st (Kill s claim name) = refl
 number-cut st (SetWord s claim c word) = refl
 
@@ -138,7 +138,7 @@ module _ (st : State) where
   ahead-one (Elevate s c name verdict) e h = cc
   ahead-one (End s u keep) e h = absurd (h refl)
   ahead-one (Record s claim class) e h = some-unless _ h
-  ahead-one (List′ s claim wanted room) e h = some-unless _ h
+  ahead-one (ListProcesses s claim wanted room) e h = some-unless _ h
   ahead-one (Kill s claim name) e h = absurd (h refl)
   ahead-one (SetWord s claim c word) e h = some-unless _ h
 
@@ -155,7 +155,7 @@ module _ (P : ℕ → Type 0) (none : P 0) (p5 : P 5) (p6 : P 6) (p10 : P 10) (p
   rest-by (Elevate s c name verdict) = none
   rest-by (End s u keep) = by-when P none 10 _ p10
   rest-by (Record s claim class) = by-unless P none 10 _ p10
-  rest-by (List′ s claim wanted room) = by-then P _ _ (by-unless P none 10 _ p10) (by-when P none 15 _ p15)
+  rest-by (ListProcesses s claim wanted room) = by-then P _ _ (by-unless P none 10 _ p10) (by-when P none 15 _ p15)
   rest-by (Kill s claim name) = by-unless P none 6 _ p6
   rest-by (SetWord s claim c word) = by-then P _ _ (by-unless P none 10 _ p10) (by-unless P none 5 _ p5)
 

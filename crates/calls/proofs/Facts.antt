@@ -7,14 +7,14 @@ use mathlib.Core.List.{List, [], _∷_}
 use native.Mathlib.Omega.{arith}
 use borrow.Author.Tests.{eqb-true}
 use lib.Dec.{T, eqb, leb, leb→le}
-use lib.ListN.{getD, set}
+use lib.ListN.{getD, set, replicate}
 use Rattle.lists.specs.Lists.{any}
 use Rattle.lists.proofs.Tests.{split, clash}
 use Rattle.names.specs.Names.{sameName}
 use Rattle.names.specs.declared.Credential.{Credential}
 use Rattle.names.specs.declared.Name.{Name}
 use Rattle.names.specs.declared.Session.{Session}
-use Rattle.table.specs.Table.{standing, isOf, isAmong, isNamed}
+use Rattle.table.specs.Table.{standing, tableOf, isOf, isAmong, isNamed}
 use Rattle.table.specs.declared.Active.the-variants.{UserOf, ElevationIn}
 use Rattle.table.specs.declared.Among.the-variants.{All, Of}
 use Rattle.table.specs.declared.Process.{Process}
@@ -24,6 +24,7 @@ use Rattle.claims.specs.Module.{isHandle, closedSession, phaseOf, isClosed, isC
 use Rattle.claims.specs.Claim.{phaseNumber, entered, elevatedNumber, isSpent, turnNumber, userNumber, claimNumber, admitted, claimant}
 use Rattle.claims.specs.declared.Claim.{Claim}
 use Rattle.claims.specs.declared.Claim.the-variants.{Elevated, ByUser}
+use Rattle.claims.specs.declared.Grants.{Grants}
 use Rattle.claims.specs.declared.Phase.{Phase}
 use Rattle.claims.specs.declared.Phase.the-variants.{Chosen}
 use Rattle.claims.specs.declared.SessionState.{SessionState}
@@ -32,7 +33,7 @@ use Rattle.claims.specs.declared.UserClaim.{UserClaim}
 use Rattle.claims.proofs.Laws.{unless-false, clear-first, clear-rest, clear-when, clear-unless, by-when, by-unless, by-then}
 use Rattle.calls.specs.declared.Answer.the-variants.{Done, RefusedClaim}
 use Rattle.calls.specs.declared.Outcome.{Outcome}
-use Rattle.calls.specs.Calls.{Call, Open, Close, Select, Start, Continue, Elevate, Drop, End, Record, List′, Kill, SetWord, killOthers, isVersion, hasNamed, reach, number, counted, effect, protection, aheadNumber, protectedNumber, passes, charged, left, answerNumber, refusal, outcome}
+use Rattle.calls.specs.Calls.{Call, Open, Close, Select, Start, Continue, Elevate, Drop, End, Record, ListProcesses, Kill, SetWord, killOthers, isVersion, hasNamed, reach, number, counted, effect, protection, aheadNumber, protectedNumber, passes, charged, left, answerNumber, refusal, outcome, fresh}
 use Rattle.calls.specs.Run.{step}
 use Rattle.calls.proofs.Cut.{left-passed, left-stopped}
 use Rattle.calls.proofs.Laws.{outcome-done, outcome-refused, answer-number}
@@ -84,7 +85,7 @@ number-small st (Elevate s c name verdict) = search smalls depth 12
 number-small st (Drop s) = search smalls
 number-small st (End s u keep) = search smalls
 number-small st (Record s claim class) = search smalls
-number-small st (List′ s claim wanted room) = search smalls depth 12
+number-small st (ListProcesses s claim wanted room) = search smalls depth 12
 number-small st (Kill s claim name) = search smalls
 number-small st (SetWord s claim c word) = search smalls depth 12
 
@@ -216,7 +217,7 @@ VerdictNeeds st (Elevate s c name verdict) = ElevationNeeds st s c verdict
 VerdictNeeds st (Drop s) = Unit {0}
 VerdictNeeds st (End s u keep) = Needs st s (ByUser u)
 VerdictNeeds st (Record s claim class) = Needs st s claim
-VerdictNeeds st (List′ s claim wanted room) = Needs st s claim
+VerdictNeeds st (ListProcesses s claim wanted room) = Needs st s claim
 VerdictNeeds st (Kill s claim name) = Needs st s claim
 VerdictNeeds st (SetWord s claim c word) = Needs st s claim
 
@@ -258,6 +259,23 @@ module _ (st : State) where
   verdict-needs (Drop s) e = tt
   verdict-needs (End s u keep) e = needs s (ByUser u) (clear-first _ _ e)
   verdict-needs (Record s claim class) e = needs s claim (clear-first _ _ (clear-rest _ _ e))
-  verdict-needs (List′ s claim wanted room) e = needs s claim (clear-first _ _ (clear-rest _ _ e))
+  verdict-needs (ListProcesses s claim wanted room) e = needs s claim (clear-first _ _ (clear-rest _ _ e))
   verdict-needs (Kill s claim name) e = needs s claim (clear-first _ _ e)
   verdict-needs (SetWord s claim c word) e = needs s claim (clear-first _ _ (clear-rest _ _ e))
+
+-- ---- a fresh module "has all sessions closed and no process"
+closed-at : (n : ℕ) → isClosed (getD (replicate 4 closedSession) n closedSession .phase) ≡ true
+unfolding isClosed
+closed-at zero = refl
+closed-at (suc zero) = refl
+closed-at (suc (suc zero)) = refl
+closed-at (suc (suc (suc zero))) = refl
+closed-at (suc (suc (suc (suc n)))) = refl
+
+pub fresh-closed : (pairs : List Grants) (s : Session) → isClosed (phaseOf (fresh pairs) s) ≡ true
+unfolding fresh phaseOf
+fresh-closed pairs s = closed-at (s .0)
+
+pub fresh-empty : (pairs : List Grants) → standing (fresh pairs .table) ≡ []
+unfolding fresh tableOf standing
+fresh-empty pairs = refl

@@ -22,7 +22,7 @@ use Rattle.claims.proofs.Laws.{admission-number, admission-credential, admissio
 use Rattle.calls.specs.declared.Answer.the-variants.{Done}
 use Rattle.calls.specs.declared.Outcome.{Outcome}
 use Rattle.calls.specs.declared.Wanted.{Wanted}
-use Rattle.calls.specs.Calls.{Call, End, Record, List′, Kill, SetWord, saveOwn, listOthers, killOthers, setWords, isDevice, isWanted, hasNamed, lacksSavingBy, lacksSaving, isOwn, mayListBy, mayList, isShort, reachBy, reach, number, effect, Protection, Free, Under, protection, left, refusal, answerNumber, outcome}
+use Rattle.calls.specs.Calls.{Call, End, Record, ListProcesses, Kill, SetWord, saveOwn, listOthers, killOthers, setWords, isDevice, isWanted, hasNamed, lacksSavingBy, lacksSaving, isOwn, mayListBy, mayList, isShort, reachBy, reach, number, effect, Protection, Free, Under, protection, left, refusal, answerNumber, outcome}
 
 -- an accepted call does what it does; a refused one leaves what a refusal leaves
 pub outcome-done : (st : State) (call : Call) → number st call ≡ 0 → outcome st call ≡ record { state = effect st call; answer = Done }
@@ -70,7 +70,7 @@ module _ (st : State) (s : Session) (claim : Claim) {by : Admission} (e : by ≡
 
   pub list-number : {n : ℕ} (wanted : Wanted) (room : ℕ)
       → n ≡ 1 unless isWanted wanted ▸ by .number ▸ 10 unless mayListBy (by .word) (by .credential) wanted ▸ 15 when isShort st wanted room
-      → n ≡ number st (List′ s claim wanted room)
+      → n ≡ number st (ListProcesses s claim wanted room)
   unfolding number mayList granted
   list-number wanted room q = q ∙ rw (checked-number, checked-grant listOthers, checked-credential)
 

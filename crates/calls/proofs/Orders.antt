@@ -9,7 +9,7 @@ use mathlib.Core.List.{List, [], _∷_}
 use Rattle.claims.specs.declared.Claim.the-variants.{Elevated}
 use Rattle.claims.specs.declared.State.{State}
 use Rattle.calls.specs.declared.Wanted.the-variants.{Every, Only}
-use Rattle.calls.specs.Calls.{Open, Close, Select, Start, Continue, Elevate, Drop, End, Record, List′, Kill, SetWord, fresh}
+use Rattle.calls.specs.Calls.{Open, Close, Select, Start, Continue, Elevate, Drop, End, Record, ListProcesses, Kill, SetWord, fresh}
 use Rattle.calls.proofs.Sequences.{P, Q, R, pairs, name, session, credential, class, userYes, userNo, yes′, no′, Step, _⇒_, Answered, after, computed}
 
 -- ---- the state that each table begins with: sessions 0 and 1 have version 1.0, session 2 is open without one, session 3 is closed. In session 0 stand
@@ -156,17 +156,17 @@ ends =
 -- has 4 bytes, one of twelve rows 616
 abbrev lists : List Step
 lists =
-    (List′ (session 0) (no′ 1 1) (Only (credential 8)) 0 ⇒ 1)
-    ∷ (List′ (session 0) (no′ 1 1) (Only (credential 0)) 0 ⇒ 9)
-    ∷ (List′ (session 0) (no′ 1 0) (Only (credential 0)) 0 ⇒ 8)
-    ∷ (List′ (session 0) (yes′ 1 0) (Only (credential 0)) 0 ⇒ 10)
-    ∷ (List′ (session 0) (yes′ 1 1) Every 0 ⇒ 10)
-    ∷ (List′ (session 0) (yes′ 1 2) (Only (credential 1)) 54 ⇒ 15)
-    ∷ (List′ (session 0) (yes′ 1 3) (Only (credential 1)) 55 ⇒ 0)
-    ∷ (List′ (session 0) (yes′ 0 0) (Only (credential 2)) 3 ⇒ 15)
-    ∷ (List′ (session 0) (yes′ 0 1) (Only (credential 2)) 4 ⇒ 0)
-    ∷ (List′ (session 0) (yes′ 0 2) Every 615 ⇒ 15)
-    ∷ (List′ (session 0) (yes′ 0 3) Every 616 ⇒ 0)
+    (ListProcesses (session 0) (no′ 1 1) (Only (credential 8)) 0 ⇒ 1)
+    ∷ (ListProcesses (session 0) (no′ 1 1) (Only (credential 0)) 0 ⇒ 9)
+    ∷ (ListProcesses (session 0) (no′ 1 0) (Only (credential 0)) 0 ⇒ 8)
+    ∷ (ListProcesses (session 0) (yes′ 1 0) (Only (credential 0)) 0 ⇒ 10)
+    ∷ (ListProcesses (session 0) (yes′ 1 1) Every 0 ⇒ 10)
+    ∷ (ListProcesses (session 0) (yes′ 1 2) (Only (credential 1)) 54 ⇒ 15)
+    ∷ (ListProcesses (session 0) (yes′ 1 3) (Only (credential 1)) 55 ⇒ 0)
+    ∷ (ListProcesses (session 0) (yes′ 0 0) (Only (credential 2)) 3 ⇒ 15)
+    ∷ (ListProcesses (session 0) (yes′ 0 1) (Only (credential 2)) 4 ⇒ 0)
+    ∷ (ListProcesses (session 0) (yes′ 0 2) Every 615 ⇒ 15)
+    ∷ (ListProcesses (session 0) (yes′ 0 3) Every 616 ⇒ 0)
     ∷ []
 
 -- "claim; 6 if no process that this claim may kill has the name": credential 1 lacks class 1, and P is a stranger's; credential 0 has it

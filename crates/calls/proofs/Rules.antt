@@ -47,7 +47,7 @@ use Rattle.calls.specs.declared.Outcome.{Outcome}
 use Rattle.calls.specs.declared.Wanted.{Wanted}
 use Rattle.calls.specs.declared.Wanted.the-variants.{Every, Only}
 use Rattle.calls.specs.Listing.{amongOf, rowsOf, messageLength}
-use Rattle.calls.specs.Calls.{Call, Open, Close, Select, Start, Continue, Elevate, Drop, End, Record, List′, Kill, SetWord, saveOwn, listOthers, killOthers, isDevice, isVersion, isWanted, isFull, hasNamed, namedPlace, lacksSaving, isOwn, mayList, isShort, reachBy, reach, number, withTable, withPhase, withWord, userProcess, elevation, activated, saved, oneMore, counted, ended, effect, Protection, Free, protection, left, refusal, outcome, listed, taken, fresh}
+use Rattle.calls.specs.Calls.{Call, Open, Close, Select, Start, Continue, Elevate, Drop, End, Record, ListProcesses, Kill, SetWord, saveOwn, listOthers, killOthers, isDevice, isVersion, isWanted, isFull, hasNamed, namedPlace, lacksSaving, isOwn, mayList, isShort, reachBy, reach, number, withTable, withPhase, withWord, userProcess, elevation, activated, saved, oneMore, counted, ended, effect, Protection, Free, protection, left, refusal, outcome, listed, taken, fresh}
 use Rattle.calls.proofs.Cut.{left-free}
 use Rattle.calls.proofs.Laws.{outcome-done, outcome-refused, checked-number, checked-reach, record-number, list-number, kill-number, set-word-number, end-number}
 
@@ -321,11 +321,11 @@ module _ (st : State) {x : State} where
   unfolding effect
   effect-record s claim class e = e
 
-module _ (st : State) (s : Session) (claim : Claim) (wanted : Wanted) (room : ℕ) {n : ℕ} {o : Outcome} (e : n ≡ number st (List′ s claim wanted room)) where
+module _ (st : State) (s : Session) (claim : Claim) (wanted : Wanted) (room : ℕ) {n : ℕ} {o : Outcome} (e : n ≡ number st (ListProcesses s claim wanted room)) where
   pub list-done : {x : State} {m : ℕ} → n ≡ 0 → x ≡ counted st s claim → o ≡ record { state = x; answer = Done } → m ≡ messageLength (length (rowsOf st wanted)) → _≡_ {A = Listed} (record { outcome = o; length = m }) (listed st s claim wanted room)
   unfolding listed effect
   list-done h a q m =
-      let z : number st (List′ s claim wanted room) ≡ 0 = sym e ∙ h in
-      rw (q, a, m, outcome-done st (List′ s claim wanted room) z, eq-eqb (number st (List′ s claim wanted room)) 0 z)
+      let z : number st (ListProcesses s claim wanted room) ≡ 0 = sym e ∙ h in
+      rw (q, a, m, outcome-done st (ListProcesses s claim wanted room) z, eq-eqb (number st (ListProcesses s claim wanted room)) 0 z)
 
 pub ruleset rules = (claim-rules, by-refusal, by-effect, clear-begin, clear-second, known-stop, known-pass, phase-outside, word-outside, active-none, active-some, active-placed, named-none, named-some, named-placed, full-is, version-is, device-high, device-low, saving-kept, saving-not, wanted-every, wanted-only, among-every, among-only, own-every, own-only, list-own, list-others, length-fits, length-whole, length-is, short-is, reach-all, reach-own, named-among, next-fits, counted-is, counted-elevated, counted-user, admission-user, ended-kept, ended-removed, taken-whole, taken-zero, mapped-none, take-on, fresh-is, effect-open, effect-select, effect-close, effect-start, effect-elevate, effect-continue, effect-drop, effect-end, effect-kill, effect-set-word, effect-record, list-done, record-number, list-number, kill-number, set-word-number, end-number)

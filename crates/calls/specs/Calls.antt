@@ -44,7 +44,7 @@ pub data Call : Type 0 where
   Elevate : Session → Credential → Name → Bool → Call
   End : Session → UserClaim → Bool → Call
   Record : Session → Claim → Class → Call
-  List′ : Session → Claim → Wanted → ℕ → Call
+  ListProcesses : Session → Claim → Wanted → ℕ → Call
   Kill : Session → Claim → Name → Call
   SetWord : Session → Claim → Credential → ℕ → Call
 
@@ -160,7 +160,7 @@ number st (Record s claim class) =
     No.argument unless isDevice class
     ▸ admitted st s claim
     ▸ No.notGranted unless granted st (claimant st s claim) class
-number st (List′ s claim wanted room) =
+number st (ListProcesses s claim wanted room) =
     No.argument unless isWanted wanted
     ▸ admitted st s claim
     ▸ No.notGranted unless mayList st (claimant st s claim) wanted
@@ -224,7 +224,7 @@ effect st (Elevate s c name verdict) = withTable st (appended (st .table) (eleva
 effect st (Drop s) = withTable st (removed (st .table) (activePlace st (ElevationIn s)))
 effect st (End s u keep) = ended (counted st s (ByUser u)) (activePlace st (UserOf s (u .credential))) keep
 effect st (Record s claim class) = counted st s claim
-effect st (List′ s claim wanted room) = counted st s claim
+effect st (ListProcesses s claim wanted room) = counted st s claim
 effect st (Kill s claim name) =
     withTable (counted st s claim) (removed (counted st s claim .table) (namedPlace st name (reach st (claimant st s claim))))
 effect st (SetWord s claim c word) = withWord (counted st s claim) c word
@@ -246,7 +246,7 @@ protection (Continue s c name) = Free
 protection (Elevate s c name verdict) = Free
 protection (End s u keep) = Under s (ByUser u)
 protection (Record s claim class) = Under s claim
-protection (List′ s claim wanted room) = Under s claim
+protection (ListProcesses s claim wanted room) = Under s claim
 protection (Kill s claim name) = Under s claim
 protection (SetWord s claim c word) = Under s claim
 
@@ -261,7 +261,7 @@ aheadNumber st (Continue s c name) = number st (Continue s c name)
 aheadNumber st (Elevate s c name verdict) = number st (Elevate s c name verdict)
 aheadNumber st (End s u keep) = No.done
 aheadNumber st (Record s claim class) = No.argument unless isDevice class
-aheadNumber st (List′ s claim wanted room) = No.argument unless isWanted wanted
+aheadNumber st (ListProcesses s claim wanted room) = No.argument unless isWanted wanted
 aheadNumber st (Kill s claim name) = No.done
 aheadNumber st (SetWord s claim c word) = No.argument unless isCredential c
 
@@ -312,8 +312,8 @@ outcome st call =
 unfoldable pub listed : State → Session → Claim → Wanted → ℕ → Listed
 listed st s claim wanted room =
     record {
-      outcome = outcome st (List′ s claim wanted room);
-      length = cond (eqb (number st (List′ s claim wanted room)) No.done) (messageLength (length (rowsOf st wanted))) 0;
+      outcome = outcome st (ListProcesses s claim wanted room);
+      length = cond (eqb (number st (ListProcesses s claim wanted room)) No.done) (messageLength (length (rowsOf st wanted))) 0;
     }
 
 -- ---- "A fresh module is made from eight such pairs; an unprovisioned credential's word is taken as zero. It has all sessions closed and no

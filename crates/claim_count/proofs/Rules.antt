@@ -19,7 +19,7 @@ use Rattle.claims.specs.declared.Claim.the-variants.{Elevated, ByUser}
 use Rattle.claims.specs.declared.State.{State}
 use Rattle.claims.specs.declared.UserClaim.{UserClaim}
 use Rattle.claims.proofs.Laws.{passed-admitted}
-use Rattle.calls.specs.Calls.{Call, List′, number, withTable, oneMore, counted, Under, protection, passes, charged, left, refusal, outcome, listed}
+use Rattle.calls.specs.Calls.{Call, ListProcesses, number, withTable, oneMore, counted, Under, protection, passes, charged, left, refusal, outcome, listed}
 use Rattle.calls.specs.declared.Answer.the-variants.{RefusedClaim}
 use Rattle.calls.specs.declared.Listed.{Listed}
 use Rattle.calls.specs.declared.Outcome.{Outcome}
@@ -102,10 +102,10 @@ module _ (st : State) {claim : Claim} {n : ℕ} {x : State} {o : Outcome} (w : o
   unfolding refusal
   by-refused-claim call e m h p = refused-as st call m h p (charged-left st call p e m h q) w
 
-  pub list-refused : (s : Session) (wanted : Wanted) (room : ℕ) → by ≡ admission st s claim → n ≡ number st (List′ s claim wanted room) → (n ≡ 0 → ⊥)
+  pub list-refused : (s : Session) (wanted : Wanted) (room : ℕ) → by ≡ admission st s claim → n ≡ number st (ListProcesses s claim wanted room) → (n ≡ 0 → ⊥)
       → _≡_ {A = Listed} (record { outcome = o; length = 0 }) (listed st s claim wanted room)
   unfolding listed protection
   list-refused s wanted room e m h =
-      rw (by-refused-claim (List′ s claim wanted room) e m h refl, ne-eqb (number st (List′ s claim wanted room)) 0 (λ y. h (m ∙ y)))
+      rw (by-refused-claim (ListProcesses s claim wanted room) e m h refl, ne-eqb (number st (ListProcesses s claim wanted room)) 0 (λ y. h (m ∙ y)))
 
 pub ruleset rules = (call-rules, count-spent, count-fits, count-more, count-elevated, count-user, charged-done, charge-stopped, charge-passed, by-refused-claim, list-refused)

@@ -18,7 +18,7 @@ use Rattle.table.specs.declared.Process.{Process}
 use Rattle.claims.specs.Numbers as No
 use Rattle.claims.specs.declared.Claim.{Claim}
 use Rattle.claims.proofs.Laws.{clear-first, clear-rest, clear-unless}
-use Rattle.calls.specs.Calls.{List′, number}
+use Rattle.calls.specs.Calls.{ListProcesses, number}
 use Rattle.calls.specs.Listing.{amongOf, rowOf, rowsOf}
 use Rattle.calls.specs.declared.Wanted.{Wanted}
 use Rattle.facts.specs.Facts.{FormedProcess, IsState}
@@ -34,7 +34,7 @@ module _ {fine : Bool} {before old after new : List ℕ} {s : Session} {claim : 
   unfolding entryNumber
   was-made = clear-unless No.argument tt _ (clear-first _ _ (sym (e .entry .number-is)))
 
-  was-accepted : number (stateOf before) (List′ s claim wanted (length old)) ≡ 0
+  was-accepted : number (stateOf before) (ListProcesses s claim wanted (length old)) ≡ 0
   unfolding entryNumber
   was-accepted = clear-rest _ _ (sym (e .entry .number-is))
 

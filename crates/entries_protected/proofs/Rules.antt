@@ -14,7 +14,7 @@ use Rattle.claims.specs.declared.Claim.{Claim}
 use Rattle.claims.specs.declared.Class.{Class}
 use Rattle.claims.specs.declared.State.{State}
 use Rattle.claims.specs.declared.UserClaim.{UserClaim}
-use Rattle.calls.specs.Calls.{Call, End, Record, Kill, SetWord, List′, listed}
+use Rattle.calls.specs.Calls.{Call, End, Record, Kill, SetWord, ListProcesses, listed}
 use Rattle.calls.specs.declared.Listed.{Listed}
 use Rattle.calls.specs.declared.Wanted.{Wanted}
 use Rattle.layout.specs.Layout.{stateOf}
@@ -43,7 +43,7 @@ module _ {tested : Bool} (fine : Bool) (f : tested ≡ fine) (before : List ℕ)
   unfolding entryResponse entryLength
   list-none n =
       let z : isMade fine before ≡ false = rw (← f) (sym (e .is) ∙ not-true h n) in
-      record { entry = call-none fine f before (List′ s claim wanted (length old)) e n; response-is = rw z; length-is = rw z }
+      record { entry = call-none fine f before (ListProcesses s claim wanted (length old)) e n; response-is = rw z; length-is = rw z }
 
   pub list-called : {st : State} {s₁ : Session} {claim₁ : Claim} {wanted₁ : Wanted} {l : Listed} {r : ℕ} {after new : List ℕ}
       → not h ≡ false → st ≡ stateOf before → s₁ ≡ s → claim₁ ≡ claim → wanted₁ ≡ wanted
@@ -54,7 +54,7 @@ module _ {tested : Bool} (fine : Bool) (f : tested ≡ fine) (before : List ℕ)
       let z : isMade fine before ≡ true = rw (← f) (sym (e .is) ∙ not-false h n) in
       let g : l ≡ listed (stateOf before) s claim wanted (length old) = rw (← a, ← b, ← c, ← d) p in
       record {
-        entry = call-made fine f before (List′ s claim wanted (length old)) e n refl (ap (λ (x : Listed). x .outcome) g) refl v;
+        entry = call-made fine f before (ListProcesses s claim wanted (length old)) e n refl (ap (λ (x : Listed). x .outcome) g) refl v;
         response-is = q ∙ rw (z, a, b, c, d);
         length-is = ap (λ (x : Listed). x .length) g ∙ rw z;
       }

@@ -6,7 +6,7 @@ use mathlib.Core.List.{List}
 use lib.ListN.{length}
 use Rattle.names.specs.declared.Session.{Session}
 use Rattle.claims.specs.declared.Claim.{Claim}
-use Rattle.calls.specs.Calls.{List′, listed}
+use Rattle.calls.specs.Calls.{ListProcesses, listed}
 use Rattle.calls.specs.declared.Wanted.{Wanted}
 use Rattle.layout.specs.Layout.{stateOf}
 use Rattle.wire.specs.Wire.{listedBytes}
@@ -20,6 +20,6 @@ unfoldable pub entryLength : Bool → List ℕ → Session → Claim → Wanted 
 entryLength fine before s claim wanted room = cond (isMade fine before) (listed (stateOf before) s claim wanted room .length) 0
 
 pub record ListEntry (fine : Bool) (before : List ℕ) (s : Session) (claim : Claim) (wanted : Wanted) (old : List ℕ) (answer : ℕ) (after new : List ℕ) (long : ℕ) : Type 0 where
-  pub entry : Entry fine before (List′ s claim wanted (length old)) answer after
+  pub entry : Entry fine before (ListProcesses s claim wanted (length old)) answer after
   pub response-is : new ≡ entryResponse fine before s claim wanted old
   pub length-is : long ≡ entryLength fine before s claim wanted (length old)

@@ -1,9 +1,32 @@
--- "Numbers a call can answer": making a fresh module answers no number over 15.
+-- Making a fresh module: "Numbers a call can answer", it answers no number over 15; and it "tests only the length".
 -- Assumes nothing.
 use Prim.Native.Nat.{ℕ, _≤_}
+use mathlib.Core.Path.{_≡_, refl, sym, ap, _∙_}
+use mathlib.Core.Bool.{true, _&&_}
 use mathlib.Core.List.{List}
+use lib.Dec.{eqb}
+use lib.ListN.{length}
+use Rattle.claims.specs.Numbers as No
+use Rattle.claims.specs.Numbers.{_unless_}
+use Rattle.claims.proofs.Laws.{clear-unless}
+use Rattle.layout.specs.Layout.{stateLength}
+use Rattle.arguments.specs.Arguments.{arePairs}
 use Rattle.calls.proofs.Facts.{small-unless}
-use Rattle.entries_unprotected.specs.Fresh.{FreshEntry}
+use Rattle.entries_unprotected.specs.Fresh.{canFresh, FreshEntry}
 
 pub fresh-small : {before flags words after : List ℕ} {answer : ℕ} → FreshEntry before flags words answer after → answer ≤ 15
 fresh-small e = rw (e .number-is) (small-unless 1 _ tt)
+
+-- of two slices as long as each other, whatever they hold, the same is answered, and where that is 0 the same is made
+module _ {before other flags words after made : List ℕ} {answer number : ℕ} (long : length before ≡ length other) (e : FreshEntry before flags words answer after) (f : FreshEntry other flags words number made) where
+  can-as-well : canFresh before flags words ≡ canFresh other flags words
+  unfolding canFresh
+  can-as-well = ap (λ n. eqb n stateLength && arePairs flags words) long
+
+  pub fresh-number : answer ≡ number
+  fresh-number = e .number-is ∙ ap (λ b. No.argument unless b) can-as-well ∙ sym (f .number-is)
+
+  pub fresh-bytes : number ≡ 0 → after ≡ made
+  fresh-bytes done =
+      let can : canFresh other flags words ≡ true = clear-unless 1 tt _ (sym (f .number-is) ∙ done) in
+      rw (e .bytes-are, f .bytes-are, can-as-well, can) refl

@@ -60,8 +60,8 @@ fn capability(at: usize) -> Field
         1 => Field::AuthProcessCaps,
         2 => Field::DeviceProvisioningState,
         3 => Field::AuthRecordProcessTime,
-        4 => Field::BaseAsymAlgo,
-        5 => Field::BaseHashAlgo,
+        4 => Field::BaseAsymAlgoSupported,
+        5 => Field::BaseHashAlgoSupported,
         6 => Field::SupportedPolicyOwnerIDCount,
         _ => Field::Unused,
     }

@@ -9,7 +9,8 @@ use native.Mathlib.Numerals.{add-one}
 use native.Mathlib.Omega.{arith}
 use borrow.Author.Needs.{needs}
 use borrow.Author.Tests.{eq-eqb, ne-eqb, le-leb, lt-leb, not-true, not-false}
-use lib.Dec.{leb}
+use lib.Count.{ones}
+use lib.Dec.{eqb, leb}
 use lib.Arith.{digits-lt}
 use lib.ListN.{length, getD, take, drop, set, length-set, drop-of-length-le}
 use lib.Seq.{drop-drop, getD-drop, take-all, take-suc-set, append-snoc}
@@ -21,9 +22,9 @@ use Rattle.formats.specs.declared.Field.{Field}
 use Rattle.formats.specs.declared.Field.the-variants.{Unused}
 use Rattle.formats.specs.declared.Form.{Form}
 use Rattle.formats.specs.declared.Layout.{Layout}
-use Rattle.formats.specs.Formats.{formOf, fieldsOf}
+use Rattle.formats.specs.Formats.{formOf, meant, isWithin, isSingle, isAllowed, fieldsOf}
 use Rattle.formats.proofs.Laws.{width-most}
-use Rattle.fields.specs.Fields.{meant, isAllowed, fields, longOf, valuesIn, areAllowed}
+use Rattle.fields.specs.Fields.{fields, longOf, valuesIn, areAllowed}
 use Rattle.fields.proofs.Laws.{length-fields, fields-from}
 
 -- ---- a number, read from its highest byte down: what the last `done` of its bytes say. Of the width, `size` bytes are there
@@ -118,13 +119,30 @@ pub width-few : (f : Field) {form : Form} → form ≡ formOf f → form .width 
 width-few f e = rw e (width-most f)
 
 module _ (form : Form) (value : ℕ) where
-  pub allowed-below : form .least ≤ value → leb value (form .most) ≡ isAllowed form value
-  unfolding isAllowed
-  allowed-below h = rw (le-leb (form .least) value h)
+  pub within-below : form .least ≤ value → leb value (form .most) ≡ isWithin form value
+  unfolding isWithin
+  within-below h = rw (le-leb (form .least) value h)
 
-  pub allowed-not : value < form .least → leb (form .least) value ≡ isAllowed form value
-  unfolding isAllowed
-  allowed-not h = rw (lt-leb (form .least) value h)
+  pub within-not : value < form .least → leb (form .least) value ≡ isWithin form value
+  unfolding isWithin
+  within-not h = rw (lt-leb (form .least) value h)
+
+  pub single-asked : form .single ≡ true → eqb (ones value) 1 ≡ isSingle form value
+  unfolding isSingle
+  single-asked h = rw h
+
+  pub single-not : form .single ≡ false → true ≡ isSingle form value
+  unfolding isSingle
+  single-not h = rw h
+
+  module _ {within : Bool} (e : within ≡ isWithin form value) where
+    pub allowed-within : within ≡ true → {r : Bool} → r ≡ isSingle form value → r ≡ isAllowed form value
+    unfolding isAllowed
+    allowed-within h p = p ∙ rw (← e, h)
+
+    pub allowed-not : within ≡ false → within ≡ isAllowed form value
+    unfolding isAllowed
+    allowed-not h = rw (← e, h)
 
 -- ---- the fields of a layout, one after the other: what is done of the first `at`
 pub record Measured (l : Layout) (long at : ℕ) : Type 0 where
@@ -211,4 +229,4 @@ module _ (l : Layout) {at : ℕ} (h : 7 ≤ at) where
   unfolding areAllowed
   allowed-end v = sym (v .is ∙ rw past)
 
-pub ruleset rules = (needs, number-none, said-all, said-there, said-end, said-times, said-sum, said-on, meant-all, meant-bits, value-is, width-few, allowed-below, allowed-not, long-begin, long-fits, long-on, long-end, read-begin, place-fits, read-on, read-end, allowed-begin, allowed-on, allowed-fail, allowed-end)
+pub ruleset rules = (needs, number-none, said-all, said-there, said-end, said-times, said-sum, said-on, meant-all, meant-bits, value-is, width-few, within-below, within-not, single-asked, single-not, allowed-within, allowed-not, long-begin, long-fits, long-on, long-end, read-begin, place-fits, read-on, read-end, allowed-begin, allowed-on, allowed-fail, allowed-end)

@@ -1,24 +1,14 @@
 -- The fields of a message of 004 clause 9.2 and of a piece of its lists: which values bytes say, which values may stand there, and the bytes that say them.
-use Prim.Native.Nat.{ℕ, _+_, _%_}
-use mathlib.Core.Bool.{Bool, true, cond, _&&_}
+use Prim.Native.Nat.{ℕ, _+_}
+use mathlib.Core.Bool.{Bool, true, _&&_}
 use mathlib.Core.List.{List, [], _∷_, _++_}
-use lib.Dec.{eqb, leb}
 use lib.ListN.{getD, take, drop}
 use Rattle.lists.specs.Lists.{padded}
 use Rattle.rows.specs.Bytes.{bytesOf, numberOf}
 use Rattle.formats.specs.declared.Field.{Field}
 use Rattle.formats.specs.declared.Field.the-variants.{Unused}
-use Rattle.formats.specs.declared.Form.{Form}
 use Rattle.formats.specs.declared.Layout.{Layout}
-use Rattle.formats.specs.Formats.{formOf, fieldsOf}
-
--- ---- one field. "Reserved bytes and bits are written zero and ignored on reading": what a number of its bytes means
-unfoldable pub meant : Form → ℕ → ℕ
-meant form n = cond (eqb (form .values) 0) n (n % form .values)
-
--- a value that 004 has for the field. It has no reserved bit set, since the most that a form allows is below its count of values
-unfoldable pub isAllowed : Form → ℕ → Bool
-isAllowed form value = leb (form .least) value && leb value (form .most)
+use Rattle.formats.specs.Formats.{formOf, meant, isAllowed, fieldsOf}
 
 -- ---- the fields of a layout. Seven values stand for every layout, of which the unused ones are 0
 abbrev pub valueCount : ℕ

@@ -2,8 +2,8 @@
 ghost use mathlib.Core.Path.{_≡_};
 ghost use Prim.Native.Nat.{_≤_};
 ghost use Rattle.rows.specs.Bytes.{numberAt};
-ghost use Rattle.formats.specs.Formats.{formOf};
-ghost use Rattle.fields.specs.Fields.{meant, isAllowed, fields, longOf, valuesIn, areAllowed};
+ghost use Rattle.formats.specs.Formats.{formOf, meant, isWithin, isSingle, isAllowed};
+ghost use Rattle.fields.specs.Fields.{fields, longOf, valuesIn, areAllowed};
 use formats::Field;
 use formats::Form;
 use formats::Layout;
@@ -49,10 +49,26 @@ fn value_in(bytes: &[u8], at: usize, field: Field) -> u64
     meaning(form, number_at(bytes, at, form.width))
 }
 
+fn is_within(form: Form, value: u64) -> bool
+    ensures { λ r. ⌜ r ≡ isWithin form value ⌝ }
+{
+    form.least <= value && value <= form.most
+}
+
+fn is_single(form: Form, value: u64) -> bool
+    ensures { λ r. ⌜ r ≡ isSingle form value ⌝ }
+{
+    if form.single {
+        u64::count_ones(value) == 1
+    } else {
+        true
+    }
+}
+
 fn is_allowed(form: Form, value: u64) -> bool
     ensures { λ r. ⌜ r ≡ isAllowed form value ⌝ }
 {
-    form.least <= value && value <= form.most
+    is_within(form, value) && is_single(form, value)
 }
 
 // ---- the fields of a layout

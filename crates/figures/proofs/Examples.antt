@@ -2,7 +2,7 @@
 -- Assumes nothing.
 use Prim.Native.Nat.{ℕ}
 use mathlib.Core.Path.{_≡_, refl}
-use mathlib.Core.List.{List, [], _∷_, _++_}
+use mathlib.Core.List.{List, [], _∷_, _++_, map}
 use lib.ListN.{replicate, take}
 use Rattle.lists.specs.Lists.{select, padded}
 use Rattle.rows.specs.Bytes.{numberOf, numberAt}
@@ -14,6 +14,7 @@ use Rattle.image.specs.Image.{imageLong, numbersIn, maskIn, rowCountIn, grantsS
 use Rattle.image_figures.specs.Figures.{sum, largest, classesBelow, classesHeld, classesGranted, largestNext, figuresIn, isSaid, sizeSaid, isGood, lineOf}
 use Rattle.image_figures.specs.declared.Line.the-variants.{Bad, Good}
 use Rattle.figures.specs.Drawer.{firstPiece, afterPiece, firstPieces, linesOf, goodOnes, totalsOf, isPast, printedOf}
+use Rattle.figures.specs.Text.{digitsUpTo, numberText, numberThen, threeText, lineText, textOf}
 use Rattle.figures.specs.declared.Output.{Output}
 use Rattle.figures.specs.declared.Output.the-variants.{Image, Total}
 
@@ -41,6 +42,7 @@ two = image 3 0 2 ((1 ∷ 0 ∷ 0x2c ∷ 0x01 ∷ replicate 48 0x22) ++ (0 ∷ 0
 pub record Drawers : Type 0 where
   -- "One good image with no rows and words 15 and 16 prints `0 5 0`, then `total 1 0 5`."
   pub one-image : printedOf (42 ∷ 0 ∷ plain) ≡ good 0 5 0 ∷ total 1 1 0 5 ∷ []
+  pub in-bytes : map textOf (good 0 5 0 ∷ total 1 1 0 5 ∷ []) ≡ (48 ∷ 32 ∷ 53 ∷ 32 ∷ 48 ∷ 10 ∷ []) ∷ (116 ∷ 111 ∷ 116 ∷ 97 ∷ 108 ∷ 32 ∷ 49 ∷ 32 ∷ 48 ∷ 32 ∷ 53 ∷ 10 ∷ []) ∷ []
   pub nothing : printedOf [] ≡ total 0 0 0 0 ∷ []
   -- "largest next number"; class 31
   pub rows-of-two : printedOf (146 ∷ 0 ∷ two) ≡ good 2 5 300 ∷ total 1 1 2 5 ∷ []
@@ -58,10 +60,11 @@ pub record Drawers : Type 0 where
   pub cut-reaches : printedOf (0 ∷ 1 ∷ (take 41 plain ++ (42 ∷ 0 ∷ plain))) ≡ bad ∷ total 1 0 0 0 ∷ []
 
 pub drawers : Drawers
-unfolding printedOf firstPieces firstPiece afterPiece linesOf goodOnes totalsOf isPast sum largest classesBelow classesHeld classesGranted largestNext figuresIn isSaid sizeSaid isGood lineOf isImage imageLong numbersIn maskIn rowCountIn grantsSaid grantsIn savedFrom keptIn restored headFits wordFits isKeepable differ provisioned wordGrants tableOf padded select every pairwise rows numberOf numberAt sameBytes sameName
+unfolding textOf lineText threeText numberThen numberText digitsUpTo printedOf firstPieces firstPiece afterPiece linesOf goodOnes totalsOf isPast sum largest classesBelow classesHeld classesGranted largestNext figuresIn isSaid sizeSaid isGood lineOf isImage imageLong numbersIn maskIn rowCountIn grantsSaid grantsIn savedFrom keptIn restored headFits wordFits isKeepable differ provisioned wordGrants tableOf padded select every pairwise rows numberOf numberAt sameBytes sameName
 drawers =
     record {
       one-image = refl;
+      in-bytes = refl;
       nothing = refl;
       rows-of-two = refl;
       class-31 = refl;

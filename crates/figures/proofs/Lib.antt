@@ -1,3 +1,4 @@
+pub mod Texts
 pub mod Rules
 pub mod Printed
 pub mod Examples

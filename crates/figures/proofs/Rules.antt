@@ -2,31 +2,42 @@
 -- Assumes nothing.
 use Prim.Native.Nat.{ℕ, suc, _+_, _-_, _*_, _<_, _≤_}
 use mathlib.Core.Path.{_≡_, refl, sym, ap, _∙_}
-use mathlib.Core.Bool.{Bool, true, false, cond, true≢false}
+use mathlib.Core.Bool.{Bool, true, false, cond, true≢false, _&&_, _||_}
 use mathlib.Core.List.{List, [], _∷_, _++_, map, append-nil}
 use native.Mathlib.Omega.{arith}
 use mir.Syntax.{w64}
-use mir.Val.{Fits}
+use mir.Val.{Fits, SFits, toZ, ofZ}
+use mir.ValLaws.{toZ-ofZ}
 use borrow.Author.Needs.{needs}
-use borrow.Author.Tests.{eqb-false, eq-eqb, ne-eqb}
+use borrow.Author.Tests.{eqb-false, eq-eqb, ne-eqb, ltb-true}
 use lib.Dec.{eqb}
-use lib.ListN.{length, take, drop, set, length-set, length-take, length-drop, length-append, length-map}
-use Rattle.lists.proofs.Tests.{split}
-use Rattle.io.specs.Counts.{Counts}
-use Rattle.io.proofs.Counting.{front, counts}
+use lib.IntN.{ℤ, pos, negsuc}
+use lib.Signed.{ltZ}
+use lib.ListN.{length, take, drop, length-append, length-map}
+use Rattle.lists.proofs.Tests.{split, and-right}
+use Rattle.io.proofs.Counting.{front}
 use Rattle.rows.proofs.Rows.{map-append}
 use Rattle.table.specs.Table.{places}
 use Rattle.claims.specs.Module.{credentialCount}
-use Rattle.image_figures.specs.Figures.{sum, classCount, lineOf}
+use Rattle.image_figures.specs.Figures.{sum, classCount, lineOf, sizeSaid}
 use Rattle.image_figures.specs.declared.Figures.{Figures}
 use Rattle.image_figures.specs.declared.Line.{Line}
 use Rattle.image_figures.specs.declared.Line.the-variants.{Bad, Good}
 use Rattle.image_figures.proofs.Laws.{Small, SmallLine, line-small}
-use Rattle.figures.specs.Drawer.{Piece, longestSaid, linesOf, goodOnes, totalsOf, totalsWith, mostImages, stepOf, After, OfPieces, OfPiece, OneMore, Turned}
+use Rattle.figures.specs.Drawer.{Piece, linesOf, goodOnes, totalsOf, totalsWith, mostImages, stepOf, After, OfPieces, OfPiece}
+use Rattle.figures.specs.Drawer.{stopOf, isFailure, FilledTo, Buffers, pieceIn, PieceIn, hasFailed, isPrinted, isLast, toldOf, Tells, turnOf, Turned}
+use Rattle.figures.proofs.Texts.{spelled, text-begin, text-more, text-all, text-full, text-none, number-added, three-added, line-bad, line-good, text-image, text-total, text-past}
 use Rattle.figures.specs.declared.Totals.{Totals}
 use Rattle.figures.specs.declared.Turn.{Turn}
 use Rattle.figures.specs.declared.Step.{Step}
+use Rattle.figures.specs.declared.Output.{Output}
 use Rattle.figures.specs.declared.Output.the-variants.{Image, Total, TooMany}
+use Rattle.figures.specs.declared.Stop.{Stop}
+use Rattle.figures.specs.declared.Stop.the-variants.{Full, Ended, Failed}
+use Rattle.figures.specs.declared.Filled.{Filled}
+use Rattle.figures.specs.declared.PieceRead.{PieceRead}
+use Rattle.figures.specs.declared.Told.{Told}
+use Rattle.figures.specs.declared.Told.the-variants.{Printed, Unread, Unwritten}
 
 -- ---- the totals with one line more
 sum-more : {A : Type 0} (g : A → ℕ) (l : List A) (x : A) → sum (map g (l ++ (x ∷ []))) ≡ sum (map g l) + g x
@@ -128,6 +139,29 @@ module _ (t : Totals) (said image : List ℕ) where
       unfolding stepOf
       step-line e c = record { is = λ l h. rw (ne-eqb (length said) 0 n, ne-eqb (length l) mostImages (λ q. k (lines-so-far l h ∙ q)), c .is l h, e) }
 
+-- ---- why a part is filled no further
+failed-below : (got : ℤ) → ltZ got (pos 0) ≡ true → Failed ≡ stopOf got
+unfolding stopOf
+failed-below (pos n) e = absurd (omega (arith, ltb-true n 0 e))
+failed-below (negsuc n) e = refl
+
+ended-else : (got : ℤ) → ltZ got (pos 0) ≡ false → Ended ≡ stopOf got
+unfolding stopOf
+ended-else (pos n) e = refl
+ended-else (negsuc n) e = absurd (true≢false e)
+
+module _ (got : ℤ) (f : SFits w64 got) where
+  pub stop-failed : ltZ (toZ w64 (ofZ w64 got)) (pos 0) ≡ true → Failed ≡ stopOf got
+  stop-failed e = failed-below got (rw (toZ-ofZ w64 got f) at e)
+
+  pub stop-ended : ltZ (toZ w64 (ofZ w64 got)) (pos 0) ≡ false → Ended ≡ stopOf got
+  stop-ended e = ended-else got (rw (toZ-ofZ w64 got f) at e)
+
+never-full : (got : ℤ) → stopOf got ≡ Full → ⊥
+unfolding stopOf
+never-full (pos n) e = let z : _≡_ {A = ℕ} 0 1 = cc in omega arith
+never-full (negsuc n) e = let z : _≡_ {A = ℕ} 0 1 = cc in omega arith
+
 -- ---- a part that is being filled keeps its length
 pub record Filling (old new : List ℕ) (count : ℕ) : Type 0 where
   pub long : length new ≡ length old
@@ -136,44 +170,54 @@ pub record Filling (old new : List ℕ) (count : ℕ) : Type 0 where
 pub filling-begin : (old : List ℕ) → Filling old old 0
 filling-begin old = record { long = refl; few = omega arith }
 
-module _ {old new : List ℕ} {count : ℕ} (v : Filling old new count) (more : ℕ) (after : List ℕ) (same : length after ≡ length new) (few : more ≤ length (take (length after - count) (drop count after))) where
-  pub filling-room : count + more ≤ length after
-  filling-room = let k = simp (length-take, length-drop) at few in omega (arith, k, same, v .few)
+pub filled-short : {old new : List ℕ} {count : ℕ} {stop : Stop} (after : List ℕ) (got : ℤ) → Filling old new count → length after ≡ length new → stop ≡ stopOf got
+    → FilledTo (length after) (record { count = count; stop = stop })
+filled-short after got v same e = record { few = omega (arith, same, v .few); whole = λ f. absurd (never-full got (sym e ∙ f)) }
 
-  pub filling-more : Filling old after (count + more)
-  filling-more = record { long = same ∙ v .long; few = filling-room }
+pub filled-whole : {old new : List ℕ} {count : ℕ} → Filling old new count → length new ≤ count → FilledTo (length new) (record { count = count; stop = Full })
+filled-whole v h = record { few = v .few; whole = λ f. omega (arith, v .few) }
 
--- ---- so many bytes of a list
-pub size-long : {n : ℕ} (l : List ℕ) → n < 65536 → longestSaid ≤ length l → n ≡ length (take n l)
-size-long {n} l h k = front n l (omega arith)
+-- ---- a piece in its buffers
+pub buffers-kept : {said₀ image₀ : List ℕ} (said image : List ℕ) → Buffers said₀ image₀ → length said ≡ length said₀ → length image ≡ length image₀ → Buffers said image
+buffers-kept said image v a b = record { for-length = a ∙ v .for-length; for-image = omega (arith, b, v .for-image) }
 
-pub counts-before : {n : ℕ} (a b : List ℕ) → Counts n a → Counts n (a ++ b)
-counts-before {n} a b c = counts n (a ++ b) (rw length-append (omega (arith, c .0)))
+pub size-long : {size : ℕ} (said image : List ℕ) → Buffers said image → size < 65536 → size ≡ length (take size image)
+size-long {size} said image v h = front size image (omega (arith, v .for-image))
 
--- ---- a text that bytes are put after: its room stays
-abbrev textSize : ℕ
-textSize = 80
+pub piece-read : {head rest : Filled} {size : ℕ} {said₀ image₀ said : List ℕ} (part : List ℕ) → Buffers said₀ image₀ → length said ≡ length said₀ → FilledTo (length said) head
+    → size ≡ sizeSaid (take (head .count) said) → size < 65536 → length part ≡ length (take size image₀) → FilledTo (length part) rest
+    → PieceIn said (part ++ drop size image₀) (record { said = head; image = rest })
+piece-read {size = size} {said₀ = said₀} {image₀ = image₀} part v a p e h b q =
+    let long = b ∙ sym (size-long said₀ image₀ v h) in
+    record {
+      said-there = rw (a ∙ v .for-length) at p;
+      image-there = rw (long ∙ e) at q;
+      image-fits = rw length-append (omega (arith, q .few));
+    }
 
-pub record Texting (bytes : List ℕ) (count : ℕ) : Type 0 where
-  pub room : length bytes ≡ textSize
-  pub few : count ≤ textSize
+pub said-long : {said image : List ℕ} {read : PieceRead} → Buffers said image → PieceIn said image read → read .said .count ≡ length (take (read .said .count) said)
+said-long {said} {read = read} v p = front (read .said .count) said (omega (arith, p .said-there .few, v .for-length))
 
-pub text-begin : (bytes : List ℕ) {count : ℕ} → length bytes ≡ textSize → Counts count bytes → Texting bytes count
-text-begin bytes h c = record { room = h; few = omega (arith, c .0) }
-
-module _ {bytes : List ℕ} {count : ℕ} (v : Texting bytes count) where
-  pub text-more : (byte : ℕ) → count < textSize → Texting (set bytes count byte) (count + 1)
-  text-more byte h = record { room = length-set bytes count byte ∙ v .room; few = omega arith }
-
-  pub text-end : Counts count bytes
-  text-end = counts count bytes (omega (arith, v .room, v .few))
+pub failed-either : (read : PieceRead) {head rest : Bool} → head ≡ isFailure (read .said .stop) → rest ≡ isFailure (read .image .stop) → (head || rest) ≡ hasFailed read
+unfolding hasFailed
+failed-either read e f = rw (e, f)
 
 -- ---- a turn
+pub tells-nothing : {output : Output} → Tells output Unwritten
+unfolding toldOf
+tells-nothing = record { written = false; is = refl }
+
+pub tells-it : {output : Output} → Tells output (Printed output)
+unfolding toldOf
+tells-it = record { written = true; is = refl }
+
+is-written : (written : Bool) (output : Output) → isPrinted (toldOf written output) ≡ written
+unfolding toldOf
+is-written true output = refl
+is-written false output = refl
+
 pub of-piece : {x : Line} (said image : List ℕ) → x ≡ lineOf said image → OfPiece x
 of-piece said image e = record { piece = record { said = said; image = image }; is = e }
-
-pub turned-stop : {t : Totals} {said image : List ℕ} → OfPieces t → Turned t said image (record { totals = t; more = false })
-turned-stop v = record { of-pieces = v; one-more = λ e. absurd (true≢false (sym e)) }
 
 pieces-more : (l : List Piece) (p : Piece) → length l < mostImages → OfPieces (totalsWith (lineOf (p .said) (p .image)) (linesOf l))
 unfolding linesOf totalsWith
@@ -184,70 +228,128 @@ pieces-more l p few =
       are = ap totalsOf (sym (map-append (λ (p : Piece). lineOf (p .said) (p .image)) l (p ∷ [])));
     }
 
-step-pieces : {t : Totals} (said image : List ℕ) {next : Step} → OfPieces t → After t (stepOf said image) next → OfPieces (next .totals)
+step-pieces : {t : Totals} (said image : List ℕ) (v : OfPieces t) → OfPieces (stepOf said image (linesOf (v .read)) .totals)
 unfolding stepOf
-step-pieces said image v s =
+step-pieces said image v =
     let lines : List Line = linesOf (v .read) in
     let so-far : length (v .read) ≡ length lines = images-are v ∙ ap (λ (u : Totals). u .images) (v .are) ∙ images-of lines in
-    rw (s .is lines (v .are)) (split (eqb (length said) 0)
+    split (eqb (length said) 0)
     (λ z. rw (z, ← v .are) v)
     (λ z.
     split (eqb (length lines) mostImages)
     (λ q. rw (z, q, ← v .are) v)
-    (λ q. let n = eqb-false (length lines) mostImages q in rw (z, q) (pieces-more (v .read) (record { said = said; image = image }) (omega (arith, n, so-far, v .few))))))
+    (λ q. let n = eqb-false (length lines) mostImages q in rw (z, q) (pieces-more (v .read) (record { said = said; image = image }) (omega (arith, n, so-far, v .few)))))
 
 -- of the three ends of a step the last alone goes on
-step-counted : {t : Totals} (said image : List ℕ) {next : Step} → After t (stepOf said image) next → next .more ≡ true → After t (totalsWith (lineOf said image)) (next .totals)
+step-counted : (said image : List ℕ) (l : List Line) → stepOf said image l .more ≡ true → stepOf said image l .totals ≡ totalsWith (lineOf said image) l
 unfolding stepOf
-step-counted said image {next} s m =
-    record {
-      is = λ l h.
-          let e : next ≡ stepOf said image l = s .is l h in
-          let more : stepOf said image l .more ≡ true = sym (ap (λ (x : Step). x .more) e) ∙ m in
-          ap (λ (x : Step). x .totals) e ∙ split (eqb (length said) 0)
-          (λ z. absurd (true≢false (sym (rw z at more))))
-          (λ z.
-          split (eqb (length l) mostImages)
-          (λ q. absurd (true≢false (sym (rw (z, q) at more))))
-          (λ q. rw (z, q)));
-    }
+step-counted said image l m =
+    split (eqb (length said) 0)
+    (λ z. absurd (true≢false (sym (rw z at m))))
+    (λ z.
+    split (eqb (length l) mostImages)
+    (λ q. absurd (true≢false (sym (rw (z, q) at m))))
+    (λ q. rw (z, q)))
 
-pub turned-on : {t : Totals} (said image : List ℕ) (there long : ℕ) {next : Step} → OfPieces t → After t (stepOf (take there said) (take long image)) next
-    → Turned t said image (record { totals = next .totals; more = next .more })
-turned-on said image there long v s =
-    record {
-      of-pieces = step-pieces (take there said) (take long image) v s;
-      one-more = λ m. record { there = there; long = long; counted = step-counted (take there said) (take long image) s m };
-    }
+-- and the others say what is last
+step-last : (said image : List ℕ) (l : List Line) → stepOf said image l .more ≡ false → isLast (Printed (stepOf said image l .output)) ≡ true
+unfolding stepOf
+step-last said image l m =
+    split (eqb (length said) 0)
+    (λ z. rw z)
+    (λ z.
+    split (eqb (length l) mostImages)
+    (λ q. rw (z, q))
+    (λ q. absurd (true≢false (rw (z, q) at m))))
+
+told-last : (written : Bool) (step : Step) → (step .more ≡ false → isLast (Printed (step .output)) ≡ true) → (written && step .more) ≡ false → isLast (toldOf written (step .output)) ≡ true
+unfolding toldOf
+told-last true step h m = h m
+told-last false step h m = refl
+
+module _ {t : Totals} (read : PieceRead) (said image : List ℕ) {failed : Bool} (e : failed ≡ hasFailed read) where
+  pub turned-unread : failed ≡ true → Turned t read said image (record { totals = t; told = Unread; more = false })
+  unfolding turnOf
+  turned-unread f = record { written = false; is = record { is = λ l h. rw (← e, f, h) } }
+
+  pub turned-read : failed ≡ false → {step : Step} → After t (stepOf (take (read .said .count) said) (take (read .image .count) image)) step
+      → {told : Told} → Tells (step .output) told → {printed : Bool} → printed ≡ isPrinted told
+      → Turned t read said image (record { totals = step .totals; told = told; more = printed && step .more })
+  unfolding turnOf pieceIn
+  turned-read f a o p = record { written = o .written; is = record { is = λ l h. rw (← e, f, p, o .is, is-written (o .written) _, a .is l h) } }
+
+-- where no turn comes after, what was said is last
+pub record Last (told : Told) (more : Bool) : Type 0 where
+  pub is : more ≡ false → isLast told ≡ true
+
+-- what a turn leaves: the totals of some pieces; where it goes on, one image more, and where not, what is said last
+module _ {t : Totals} {read : PieceRead} {said image : List ℕ} {turn : Turn} (v : OfPieces t) (s : Turned t read said image turn) where
+  abbrev lines : List Line
+  lines = linesOf (v .read)
+
+  abbrev taken : Piece
+  taken = pieceIn read said image
+
+  turn-is : turn ≡ turnOf read taken (s .written) lines
+  turn-is = s .is .is lines (v .are)
+
+  pub turned-pieces : OfPieces (turn .totals)
+  unfolding turnOf
+  turned-pieces =
+      rw turn-is (split (hasFailed read)
+      (λ f. rw (f, ← v .are) v)
+      (λ f. rw f (step-pieces (taken .said) (taken .image) v)))
+
+  one-more : turn .more ≡ true → turn .totals ≡ totalsWith (lineOf (taken .said) (taken .image)) lines
+  unfolding turnOf
+  one-more m =
+      let more : turnOf read taken (s .written) lines .more ≡ true = sym (ap (λ (x : Turn). x .more) turn-is) ∙ m in
+      rw turn-is (split (hasFailed read)
+      (λ f. absurd (true≢false (sym (rw f at more))))
+      (λ f. rw f (step-counted (taken .said) (taken .image) lines (and-right (s .written) _ (rw f at more)))))
+
+  one-image : turn .more ≡ true → turn .totals .images ≡ t .images + 1
+  unfolding totalsWith
+  one-image m =
+      let line : Line = lineOf (taken .said) (taken .image) in
+      ap (λ (u : Totals). u .images) (one-more m) ∙ images-of (lines ++ (line ∷ [])) ∙ length-append lines (line ∷ []) ∙ ap (λ (n : ℕ). n + 1) (sym (ap (λ (u : Totals). u .images) (v .are) ∙ images-of lines))
+
+  pub turned-last : Last (turn .told) (turn .more)
+  unfolding turnOf
+  turned-last =
+      rw turn-is (split (hasFailed read)
+      (λ f. rw f (record { is = λ m. refl }))
+      (λ f. rw f (record { is = λ m. told-last (s .written) (stepOf (taken .said) (taken .image) lines) (step-last (taken .said) (taken .image) lines) m })))
 
 -- ---- the loop
-pub record Reporting (said₀ image₀ said image : List ℕ) (t : Totals) : Type 0 where
+pub record Reporting (said₀ image₀ said image : List ℕ) (t : Totals) (told : Told) (more : Bool) : Type 0 where
   pub said-long : length said ≡ length said₀
   pub image-long : length image ≡ length image₀
-  pub room : longestSaid ≤ length image
+  pub buffers : Buffers said image
   pub of-pieces : OfPieces t
+  pub last : Last told more
 
-pub no-pieces : OfPieces (record { images = 0; good = 0; rows = 0; classes = 0 })
-unfolding linesOf totalsOf goodOnes sum
+pub no-lines : record { images = 0; good = 0; rows = 0; classes = 0 } ≡ totalsOf []
+unfolding totalsOf goodOnes sum
+no-lines = refl
+
+no-pieces : OfPieces (totalsOf [])
+unfolding linesOf
 no-pieces = record { read = []; few = omega arith; are = refl }
 
-pub report-begin : (said image : List ℕ) → longestSaid ≤ length image → Reporting said image said image (record { images = 0; good = 0; rows = 0; classes = 0 })
-report-begin said image h = record { said-long = refl; image-long = refl; room = h; of-pieces = no-pieces }
+pub report-begin : {said image : List ℕ} {t : Totals} → Buffers said image → t ≡ totalsOf [] → {told : Told} → Reporting said image said image t told true
+report-begin v e = record { said-long = refl; image-long = refl; buffers = v; of-pieces = rw e no-pieces; last = record { is = λ m. absurd (true≢false m) } }
 
-one-image : {t : Totals} {said image : List ℕ} {next : Totals} → OfPieces t → OneMore t said image next → next .images ≡ t .images + 1
-unfolding totalsWith
-one-image v o =
-    let lines : List Line = linesOf (v .read) in
-    let line : Line = lineOf (take (o .there) _) (take (o .long) _) in
-    ap (λ (u : Totals). u .images) (o .counted .is lines (v .are)) ∙ images-of (lines ++ (line ∷ [])) ∙ length-append lines (line ∷ []) ∙ ap (λ (n : ℕ). n + 1) (sym (ap (λ (u : Totals). u .images) (v .are) ∙ images-of lines))
+pub last-said : {told : Told} {more : Bool} → Last told more → more ≡ false → isLast told ≡ true
+last-said v m = v .is m
 
 abbrev pub turnsLeft : Totals → Bool → ℕ
 turnsLeft t more = cond more (suc (mostImages - t .images)) 0
 
-pub turns-less : {t : Totals} {said image : List ℕ} {turn : Turn} {more : Bool} → more ≡ true → OfPieces t → Turned t said image turn → turnsLeft (turn .totals) (turn .more) < turnsLeft t more
-turns-less {t} {said} {image} {turn} m o v =
+pub turns-less : {t : Totals} {read : PieceRead} {said image : List ℕ} {turn : Turn} {more : Bool} → more ≡ true → OfPieces t → Turned t read said image turn → turnsLeft (turn .totals) (turn .more) < turnsLeft t more
+turns-less {turn = turn} m v s =
     rw m (split (turn .more)
-    (λ e. rw e (omega (arith, one-image o (v .one-more e), images-few (v .of-pieces))))
+    (λ e. rw e (omega (arith, one-image v s e, images-few (turned-pieces v s))))
     (λ e. rw e (omega arith)))
 
-pub ruleset rules = (needs, good-fits, rows-fit, classes-fit, counted-bad, counted-good, step-total, step-past, step-few, step-line, filling-begin, front, counts, size-long, counts-before, of-piece, text-begin, text-more, text-end, turned-stop, turned-on, report-begin, turns-less)
+pub ruleset rules = (needs, good-fits, rows-fit, classes-fit, counted-bad, counted-good, step-total, step-past, step-few, step-line, filling-begin, front, stop-failed, stop-ended, filled-short, filled-whole, buffers-kept, size-long, piece-read, said-long, failed-either, of-piece, spelled, text-begin, text-more, text-all, text-full, text-none, number-added, three-added, line-bad, line-good, text-image, text-total, text-past, tells-nothing, tells-it, turned-unread, turned-read, turned-pieces, turned-last, no-lines, report-begin, last-said, turns-less)

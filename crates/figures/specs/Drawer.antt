@@ -1,9 +1,10 @@
 -- Document 02, order 6: "A program reads standard input: images of order 2, each after its length in 2 bytes, little endian." What it says of a drawer.
 use Prim.Native.Nat.{ℕ, zero, suc, _+_, _≤_}
 use mathlib.Core.Path.{_≡_}
-use mathlib.Core.Bool.{Bool, true, false, cond}
+use mathlib.Core.Bool.{Bool, true, false, cond, _&&_, _||_}
 use mathlib.Core.List.{List, [], _∷_, _++_, map}
 use lib.Dec.{eqb, ltb}
+use lib.IntN.{ℤ, pos, negsuc}
 use lib.ListN.{length, take, drop}
 use Rattle.image_figures.specs.Figures.{sum, lengthSize, sizeSaid, lineOf}
 use Rattle.image_figures.specs.declared.Figures.{Figures}
@@ -14,6 +15,12 @@ use Rattle.figures.specs.declared.Turn.{Turn}
 use Rattle.figures.specs.declared.Step.{Step}
 use Rattle.figures.specs.declared.Output.{Output}
 use Rattle.figures.specs.declared.Output.the-variants.{Image, Total, TooMany}
+use Rattle.figures.specs.declared.Stop.{Stop}
+use Rattle.figures.specs.declared.Stop.the-variants.{Full, Ended, Failed}
+use Rattle.figures.specs.declared.Filled.{Filled}
+use Rattle.figures.specs.declared.PieceRead.{PieceRead}
+use Rattle.figures.specs.declared.Told.{Told}
+use Rattle.figures.specs.declared.Told.the-variants.{Nothing, Printed, Unread, Unwritten}
 
 -- ---- a drawer's pieces: of a length, and of the image after it, the bytes that are there
 pub record Piece : Type 0 where
@@ -93,12 +100,69 @@ pub record OfPiece (x : Line) : Type 0 where
   pub piece : Piece
   pub is : x ≡ lineOf (piece .said) (piece .image)
 
--- a turn of its loop: where it goes on, one piece more is counted, of bytes that the two buffers begin with
-pub record OneMore (t : Totals) (said image : List ℕ) (next : Totals) : Type 0 where
-  pub there : ℕ
-  pub long : ℕ
-  pub counted : After t (totalsWith (lineOf (take there said) (take long image))) next
+-- ---- what is read: a part of a buffer is filled until it is full, the input ends or a read fails; `read` answers a negative number where it fails
+unfoldable pub stopOf : ℤ → Stop
+stopOf (pos n) = Ended
+stopOf (negsuc n) = Failed
 
-pub record Turned (t : Totals) (said image : List ℕ) (turn : Turn) : Type 0 where
-  pub of-pieces : OfPieces (turn .totals)
-  pub one-more : turn .more ≡ true → OneMore t said image (turn .totals)
+abbrev pub isFailure : Stop → Bool
+isFailure Full = false
+isFailure Ended = false
+isFailure Failed = true
+
+pub record FilledTo (size : ℕ) (filled : Filled) : Type 0 where
+  pub few : filled .count ≤ size
+  pub whole : filled .stop ≡ Full → filled .count ≡ size
+
+-- the two buffers: of a length, and of any image
+pub record Buffers (said image : List ℕ) : Type 0 where
+  pub for-length : length said ≡ lengthSize
+  pub for-image : longestSaid ≤ length image
+
+-- of a piece, the bytes that were read are what its buffers begin with: a length, and then as many as that says
+unfoldable pub pieceIn : PieceRead → List ℕ → List ℕ → Piece
+pieceIn piece said image = record { said = take (piece .said .count) said; image = take (piece .image .count) image }
+
+pub record PieceIn (said image : List ℕ) (piece : PieceRead) : Type 0 where
+  pub said-there : FilledTo lengthSize (piece .said)
+  pub image-there : FilledTo (sizeSaid (take (piece .said .count) said)) (piece .image)
+  pub image-fits : piece .image .count ≤ length image
+
+unfoldable pub hasFailed : PieceRead → Bool
+hasFailed piece = isFailure (piece .said .stop) || isFailure (piece .image .stop)
+
+-- ---- what is said in a turn
+abbrev pub isPrinted : Told → Bool
+isPrinted Nothing = false
+isPrinted (Printed output) = true
+isPrinted Unread = false
+isPrinted Unwritten = false
+
+-- the last is no image's line
+abbrev pub isLast : Told → Bool
+isLast Nothing = false
+isLast (Printed (Image line)) = false
+isLast (Printed (Total totals)) = true
+isLast (Printed TooMany) = true
+isLast Unread = true
+isLast Unwritten = true
+
+unfoldable pub toldOf : Bool → Output → Told
+toldOf written output = cond written (Printed output) Unwritten
+
+-- whether a line could be written is not for the program to say
+pub record Tells (output : Output) (told : Told) : Type 0 where
+  pub written : Bool
+  pub is : told ≡ toldOf written output
+
+-- ---- a turn of its loop, after these lines: where a read failed it ends; else the step of exactly the bytes that were read is printed, and the loop
+-- goes on where the step does and could be written
+unfoldable pub turnOf : PieceRead → Piece → Bool → List Line → Turn
+turnOf read piece written lines =
+    let step : Step = stepOf (piece .said) (piece .image) lines in
+    cond (hasFailed read) (record { totals = totalsOf lines; told = Unread; more = false })
+    (record { totals = step .totals; told = toldOf written (step .output); more = written && step .more })
+
+pub record Turned (t : Totals) (piece : PieceRead) (said image : List ℕ) (turn : Turn) : Type 0 where
+  pub written : Bool
+  pub is : After t (turnOf piece (pieceIn piece said image) written) turn

@@ -1,1 +1,2 @@
 pub mod Drawer
+pub mod Text

@@ -1,10 +1,15 @@
 // The figures of a drawer of images: document 02, order 6. It reads standard input, and prints a line for each image and the total. docs/FIGURES.md tells
-// how the desk uses it. What is counted, and when it ends, is proved; that standard input is read and the text printed is run.
+// how the desk uses it. Proved: what comes of exactly the bytes that were read, from totals that begin with those of no image; that a read which failed ends
+// it without a total; the text of each line. Run, and not proved: that `read` hands over the bytes of standard input in their order, that `write` writes the
+// text that it is handed, and that no word is taken on the command line.
 ghost use mathlib.Core.Path.{_≡_};
-ghost use Prim.Native.Nat.{_≤_, _<_};
+ghost use mathlib.Core.Bool.{true};
+ghost use mathlib.Core.List.{[]};
+ghost use Prim.Native.Nat.{_<_};
 ghost use lib.ListN.{length};
 ghost use Rattle.io.specs.Counts.{Counts};
-ghost use Rattle.figures.specs.Drawer.{longestSaid, totalsWith, mostImages, stepOf, After, OfPieces, OfPiece, Turned};
+ghost use Rattle.figures.specs.Drawer.{totalsOf, totalsWith, mostImages, stepOf, After, OfPieces, OfPiece, stopOf, FilledTo, Buffers, PieceIn, isFailure, hasFailed, Tells, isPrinted, isLast, Turned};
+ghost use Rattle.figures.specs.Text.{numberThen, threeText, lineText, textOf, Holds, Added, Spells};
 use image_figures::LENGTH_SIZE;
 use image_figures::Line;
 use libc::STDERR_FILENO;
@@ -87,14 +92,31 @@ fn next_step(totals: Totals, said: &[u8], image: &[u8]) -> Step
 
 // ---- reading
 
+// Why a part was filled no further.
+enum Stop {
+    Full,
+    Ended,
+    Failed,
+}
+
 struct Filled {
     count: usize,
-    failed: bool,
+    stop: Stop,
+}
+
+// Of what `read` answers where it reads no byte.
+fn stop_of(got: isize) -> Stop
+    ensures { λ r. ⌜ r ≡ stopOf got ⌝ }
+{
+    if got < 0 {
+        return Stop::Failed;
+    }
+    Stop::Ended
 }
 
 // Reads until a part is full, the input ends or a read fails.
 fn fill(part: &mut [u8]) -> Filled
-    ensures { λ r. ⌜ Counts (r .count) (now (part .exit)) ⌝ }
+    ensures { λ r. ⌜ FilledTo (length (now (part .exit))) r ⌝ }
 {
     let mut count: usize = 0;
     while count < part.len() {
@@ -103,38 +125,54 @@ fn fill(part: &mut [u8]) -> Filled
         if more == 0 {
             return Filled {
                 count: count,
-                failed: got < 0,
+                stop: stop_of(got),
             };
         }
         count += more;
     }
     Filled {
         count: count,
-        failed: false,
+        stop: Stop::Full,
     }
 }
 
-// How many bytes of a length and of the image after it were there.
+// Of a length, and of the image after it, how many bytes were there.
 struct PieceRead {
-    said: usize,
-    image: usize,
-    failed: bool,
+    said: Filled,
+    image: Filled,
 }
 
 fn read_piece(said: &mut [u8], image: &mut [u8]) -> PieceRead
-    requires { ⌜ longestSaid ≤ length (now image) ⌝ }
-    ensures { λ r. ⌜ Counts (r .said) (now (said .exit)) ⌝ }
-    ensures { λ r. ⌜ Counts (r .image) (now (image .exit)) ⌝ }
+    requires { ⌜ Buffers (now said) (now image) ⌝ }
+    ensures { λ r. ⌜ PieceIn (now (said .exit)) (now (image .exit)) r ⌝ }
 {
     let head = fill(said);
     let there = head.count;
     let size = image_figures::size_said(&said[..there]) as usize;
     let rest = fill(&mut image[..size]);
     PieceRead {
-        said: there,
-        image: rest.count,
-        failed: head.failed | rest.failed,
+        said: head,
+        image: rest,
     }
+}
+
+fn is_failed(filled: Filled) -> bool
+    ensures { λ r. ⌜ r ≡ isFailure (filled .stop) ⌝ }
+{
+    let stop = filled.stop;
+    match stop {
+        Stop::Full => false,
+        Stop::Ended => false,
+        Stop::Failed => true,
+    }
+}
+
+fn has_failed(piece: PieceRead) -> bool
+    ensures { λ r. ⌜ r ≡ hasFailed piece ⌝ }
+{
+    let head = piece.said;
+    let rest = piece.image;
+    is_failed(head) | is_failed(rest)
 }
 
 // ---- printing: each line is made in full, and written at once
@@ -148,7 +186,7 @@ struct Text {
 }
 
 fn no_text() -> Text
-    ensures { λ r. ⌜ Counts (r .length) (r .bytes) ⌝ }
+    ensures { λ r. ⌜ Holds [] r ⌝ }
 {
     Text {
         bytes: [0; TEXT_SIZE],
@@ -159,7 +197,7 @@ fn no_text() -> Text
 // The text, and after it as many bytes as there is room for, which is all of any line.
 fn with(text: Text, part: &[u8]) -> Text
     requires { ⌜ Counts (text .length) (text .bytes) ⌝ }
-    ensures { λ r. ⌜ Counts (r .length) (r .bytes) ⌝ }
+    ensures { λ r. ⌜ Added text (now (part .entry)) r ⌝ }
 {
     let mut bytes = text.bytes;
     let mut length = text.length;
@@ -175,26 +213,26 @@ fn with(text: Text, part: &[u8]) -> Text
     }
 }
 
-fn with_number(text: Text, number: u64) -> Text
+fn with_number(text: Text, number: u64, end: &[u8]) -> Text
     requires { ⌜ Counts (text .length) (text .bytes) ⌝ }
-    ensures { λ r. ⌜ Counts (r .length) (r .bytes) ⌝ }
+    ensures { λ r. ⌜ Added text (numberThen number (now (end .entry))) r ⌝ }
 {
     let mut digits = [0u8; 20];
     let count = io::decimal(number, &mut digits);
-    with(text, &digits[..count])
+    with(with(text, &digits[..count]), end)
 }
 
 fn with_three(text: Text, one: u64, two: u64, three: u64) -> Text
     requires { ⌜ Counts (text .length) (text .bytes) ⌝ }
-    ensures { λ r. ⌜ Counts (r .length) (r .bytes) ⌝ }
+    ensures { λ r. ⌜ Added text (threeText one two three) r ⌝ }
 {
-    let first = with(with_number(text, one), b" ");
-    let second = with(with_number(first, two), b" ");
-    with(with_number(second, three), b"\n")
+    let first = with_number(text, one, b" ");
+    let second = with_number(first, two, b" ");
+    with_number(second, three, b"\n")
 }
 
 fn text_of_line(line: Line) -> Text
-    ensures { λ r. ⌜ Counts (r .length) (r .bytes) ⌝ }
+    ensures { λ r. ⌜ Holds (lineText line) r ⌝ }
 {
     match line {
         Line::Bad => with(no_text(), b"bad\n"),
@@ -208,7 +246,7 @@ fn text_of_line(line: Line) -> Text
 }
 
 fn text_of(output: Output) -> Text
-    ensures { λ r. ⌜ Counts (r .length) (r .bytes) ⌝ }
+    ensures { λ r. ⌜ Spells (textOf output) r ⌝ }
 {
     match output {
         Output::Image(line) => text_of_line(line),
@@ -222,65 +260,101 @@ fn text_of(output: Output) -> Text
     }
 }
 
-fn print(output: Output) -> bool {
+// What is said: nothing before the first turn; what was printed; or, on standard error, that the drawer could not be read, or the line not written.
+enum Told {
+    Nothing,
+    Printed(Output),
+    Unread,
+    Unwritten,
+}
+
+fn print(output: Output) -> Told
+    ensures { λ r. ⌜ Tells output r ⌝ }
+{
     let text = text_of(output);
     let bytes = text.bytes;
     let length = text.length;
-    io::write_all(STDOUT_FILENO, &bytes[..length])
+    if !io::write_all(STDOUT_FILENO, &bytes[..length]) {
+        os::fail(b"standard output");
+        return Told::Unwritten;
+    }
+    Told::Printed(output)
+}
+
+fn is_printed(told: Told) -> bool
+    ensures { λ r. ⌜ r ≡ isPrinted told ⌝ }
+{
+    match told {
+        Told::Nothing => false,
+        Told::Printed(output) => true,
+        Told::Unread => false,
+        Told::Unwritten => false,
+    }
 }
 
 // ---- the drawer
 
 struct Turn {
     totals: Totals,
+    told: Told,
     more: bool,
 }
 
-// Reads the next piece, and prints what comes of it.
-fn take_turn(totals: Totals, said: &mut [u8], image: &mut [u8]) -> Turn
+// What comes of a piece that was read is printed.
+fn take_turn(totals: Totals, piece: PieceRead, said: &[u8], image: &[u8]) -> Turn
     requires { ⌜ OfPieces totals ⌝ }
-    requires { ⌜ longestSaid ≤ length (now image) ⌝ }
-    ensures { λ r. ⌜ Turned totals (now (said .exit)) (now (image .exit)) r ⌝ }
+    requires { ⌜ Buffers (now said) (now image) ⌝ }
+    requires { ⌜ PieceIn (now said) (now image) piece ⌝ }
+    ensures { λ r. ⌜ Turned totals piece (now (said .entry)) (now (image .entry)) r ⌝ }
 {
-    let stopped = Turn {
-        totals: totals,
-        more: false,
-    };
-    let piece = read_piece(said, image);
-    if piece.failed {
+    if has_failed(piece) {
         os::fail(b"standard input");
-        return stopped;
+        return Turn {
+            totals: totals,
+            told: Told::Unread,
+            more: false,
+        };
     }
-    let there = piece.said;
-    let long = piece.image;
+    let there = piece.said.count;
+    let long = piece.image.count;
     let step = next_step(totals, &said[..there], &image[..long]);
     let output = step.output;
-    if !print(output) {
-        os::fail(b"standard output");
-        return stopped;
-    }
+    let told = print(output);
     let counted = step.totals;
     Turn {
         totals: counted,
-        more: step.more,
+        told: told,
+        more: is_printed(told) & step.more,
     }
 }
 
-fn report(said: &mut [u8], image: &mut [u8])
-    requires { ⌜ longestSaid ≤ length (now image) ⌝ }
+fn no_totals() -> Totals
+    ensures { λ r. ⌜ r ≡ totalsOf [] ⌝ }
 {
-    let mut totals = Totals {
+    Totals {
         images: 0,
         good: 0,
         rows: 0,
         classes: 0,
-    };
+    }
+}
+
+// Answers with what is said last.
+fn report(said: &mut [u8], image: &mut [u8]) -> Told
+    requires { ⌜ Buffers (now said) (now image) ⌝ }
+    ensures { λ r. ⌜ isLast r ≡ true ⌝ }
+{
+    let mut totals = no_totals();
+    let mut told = Told::Nothing;
     let mut more = true;
     while more {
-        let turn = take_turn(totals, said, image);
+        let piece = read_piece(said, image);
+        let turn = take_turn(totals, piece, said, image);
         totals = turn.totals;
+        told = turn.told;
         more = turn.more;
     }
+    told
 }
 
 fn main() {

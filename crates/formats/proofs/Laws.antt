@@ -8,7 +8,7 @@ use borrow.Author.Tests.{leb-true, ltb-true, ne-eqb}
 use lib.ListN.{length}
 use Rattle.lists.proofs.Tests.{and-left, and-right}
 use Rattle.formats.specs.declared.Field.{Field}
-use Rattle.formats.specs.declared.Field.the-variants.{Unused, Reserved, AuthVersion, VersionNumberEntryCount, VersionNumberEntry, MessageCaps, AuthProcessCaps, DeviceProvisioningState, AuthRecordProcessTime, BaseAsymAlgo, BaseHashAlgo, SupportedPolicyOwnerIDCount, Change, LockOrUnlock, CredentialID, CredentialType, CredentialDataSize, CredAttributes, NumPolicies, RegistryID, VendorIDLen, PolicyVersion, PolicyLen, AuthProcInfoCount, AuthProcessType, StartAttributes, NonceLen, EndAttributes, DataType, SVResetDataTypeCount, SVResetDataTypeLen, ErrorCode, ErrorData, NoErrorData}
+use Rattle.formats.specs.declared.Field.the-variants.{Unused, Reserved, AuthVersion, VersionNumberEntryCount, VersionNumberEntry, MessageCaps, AuthProcessCaps, DeviceProvisioningState, AuthRecordProcessTime, BaseAsymAlgoSupported, BaseHashAlgoSupported, SupportedPolicyOwnerIDCount, Change, LockOrUnlock, CredentialID, CredentialType, BaseAsymAlgo, BaseHashAlgo, CredentialDataSize, CredAttributes, NumPolicies, RegistryID, VendorIDLen, PolicyVersion, PolicyLen, AuthProcInfoCount, AuthProcessType, StartAttributes, NonceLen, EndAttributes, DataType, SVResetDataTypeCount, SVResetDataTypeLen, ErrorCode, ErrorData, NoErrorData}
 use Rattle.formats.specs.declared.Form.{Form}
 use Rattle.formats.specs.declared.Layout.{Layout}
 use Rattle.formats.specs.declared.Layout.the-variants.{NoMessage, Plain, VersionNumber, OneCredential, ChangeCredential, ChangePolicies, LockOrUnlocking, StartAuth, EndAuth, Reset, CredentialAndName, VersionList, CredentialParameters, PolicyAnswer, StartAuthResponse, Capabilities, ProcessList, NameAlone, PlainError, UnsupportedRequest, Terminated, VendorError, VersionPiece, ProcessPiece, OwnerPiece, PolicyPiece, ResetPiece}
@@ -34,13 +34,15 @@ all-sound MessageCaps = refl
 all-sound AuthProcessCaps = refl
 all-sound DeviceProvisioningState = refl
 all-sound AuthRecordProcessTime = refl
-all-sound BaseAsymAlgo = refl
-all-sound BaseHashAlgo = refl
+all-sound BaseAsymAlgoSupported = refl
+all-sound BaseHashAlgoSupported = refl
 all-sound SupportedPolicyOwnerIDCount = refl
 all-sound Change = refl
 all-sound LockOrUnlock = refl
 all-sound CredentialID = refl
 all-sound CredentialType = refl
+all-sound BaseAsymAlgo = refl
+all-sound BaseHashAlgo = refl
 all-sound Reserved = refl
 all-sound CredentialDataSize = refl
 all-sound CredAttributes = refl

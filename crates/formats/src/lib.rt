@@ -14,13 +14,15 @@ pub enum Field {
     AuthProcessCaps,
     DeviceProvisioningState,
     AuthRecordProcessTime,
-    BaseAsymAlgo,
-    BaseHashAlgo,
+    BaseAsymAlgoSupported,
+    BaseHashAlgoSupported,
     SupportedPolicyOwnerIDCount,
     Change,
     LockOrUnlock,
     CredentialID,
     CredentialType,
+    BaseAsymAlgo,
+    BaseHashAlgo,
     Reserved,
     CredentialDataSize,
     CredAttributes,
@@ -42,12 +44,14 @@ pub enum Field {
     NoErrorData,
 }
 
-// What a field holds: its bytes; of how many values the bits that count say one, 0 where all bits count; and the least and the most that it may say.
+// What a field holds: its bytes; of how many values the bits that count say one, 0 where all bits count; the least and the most that it may say; and whether
+// exactly one bit is set in it.
 pub struct Form {
     pub width: usize,
     pub values: u64,
     pub least: u64,
     pub most: u64,
+    pub single: bool,
 }
 
 // An element of a list.
@@ -68,34 +72,62 @@ pub enum Rest {
     Never,
 }
 
-// A message, or a piece of a list's element, by what it is made of.
+// A message, or a piece of a list, by what it is made of; in brackets 004's tables. Formats.antt has what stands at which byte, at `shapeOf`.
 pub enum Layout {
+    // no code, operation or error of 004
     NoMessage,
+    // GET_AUTH_VERSION (23), GET_AUTH_CAPABILITIES (28), ELEVATE_PRIVILEGE (55), END_ELEVATED_PRIVILEGE (57), TAKE_OWNERSHIP (59); SELECT_AUTH_VERSION_RSP (27),
+    // SET_CRED_ID_PARAMS_DONE (35), SET_AUTH_POLICY_DONE (41), PRIVILEGE_ELEVATED (56), ELEVATED_PRIVILEGE_ENDED (58), OWNERSHIP_TAKEN (60), AUTH_DEFAULTS_APPLIED (64)
     Plain,
+    // SELECT_AUTH_VERSION (26)
     VersionNumber,
+    // GET_CRED_ID_PARAMS (36), GET_AUTH_POLICY (42), GET_AUTH_PROCESSES (44), END_AUTH_RSP (53)
     OneCredential,
+    // SET_CRED_ID_PARAMS (33) with ParameterChange (34)
     ChangeCredential,
+    // SET_AUTH_POLICY (39) with PolicyChange (40)
     ChangePolicies,
+    // SET_CRED_ID_PARAMS (33) and SET_AUTH_POLICY (39) with Lock or Unlock (34, 40)
     LockOrUnlocking,
+    // START_AUTH (49)
     StartAuth,
+    // END_AUTH (52)
     EndAuth,
+    // AUTH_RESET_TO_DEFAULT (61)
     Reset,
+    // KILL_AUTH_PROCESS (47)
     CredentialAndName,
+    // AUTH_VERSION (24)
     VersionList,
+    // CRED_ID_PARAMS (37)
     CredentialParameters,
+    // AUTH_POLICY (43)
     PolicyAnswer,
+    // START_AUTH_RSP (51)
     StartAuthResponse,
+    // AUTH_CAPABILITIES (29)
     Capabilities,
+    // AUTH_PROCESSES (45)
     ProcessList,
+    // PROCESS_KILLED (48)
     NameAlone,
+    // AUTH_ERROR (20) with the errors of Table 21 that have no data
     PlainError,
+    // AUTH_ERROR with UnsupportedRequest, 0x09
     UnsupportedRequest,
+    // AUTH_ERROR with TermAuthProc, 0x0b
     Terminated,
+    // AUTH_ERROR, vendor or standards-defined, 0xff (22)
     VendorError,
+    // an entry of AUTH_VERSION (25)
     VersionPiece,
+    // a process of AUTH_PROCESSES (46)
     ProcessPiece,
+    // the owner of a policy (4, 29) or of a reset element (63)
     OwnerPiece,
+    // a policy behind its owner (4)
     PolicyPiece,
+    // a reset element behind its owner (63)
     ResetPiece,
 }
 
@@ -107,6 +139,7 @@ fn between(width: usize, least: u64, most: u64) -> Form
         values: 0,
         least: least,
         most: most,
+        single: false,
     }
 }
 
@@ -118,6 +151,19 @@ fn flags(width: usize, values: u64, most: u64) -> Form
         values: values,
         least: 0,
         most: most,
+        single: false,
+    }
+}
+
+fn one_flag(width: usize, values: u64, highest: u64) -> Form
+    ensures { λ r. ⌜ r ≡ Formats.oneFlag width values highest ⌝ }
+{
+    Form {
+        width: width,
+        values: values,
+        least: 1,
+        most: highest,
+        single: true,
     }
 }
 
@@ -133,13 +179,15 @@ pub fn form_of(field: Field) -> Form
         Field::AuthProcessCaps => flags(2, 16, 15),
         Field::DeviceProvisioningState => between(1, 0, 2),
         Field::AuthRecordProcessTime => between(1, 0, 31),
-        Field::BaseAsymAlgo => flags(8, 4096, 4095),
-        Field::BaseHashAlgo => flags(8, 128, 127),
+        Field::BaseAsymAlgoSupported => flags(8, 4096, 4095),
+        Field::BaseHashAlgoSupported => flags(8, 128, 127),
         Field::SupportedPolicyOwnerIDCount => between(2, 0, 65535),
         Field::Change => between(1, 1, 1),
         Field::LockOrUnlock => between(1, 2, 3),
         Field::CredentialID => between(2, 0, 65535),
         Field::CredentialType => between(1, 1, 1),
+        Field::BaseAsymAlgo => one_flag(8, 4096, 2048),
+        Field::BaseHashAlgo => one_flag(8, 128, 64),
         Field::Reserved => flags(4, 1, 0),
         Field::CredentialDataSize => between(4, 0, 4294967295),
         Field::CredAttributes => flags(2, 8, 7),

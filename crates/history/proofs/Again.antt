@@ -24,7 +24,7 @@ use Rattle.claims.specs.declared.Claim.the-variants.{ByUser}
 use Rattle.claims.specs.declared.State.{State}
 use Rattle.claims.specs.declared.UserClaim.{UserClaim}
 use Rattle.claims.proofs.Laws.{pass, unless-true, when-false, clear-first, clear-rest, clear-unless}
-use Rattle.calls.specs.Calls.{Call, Open, Close, Drop, Select, Start, Continue, Elevate, End, Record, List′, Kill, SetWord, number, protection, aheadNumber, protectedNumber, passes}
+use Rattle.calls.specs.Calls.{Call, Open, Close, Drop, Select, Start, Continue, Elevate, End, Record, ListProcesses, Kill, SetWord, number, protection, aheadNumber, protectedNumber, passes}
 use Rattle.calls.specs.Run.{step, run}
 use Rattle.calls.proofs.Facts.{needs}
 use Rattle.calls.proofs.Cut.{passed-ahead, number-stop, number-stopped}
@@ -61,7 +61,7 @@ ahead-same st last (Continue t c name) s u e = cc
 ahead-same st last (Elevate t c name verdict) s u e = cc
 ahead-same st last (End t w keep) s u e = refl
 ahead-same st last (Record t claim class) s u e = refl
-ahead-same st last (List′ t claim wanted room) s u e = refl
+ahead-same st last (ListProcesses t claim wanted room) s u e = refl
 ahead-same st last (Kill t claim name) s u e = refl
 ahead-same st last (SetWord t claim c word) s u e = refl
 

@@ -4,18 +4,20 @@ use Prim.Native.Nat.{ℕ}
 use mathlib.Core.Path.{_≡_, refl}
 use mathlib.Core.Bool.{true, false}
 use mathlib.Core.List.{List, [], _∷_, _++_, map}
-use lib.ListN.{replicate}
+use lib.ListN.{length, replicate}
 use Rattle.names.specs.declared.Name.{Name}
 use Rattle.table.specs.Table.{standing}
 use Rattle.claims.specs.declared.Claim.the-variants.{Elevated}
 use Rattle.claims.specs.declared.Grants.{Grants}
-use Rattle.calls.specs.Calls.{Call, Open, Close, Select, Start, Continue, Elevate, Drop, End, Record, List′, Kill, SetWord, fresh}
+use Rattle.calls.specs.Calls.{Call, Open, Close, Select, Start, Continue, Elevate, Drop, End, Record, ListProcesses, Kill, SetWord, listed, fresh}
+use Rattle.calls.specs.Listing.{rowsOf, listing}
 use Rattle.calls.specs.Run.{run}
 use Rattle.calls.specs.declared.Wanted.the-variants.{Every}
+use Rattle.calls.proofs.Orders.{twelve}
 use Rattle.calls.proofs.Sequences.{name, session, credential, class, userYes, yes′, no′, computed}
 use Rattle.history.specs.History.{Event, history}
 use Rattle.history.specs.Lives.{Life, Gone, Live, Raised, Kept, counts, ends, shuts, drops, resumes, after, charges, tellsPassed, onward, follow, told, nobody}
-use Rattle.history.specs.Demand.{TwoPassed}
+use Rattle.history.specs.Demand.{IsPassedOf, TwoPassed}
 use Rattle.history.proofs.Told.{live-not-gone}
 
 -- two names that differ in their last byte
@@ -81,7 +83,7 @@ refused =
     ∷ Record (session 0) (yes′ 0 0) (class 4)
     ∷ Record (session 0) (no′ 0 1) (class 4)
     ∷ Record (session 0) (yes′ 0 1) (class 3)
-    ∷ List′ (session 0) (yes′ 0 1) Every 105
+    ∷ ListProcesses (session 0) (yes′ 0 1) Every 105
     ∷ Kill (session 0) (yes′ 1 0) (name 0x13)
     ∷ Kill (session 1) (yes′ 1 1) P
     ∷ SetWord (session 0) (yes′ 2 1) (credential 2) 0
@@ -106,9 +108,12 @@ pub record Examples : Type 0 where
   pub refused-are : map (λ (e : Event). e .answered) (history (fresh grants) refused) ≡ 0 ∷ 0 ∷ 0 ∷ 0 ∷ 10 ∷ 9 ∷ 8 ∷ 1 ∷ 15 ∷ 6 ∷ 2 ∷ 5 ∷ 5 ∷ []
   pub after-refused : Told refused (Live (session 0) (credential 0) (2 ∷ 1 ∷ 0 ∷ [])) (Live (session 0) (credential 1) (0 ∷ []))
   pub next-is : map (λ p. p .next) (standing (run (fresh grants) continued .table)) ≡ 4 ∷ []
+  -- "no listing exceeds 616 bytes", and there is one of just as many: with twelve standing, in what the call answers and in the bytes of its message
+  pub longest-listing : listed twelve (session 0) (yes′ 0 0) Every 616 .length ≡ 616
+  pub longest-message : length (listing (rowsOf twelve Every)) ≡ 616
 
 pub examples : Examples
-unfolding computed history counts ends shuts drops resumes after charges tellsPassed onward follow
+unfolding computed listed history counts ends shuts drops resumes after charges tellsPassed onward follow
 examples =
     record {
       numbers-are = refl;
@@ -123,6 +128,8 @@ examples =
       refused-are = refl;
       after-refused = record { of-P = refl; of-Q = refl };
       next-is = refl;
+      longest-listing = refl;
+      longest-message = refl;
     }
 
 -- ---- two claims of one process that passed, as demand 3's `once` speaks of them: the call of the first is refused with 10, and the second removes the process
@@ -135,7 +142,7 @@ refusedAndEnded =
     ∷ End (session 0) (userYes 0 1) false
     ∷ []
 
-two-passed : TwoPassed nobody (history (fresh grants) refusedAndEnded) P
+pub two-passed : TwoPassed nobody (history (fresh grants) refusedAndEnded) P
 unfolding computed history counts ends shuts drops resumes after charges tellsPassed onward follow
 two-passed =
     record {
@@ -148,4 +155,35 @@ two-passed =
       one = record { session = session 0; claim = userYes 0 0; carried = refl; told = refl; before = []; lives = refl };
       stays = (live-not-gone, tt);
       two = record { session = session 0; claim = userYes 0 1; carried = refl; told = refl; before = 0 ∷ []; lives = refl };
+    }
+
+-- ---- two claims with one number that passed, the one of P's process and the other of Q's: no two of one name
+abbrev bothStarted : List Call
+bothStarted =
+    Open (session 0)
+    ∷ Select (session 0) 0x10
+    ∷ Start (session 0) (credential 0) P
+    ∷ Start (session 0) (credential 1) Q
+    ∷ []
+
+pub record SameNumber : Type 0 where
+  pub first : Event
+  pub second : Event
+  pub are : history (fresh grants) (bothStarted ++ (recorded 0 0 0 ∷ ListProcesses (session 0) (yes′ 1 0) Every 106 ∷ [])) ≡ history (fresh grants) bothStarted ++ (first ∷ second ∷ [])
+  pub one : IsPassedOf (told nobody (history (fresh grants) bothStarted) P) first
+  pub two : IsPassedOf (told nobody (history (fresh grants) bothStarted ++ (first ∷ [])) Q) second
+  pub same : one .claim .number ≡ two .claim .number
+  pub accepted : (first .answered ≡ 0) × (second .answered ≡ 0)
+
+pub same-number : SameNumber
+unfolding computed history counts ends shuts drops resumes after charges tellsPassed onward follow
+same-number =
+    record {
+      first = record { call = recorded 0 0 0; answered = 0 };
+      second = record { call = ListProcesses (session 0) (yes′ 1 0) Every 106; answered = 0 };
+      are = refl;
+      one = record { session = session 0; claim = userYes 0 0; carried = refl; told = refl; before = []; lives = refl };
+      two = record { session = session 0; claim = userYes 1 0; carried = refl; told = refl; before = []; lives = refl };
+      same = refl;
+      accepted = (refl, refl);
     }

@@ -22,7 +22,7 @@ use Rattle.claims.specs.declared.Phase.the-variants.{Closed, Opened, Chosen}
 use Rattle.claims.specs.declared.State.{State}
 use Rattle.claims.specs.declared.UserClaim.{UserClaim}
 use Rattle.claims.proofs.Laws.{clear-first, clear-rest, clear-when, clear-unless}
-use Rattle.calls.specs.Calls.{Call, Open, Close, Drop, Select, Start, Continue, Elevate, End, Record, List′, Kill, SetWord, isFull, hasNamed, namedPlace, reach, number}
+use Rattle.calls.specs.Calls.{Call, Open, Close, Drop, Select, Start, Continue, Elevate, End, Record, ListProcesses, Kill, SetWord, isFull, hasNamed, namedPlace, reach, number}
 use Rattle.lists.specs.Each.{Each}
 use Rattle.lists.proofs.Each.{Stands, found, each-fails}
 use Rattle.facts.specs.Facts.{processes}
@@ -116,7 +116,7 @@ module _ (st : State) where
   Facts (Drop s) = ActiveStands (ElevationIn s)
   Facts (End s u keep) = Claimed s u
   Facts (Record s claim class) = Admitted s claim
-  Facts (List′ s claim wanted room) = Admitted s claim
+  Facts (ListProcesses s claim wanted room) = Admitted s claim
   Facts (Kill s claim name) = Killed s claim name
   Facts (SetWord s claim c word) = Set s claim c
 
@@ -147,7 +147,7 @@ module _ (st : State) where
   facts (Drop s) e = stands (ElevationIn s) (clear-unless No.noProcess tt _ (clear-rest _ _ e))
   facts (End s u keep) e = passed s (ByUser u) (clear-first _ _ e)
   facts (Record s claim class) e = passed s claim (clear-first _ _ (clear-rest _ _ e))
-  facts (List′ s claim wanted room) e = passed s claim (clear-first _ _ (clear-rest _ _ e))
+  facts (ListProcesses s claim wanted room) e = passed s claim (clear-first _ _ (clear-rest _ _ e))
   facts (Kill s claim name) e =
       record {
         admission = passed s claim (clear-first _ _ e);

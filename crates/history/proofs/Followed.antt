@@ -30,7 +30,7 @@ use Rattle.claims.specs.declared.Claim.{Claim}
 use Rattle.claims.specs.declared.Claim.the-variants.{Elevated, ByUser}
 use Rattle.claims.specs.declared.State.{State}
 use Rattle.claims.specs.declared.UserClaim.{UserClaim}
-use Rattle.calls.specs.Calls.{Call, Open, Close, Drop, Select, Start, Continue, Elevate, End, Record, List′, Kill, SetWord, number, withTable, userProcess, elevation, activated, saved, oneMore, namedPlace, reach, counted, ended, effect, Protection, Free, Under, protection, protectedNumber, passes, charged, answerNumber, outcome}
+use Rattle.calls.specs.Calls.{Call, Open, Close, Drop, Select, Start, Continue, Elevate, End, Record, ListProcesses, Kill, SetWord, number, withTable, userProcess, elevation, activated, saved, oneMore, namedPlace, reach, counted, ended, effect, Protection, Free, Under, protection, protectedNumber, passes, charged, answerNumber, outcome}
 use Rattle.calls.specs.Run.{step, run}
 use Rattle.calls.proofs.Cut.{passed-claim, left-stopped, left-passed}
 use Rattle.calls.proofs.Laws.{answer-number}
@@ -235,7 +235,7 @@ module _ (n : Name) (st : State) (v : Rules st) where
       keep
       ∙ ap (ends s (u .credential) keep) (follows-counted n st v s (ByUser u) f)
   follows (Record s claim class) f = follows-counted n st v s claim f
-  follows (List′ s claim wanted room) f = follows-counted n st v s claim f
+  follows (ListProcesses s claim wanted room) f = follows-counted n st v s claim f
   follows (Kill s claim name) f =
       let among : Among = reach st (claimant st s claim) in
       follows-killed n (counted st s claim) (kept-counted st v s claim (f .admission)) name among (namedPlace st name among)

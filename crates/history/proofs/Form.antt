@@ -29,7 +29,7 @@ use Rattle.claims.specs.declared.Grants.{Grants}
 use Rattle.claims.specs.declared.Phase.{Phase}
 use Rattle.claims.specs.declared.State.{State}
 use Rattle.claims.specs.declared.UserClaim.{UserClaim}
-use Rattle.calls.specs.Calls.{Call, Open, Close, Drop, Select, Start, Continue, Elevate, End, Record, List′, Kill, SetWord, withTable, withPhase, withWord, userProcess, elevation, activated, saved, oneMore, namedPlace, reach, counted, ended, effect, taken, fresh}
+use Rattle.calls.specs.Calls.{Call, Open, Close, Drop, Select, Start, Continue, Elevate, End, Record, ListProcesses, Kill, SetWord, withTable, withPhase, withWord, userProcess, elevation, activated, saved, oneMore, namedPlace, reach, counted, ended, effect, taken, fresh}
 use Rattle.calls.specs.Run.{step, run}
 use Rattle.facts.specs.Facts.{processes, Rules, FormedGrants, FormedProcess, IsState}
 use Rattle.facts.proofs.Laws.{provisioned-low, chosen-low}
@@ -57,7 +57,7 @@ module _ (P : Process → Type 0) (st : State) where
   Begins (Drop s) = Unit {0}
   Begins (End s u keep) = Unit {0}
   Begins (Record s claim class) = Unit {0}
-  Begins (List′ s claim wanted room) = Unit {0}
+  Begins (ListProcesses s claim wanted room) = Unit {0}
   Begins (Kill s claim name) = Unit {0}
   Begins (SetWord s claim c word) = Unit {0}
 
@@ -114,7 +114,7 @@ module _ (P : Process → Type 0) (st : State) where
     each-effect (Drop s) f b = rw (standing-removed (st .table) _) (each-remove _ (f .inside) v)
     each-effect (End s u keep) f b = each-ended s u f keep
     each-effect (Record s claim class) f b = each-counted s claim f
-    each-effect (List′ s claim wanted room) f b = each-counted s claim f
+    each-effect (ListProcesses s claim wanted room) f b = each-counted s claim f
     each-effect (Kill s claim name) f b =
         let among : Among = reach st (claimant st s claim) in
         let i : ℕ = namedPlace st name among in
@@ -196,7 +196,7 @@ around st (Elevate s c name verdict) f = around-table st (appended (st .table) (
 around st (Drop s) f = around-table st _ (tidy-of _)
 around st (End s u keep) f = around-then (around-counted st s (ByUser u)) (around-ended _ _ keep)
 around st (Record s claim class) f = around-counted st s claim
-around st (List′ s claim wanted room) f = around-counted st s claim
+around st (ListProcesses s claim wanted room) f = around-counted st s claim
 around st (Kill s claim name) f = around-then (around-counted st s claim) (around-table (counted st s claim) _ (tidy-of _))
 around st (SetWord s claim c word) f =
     around-then (around-counted st s claim) (around-word (counted st s claim) c word (around-counted {F = Fits (SetWord s claim c word)} st s claim .owners .same c ∙ f .owner) (λ w. w))
@@ -229,7 +229,7 @@ module _ (st : State) (v : IsState st) where
   formed-begins (Drop s) f w = tt
   formed-begins (End s u keep) f w = tt
   formed-begins (Record s claim class) f w = tt
-  formed-begins (List′ s claim wanted room) f w = tt
+  formed-begins (ListProcesses s claim wanted room) f w = tt
   formed-begins (Kill s claim name) f w = tt
   formed-begins (SetWord s claim c word) f w = tt
 

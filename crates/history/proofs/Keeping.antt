@@ -28,7 +28,7 @@ use Rattle.claims.specs.declared.Claim.{Claim}
 use Rattle.claims.specs.declared.Claim.the-variants.{Elevated, ByUser}
 use Rattle.claims.specs.declared.Phase.the-variants.{Closed, Opened}
 use Rattle.claims.specs.declared.State.{State}
-use Rattle.calls.specs.Calls.{Call, Open, Close, Drop, Select, Start, Continue, Elevate, End, Record, List′, Kill, SetWord, withTable, userProcess, elevation, activated, saved, oneMore, namedPlace, counted, ended, effect, number, reach, Protection, Free, Under, protection, protectedNumber, refusedAfter, charged, left}
+use Rattle.calls.specs.Calls.{Call, Open, Close, Drop, Select, Start, Continue, Elevate, End, Record, ListProcesses, Kill, SetWord, withTable, userProcess, elevation, activated, saved, oneMore, namedPlace, counted, ended, effect, number, reach, Protection, Free, Under, protection, protectedNumber, refusedAfter, charged, left}
 use Rattle.calls.specs.declared.Outcome.{Outcome}
 use Rattle.calls.specs.Run.{step, run}
 use Rattle.calls.proofs.Cut.{after-passed}
@@ -196,7 +196,7 @@ module _ (st : State) (v : Rules st) where
       (stands-counted st s (ByUser u) f (isActive which) (active-more which) (activePlace st which) (f .stands) .inside)
       keep
   kept (Record s claim class) f = kept-counted st v s claim f
-  kept (List′ s claim wanted room) f = kept-counted st v s claim f
+  kept (ListProcesses s claim wanted room) f = kept-counted st v s claim f
   kept (Kill s claim name) f =
       let among : Among = reach st (claimant st s claim) in
       kept-removed (counted st s claim) (kept-counted st v s claim (f .admission)) (namedPlace st name among)

@@ -25,7 +25,7 @@ use Rattle.claims.specs.declared.Claim.{Claim}
 use Rattle.claims.specs.declared.Claim.the-variants.{Elevated, ByUser}
 use Rattle.claims.specs.declared.State.{State}
 use Rattle.claims.specs.declared.UserClaim.{UserClaim}
-use Rattle.calls.specs.Calls.{Call, Open, Close, Drop, Select, Start, Continue, Elevate, End, Record, List′, Kill, SetWord, number, Protection, Free, Under, protection, passes}
+use Rattle.calls.specs.Calls.{Call, Open, Close, Drop, Select, Start, Continue, Elevate, End, Record, ListProcesses, Kill, SetWord, number, Protection, Free, Under, protection, passes}
 use Rattle.calls.specs.Run.{step, run}
 use Rattle.calls.proofs.Laws.{answer-number}
 use Rattle.facts.specs.Facts.{processes, Rules}
@@ -115,7 +115,7 @@ module _ (n : Name) (st : State) where
   grows-after (End s u keep) e h =
       omega (arith, grows-counts s (ByUser u) o, grows-ends s (u .credential) keep (counts s (ByUser u) o) h)
   grows-after (Record s claim class) e h = grows-counts s claim o
-  grows-after (List′ s claim wanted room) e h = grows-counts s claim o
+  grows-after (ListProcesses s claim wanted room) e h = grows-counts s claim o
   grows-after (Kill s claim name) e h =
       split (sameName name n) (λ q. absurd (h (rw q))) (λ q. rw q (grows-counts s claim o))
   grows-after (SetWord s claim c word) e h = grows-counts s claim o
@@ -182,7 +182,7 @@ module _ (n : Name) (s : Session) (u : UserClaim) (ns : List ℕ) where
       ended true h = rw (counts-own s u ns, ends-own s (u .credential) true (u .number ∷ ns))
       ended false h = absurd (h (rw (counts-own s u ns, ends-own s (u .credential) false (u .number ∷ ns))))
   counts-one (Record t claim class) e h = rw (counts-same e)
-  counts-one (List′ t claim wanted room) e h = rw (counts-same e)
+  counts-one (ListProcesses t claim wanted room) e h = rw (counts-same e)
   counts-one (Kill t claim name) e h = split (sameName name n) (λ q. absurd (h (rw q))) (λ q. rw (q, counts-same e))
   counts-one (SetWord t claim c word) e h = rw (counts-same e)
 

@@ -2,7 +2,7 @@
 -- and wrong arguments included.
 -- Assumes nothing.
 use Prim.Native.Nat.{ℕ, _≤_, _<_}
-use mathlib.Core.Path.{_≡_, refl, ap, _∙_}
+use mathlib.Core.Path.{_≡_, refl, sym, ap, _∙_}
 use mathlib.Core.Logic.{_≢_}
 use mathlib.Core.Bool.{true, false}
 use mathlib.Core.List.{List, [], _∷_, _++_, map}
@@ -29,7 +29,8 @@ use Rattle.claims.specs.declared.Claim.{Claim}
 use Rattle.claims.specs.declared.Grants.{Grants}
 use Rattle.claims.specs.declared.State.{State}
 use Rattle.claims.specs.declared.UserClaim.{UserClaim}
-use Rattle.calls.specs.Calls.{Call, List′, Start, number, passes, listed, fresh}
+use Rattle.claims.specs.declared.Claim.the-variants.{ByUser}
+use Rattle.calls.specs.Calls.{Call, ListProcesses, Start, Under, number, passes, listed, fresh}
 use Rattle.calls.specs.Listing.{amongOf, rowOf, rowsOf, messageLength}
 use Rattle.calls.specs.Run.{step, run, numbers}
 use Rattle.calls.specs.declared.Wanted.{Wanted}
@@ -38,9 +39,10 @@ use Rattle.facts.specs.Facts.{processes, Rules, at}
 use Rattle.facts.proofs.Laws as Facts
 use Rattle.history.specs.History.{Event, history, callsIn}
 use Rattle.history.specs.Lives.{Life, Live, after, onward, follow, told, nobody, passed, count, down}
-use Rattle.history.specs.Demand.{Carries, Demand3, ByPlaces, look, Tells, IsClaimOf, SameOwners}
+use Rattle.history.specs.Demand.{Carries, OfOneName, Demand3, ByPlaces, look, Tells, IsClaimOf, SameOwners}
 use Rattle.history.proofs.Tables.{rules-fresh}
 use Rattle.history.proofs.Keeping.{rules-run}
+use Rattle.history.proofs.Read.{active-passed, reading}
 use Rattle.history.proofs.Form.{owners-step}
 use Rattle.history.proofs.Followed.{event, followed}
 use Rattle.history.proofs.Told.{down-below, tells-look, look-tells, numbers-told, claim-told}
@@ -63,7 +65,7 @@ module _ (st : State) (v : Rules st) where
   pub listing-fits : (s : Session) (claim : Claim) (wanted : Wanted) (room : ℕ) → listed st s claim wanted room .length ≤ 616
   unfolding listed
   listing-fits s claim wanted room =
-      split (eqb (number st (List′ s claim wanted room)) 0) (λ e. rw e (message-fits wanted)) (λ e. rw e (omega arith))
+      split (eqb (number st (ListProcesses s claim wanted room)) 0) (λ e. rw e (message-fits wanted)) (λ e. rw e (omega arith))
 
 -- ---- from any state that keeps the rules, told so
 module _ (first : State) (rules : Rules first) (tell : Name → Life) (tells : Tells tell first) (calls : List Call) where
@@ -106,6 +108,29 @@ module _ (first : State) (rules : Rules first) (tell : Name → Life) (tells : T
   new-from s u call k e =
       rw (claim-from s u call k e .is)
       (each-imp (λ n (h : n < u .number) (q : u .number ≡ n). omega arith) (down-below (u .number) (u .number) (omega arith)))
+
+-- ---- every user claim that passes is one of the process of exactly one name. So `once` of Demand3, which speaks of one name, speaks of every claim that passes; and of
+-- two claims with one number that pass it speaks where the name is the same
+pub one-name : (st : State) → Rules st → (tell : Name → Life) → Tells tell st → (s : Session) (u : UserClaim) (call : Call) → Carries s u call → passes st call ≡ true → OfOneName tell (event st call) (activeProcess st (UserOf s (u .credential)) .name)
+one-name st v tell tells s u call k e =
+    let claim = claim-told st v tell (tells-look tell st tells) s u call k e in
+    record {
+      of =
+          record {
+            session = s;
+            claim = u;
+            carried = k;
+            told = rw (answer-number st call) (reading st v call s u k (active-passed st call s u k e) ∙ e);
+            before = down (u .number);
+            lives = claim .is;
+          };
+      only =
+          λ other p.
+          let both : Under s (ByUser u) ≡ Under (p .session) (ByUser (p .claim)) = sym k ∙ p .carried in
+          let session-is : p .session ≡ s = cc in
+          let claim-is : p .claim ≡ u = cc in
+          claim .only other (p .before) (rw (session-is, claim-is) at (p .lives));
+    }
 
 -- ---- the clauses by places
 pub by-places : (tell : Name → Life) (events : List Event) (st : State) → Demand3 tell events st → ByPlaces tell events st

@@ -18,7 +18,7 @@ use Rattle.claims.specs.declared.Claim.{Claim}
 use Rattle.claims.specs.declared.Claim.the-variants.{Elevated, ByUser}
 use Rattle.claims.specs.declared.Class.{Class}
 use Rattle.claims.specs.declared.State.{State}
-use Rattle.calls.specs.Calls.{Call, Open, Close, Drop, Select, Start, Continue, Elevate, End, Record, List′, Kill, SetWord, number, withTable, effect, protection, fresh}
+use Rattle.calls.specs.Calls.{Call, Open, Close, Drop, Select, Start, Continue, Elevate, End, Record, ListProcesses, Kill, SetWord, number, withTable, effect, protection, fresh}
 use Rattle.calls.specs.Run.{step}
 use Rattle.calls.proofs.Sequences.{P, pairs, session, credential, class, userYes, yes′, computed}
 use Rattle.history.specs.History.{Event}
@@ -51,7 +51,7 @@ onRecord f a (Elevate s c name verdict) = a
 onRecord f a (Drop s) = a
 onRecord f a (End s u keep) = a
 onRecord f a (Record s claim class) = f s claim class
-onRecord f a (List′ s claim wanted room) = a
+onRecord f a (ListProcesses s claim wanted room) = a
 onRecord f a (Kill s claim name) = a
 onRecord f a (SetWord s claim c word) = a
 

@@ -42,6 +42,11 @@ pub record IsPassedOf (life : Life) (e : Event) : Type 0 where
   pub before : List ℕ
   pub lives : life ≡ Live session (claim .credential) before
 
+-- the claim of the event passed, and is one of the process of this name and of no other, by what is told of each name
+pub record OfOneName (tell : Name → Life) (e : Event) (name : Name) : Type 0 where
+  pub of : IsPassedOf (tell name) e
+  pub only : (other : Name) → IsPassedOf (tell other) e → other .bytes ≡ name .bytes
+
 -- none of the events removes the process of the name, which has this life before them
 abbrev pub Stays : Name → List Event → Life → Type 0
 Stays name [] life = Unit {0}
@@ -63,9 +68,9 @@ pub record TwoPassed (tell : Name → Life) (events : List Event) (name : Name) 
 pub record Demand3 (tell : Name → Life) (events : List Event) (st : State) : Type 0 where
   -- places, names, owners and sessions
   pub rules : Rules st
-  -- "the next number of each equal to the count of records accepted under it, taken from the history of calls"; order 3: "counts accepted claims plus these"
+  -- "The next number of each user process equals the count of records accepted under it since its start, taken from the history of calls." Order 3: "counts accepted claims plus these"
   pub numbers : Each (λ p. isElevation (p .kind) ≡ false → p .next ≡ count (told tell events (p .name))) (processes st)
-  -- "between a start and that process's removal no number is accepted twice": none passes a claim's check twice, though the call was refused afterwards
+  -- "So between a start and that process's removal no number is accepted twice": none passes a claim's check twice, though the call was refused afterwards
   pub once : (name : Name) (v : TwoPassed tell events name) → v .one .claim .number ≢ v .two .claim .number
   -- "and no listing exceeds 616 bytes"
   pub listing : (s : Session) (claim : Claim) (wanted : Wanted) (room : ℕ) → listed st s claim wanted room .length ≤ 616

@@ -8,7 +8,7 @@ use Rattle.names.specs.Names.{nameLength}
 use Rattle.names.specs.declared.Name.{Name}
 use Rattle.claims.specs.Module.{credentialCount}
 use Rattle.claims.specs.declared.Grants.{Grants}
-use Rattle.calls.specs.Calls.{Call, Open, Close, Drop, Select, Start, Continue, Elevate, End, Record, List′, Kill, SetWord}
+use Rattle.calls.specs.Calls.{Call, Open, Close, Drop, Select, Start, Continue, Elevate, End, Record, ListProcesses, Kill, SetWord}
 
 abbrev pub IsWhole : Name → Type 0
 IsWhole name = length (name .bytes) ≡ nameLength
@@ -26,7 +26,7 @@ Fits (Elevate s c name verdict) = IsWhole name
 Fits (Drop s) = Unit {0}
 Fits (End s u keep) = Unit {0}
 Fits (Record s claim class) = Unit {0}
-Fits (List′ s claim wanted room) = Unit {0}
+Fits (ListProcesses s claim wanted room) = Unit {0}
 Fits (Kill s claim name) = IsWhole name
 Fits (SetWord s claim c word) = IsWord word
 

@@ -12,7 +12,7 @@ use Rattle.names.specs.declared.Session.{Session}
 use Rattle.claims.specs.Numbers as No
 use Rattle.claims.specs.declared.Claim.{Claim}
 use Rattle.claims.specs.declared.Claim.the-variants.{Elevated, ByUser}
-use Rattle.calls.specs.Calls.{Call, Open, Close, Drop, Select, Start, Continue, Elevate, End, Record, List′, Kill, SetWord, Protection, Free, Under, protection}
+use Rattle.calls.specs.Calls.{Call, Open, Close, Drop, Select, Start, Continue, Elevate, End, Record, ListProcesses, Kill, SetWord, Protection, Free, Under, protection}
 use Rattle.history.specs.History.{Event}
 
 -- no process has the name; an active user process of a session and a credential has it; the elevation of a session; a credential's saved
@@ -89,7 +89,7 @@ after name (Elevate s c new verdict) life = cond (sameName new name) (Raised s) 
 after name (Drop s) life = drops s life
 after name (End s u keep) life = ends s (u .credential) keep (counts s (ByUser u) life)
 after name (Record s claim class) life = counts s claim life
-after name (List′ s claim wanted room) life = counts s claim life
+after name (ListProcesses s claim wanted room) life = counts s claim life
 after name (Kill s claim old) life = cond (sameName old name) Gone (counts s claim life)
 after name (SetWord s claim c word) life = counts s claim life
 

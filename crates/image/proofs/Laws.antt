@@ -409,7 +409,7 @@ module _ {st : State} (v : IsState st) where
   all-differ =
       by-pairwise (λ p q a. rw (differ-iff (p .name) (q .name) .1 (a .names))) (pairs-select isKept (v .rules .pairs))
 
-  -- "What a module wrote is always accepted"
+  -- what a module wrote is always accepted
   pub state-image : isImage (imageBytes st) ≡ true
   unfolding imageBytes
   state-image = image-is state-fit all-keepable all-differ

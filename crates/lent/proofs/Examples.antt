@@ -1,32 +1,47 @@
 -- Entries followed by hand: the definitions compute, and what the theorems ask is met.
 -- Assumes nothing.
 use Prim.Native.Nat.{ℕ, zero, suc}
-use mathlib.Core.Path.{_≡_, refl}
-use mathlib.Core.Bool.{true, false, cond}
-use mathlib.Core.List.{List, [], _∷_}
+use mathlib.Core.Path.{_≡_, refl, sym, subst, _∙_}
+use mathlib.Core.Bool.{Bool, true, false, cond}
+use mathlib.Core.List.{List, [], _∷_, _++_, map}
 use native.Mathlib.Omega.{arith}
 use lib.Dec.{eqb, ltb}
-use lib.ListN.{getD, replicate}
-use borrow.Author.Tests.{ltb-true}
-use Rattle.lists.proofs.Tests.{and-left, and-right}
+use lib.ListN.{length, getD, take, replicate}
+use borrow.Author.Tests.{ltb-true, le-ltb, eq-eqb}
+use Rattle.lists.specs.Each.{Each, each-nil, each-cons}
+use Rattle.lists.proofs.Tests.{split, and-left, and-right}
+use Rattle.lists.proofs.Lists.{length-select}
 use Rattle.rows.specs.Bytes.{Bytes}
-use Rattle.rows.specs.Rows.{every}
+use Rattle.rows.specs.Rows.{every, over}
 use Rattle.names.specs.Names.{zeroName}
-use Rattle.claims.specs.Numbers.{_unless_}
+use Rattle.names.specs.declared.Name.{Name}
+use Rattle.claims.specs.Numbers.{_when_, _unless_, _▸_}
 use Rattle.claims.specs.declared.Claim.the-variants.{Elevated}
-use Rattle.calls.specs.Calls.{Call, Open, Elevate, Start, List′, fresh}
+use Rattle.claims.specs.declared.State.{State}
+use Rattle.calls.specs.Calls.{Call, Open, Elevate, Start, ListProcesses, number, fresh}
+use Rattle.calls.specs.Run.{step, run, numbers}
 use Rattle.calls.specs.declared.Wanted.the-variants.{Every}
-use Rattle.layout.specs.Layout.{stateBytes}
+use Rattle.calls.proofs.Sequences.{P, Q, session, credential, Step, callsOf, Answered, after}
+use Rattle.facts.specs.Facts.{processes, IsState}
+use Rattle.layout.specs.Layout.{stateLength, stateBytes}
 use Rattle.state_record.specs.Entry.{entryNumber, entryBytes}
 use Rattle.arguments.specs.Arguments.{pairsOf}
 use Rattle.entries_unprotected.specs.Fresh.{canFresh}
 use Rattle.history.specs.History.{Event}
-use Rattle.history.specs.Lives.{nobody}
-use Rattle.history.specs.Fits.{IsWord}
+use Rattle.history.specs.Lives.{Life, Live, Gone, told, nobody}
+use Rattle.history.specs.Fits.{IsWord, Fits}
+use Rattle.history.proofs.Form.{state-step, state-fresh}
 use Rattle.image.specs.Image as Image
+use Rattle.image.specs.Image.{imageLong, isKept, savedOf, imageBytes, imageRoom, lacksRoom}
+use Rattle.image.proofs.Laws.{image-state}
 use Rattle.resumed.specs.Resumed.{toldBy}
-use Rattle.entries_image.specs.Entries.{restoreNumber}
-use Rattle.lent.specs.Lent.{Response, Made, Called, Listed, Renewed, Restored, Chain, none, called, renewed, restored, Since, begun, since}
+use Rattle.resumed.specs.Changes.{hasSaved, touchesImage, changesImage, newest}
+use Rattle.resumed.proofs.Examples.{opened, image, examples, grants, saving, others, resuming, kept-between}
+use Rattle.entries_image.specs.Entries.{imageNumber, ImageEntry, restoreNumber, RestoreEntry}
+use Rattle.lent.specs.Lent.{Response, Made, Called, Listed, Renewed, Restored, Entered, called, renewed, restored, Chain, none, then, Since, begun, since}
+use Rattle.lent.specs.Hosted.{Happening, Enters, PowerCycle, Hosted, none, kept, written, cycled, sinceAll}
+use Rattle.lent.proofs.Images.{image-written}
+use Rattle.lent.proofs.Theorems.{held, back, fine-number, fine-bytes}
 
 abbrev opening : Call
 opening = Open (record { 0 = 0 })
@@ -55,7 +70,7 @@ refusedInTheMiddle =
     ∷ []
 
 -- three calls were made, with the numbers that their entries answered
-three-calls : (w : Since) → since (begun (w .first) (w .tell)) refusedInTheMiddle .events ≡ answered opening 0 ∷ answered starting 3 ∷ answered (List′ (record { 0 = 0 }) Elevated Every 2) 3 ∷ []
+three-calls : (w : Since) → since (begun (w .first) (w .tell)) refusedInTheMiddle .events ≡ answered opening 0 ∷ answered starting 3 ∷ answered (ListProcesses (record { 0 = 0 }) Elevated Every 2) 3 ∷ []
 unfolding since
 three-calls w = refl
 
@@ -86,8 +101,8 @@ word-small i = small i 8
 
 chain : (slice : List ℕ) → Chain slice (Renewed flags words (1 unless canFresh slice flags words) ∷ Called true opening (entryNumber true (cond (canFresh slice flags words) (stateBytes (fresh (pairsOf flags words))) slice) opening) ∷ []) (entryBytes true (cond (canFresh slice flags words) (stateBytes (fresh (pairsOf flags words))) slice) opening)
 chain slice =
-    renewed word-small (record { number-is = refl; bytes-are = refl })
-    (called (λ e. tt) (record { number-is = refl; bytes-are = refl }) none)
+    then (renewed word-small (record { number-is = refl; bytes-are = refl }))
+    (then (called (λ e. tt) (record { number-is = refl; bytes-are = refl })) none)
 
 -- and a module from an image, one without credentials and rows, in whatever slice, and an open
 abbrev empty : List ℕ
@@ -108,5 +123,98 @@ left slice = cond (eqb (restoreNumber slice empty) 0) (stateBytes (Image.restore
 
 chain-restored : (slice : List ℕ) → Chain slice (Restored empty (restoreNumber slice empty) ∷ Called true opening (entryNumber true (left slice) opening) ∷ []) (entryBytes true (left slice) opening)
 chain-restored slice =
-    restored empty-bytes (record { number-is = refl; bytes-are = refl })
-    (called (λ e. tt) (record { number-is = refl; bytes-are = refl }) none)
+    then (restored empty-bytes (record { number-is = refl; bytes-are = refl }))
+    (then (called (λ e. tt) (record { number-is = refl; bytes-are = refl })) none)
+
+-- ---- a host that writes an image after each call that changes it, in a buffer that is long enough for every one
+abbrev buffer : List ℕ
+buffer = replicate 666 0
+
+module _ (st : State) (v : IsState st) where
+  called-on : {call : Call} {n : ℕ} → Fits call → number st call ≡ n → Entered (stateBytes st) (Called true call n) (stateBytes (step st call))
+  called-on {call} fits e = called (λ q. fits) (record { number-is = sym (fine-number st v call ∙ e); bytes-are = sym (fine-bytes st v call) })
+
+  room-enough : lacksRoom st (length buffer) ≡ false
+  unfolding lacksRoom imageRoom imageLong savedOf
+  room-enough = le-ltb (length buffer) (imageRoom st) (omega (arith, length-select isKept (processes st), v .rules .few))
+
+  number-done : imageNumber (stateBytes st) (length buffer) ≡ 0
+  unfolding imageNumber _when_ _unless_ _▸_
+  number-done = rw (held st v, back st v, room-enough)
+
+  image-on : ImageEntry (stateBytes st) buffer 0 (over 0 (imageRoom st) (imageBytes st) buffer) (imageRoom st)
+  image-on = record { number-is = sym number-done; image-is = rw (number-done, back st v); length-is = rw (number-done, back st v) }
+
+  image-there : take (imageRoom st) (over 0 (imageRoom st) (imageBytes st) buffer) ≡ imageBytes st
+  image-there = rw (back st v) at (image-written image-on (rw (back st v) v))
+
+abbrev entering : Step → Happening
+entering s = Enters (Called true (s .call) (s .answer))
+
+host : (st : State) → IsState st → (steps : List Step) → Each (λ s. Fits (s .call)) steps → Answered st steps → {image last end : List ℕ} {rest : List Happening} → Hosted (stateBytes (after st steps)) (newest image st (callsOf steps)) rest last end → Hosted (stateBytes st) image (map entering steps ++ rest) last end
+unfolding run numbers newest
+host st v [] fits e k = k
+host st v (s ∷ steps) (each-cons f fits) e {image} {last} {end} {rest} k =
+    let number-is : number st (s .call) ≡ s .answer = cc in
+    let more : Answered (step st (s .call)) steps = cc in
+    let next : State = step st (s .call) in
+    let is : IsState next = state-step st (s .call) f v in
+    let entered : Entered (stateBytes st) (Called true (s .call) (s .answer)) (stateBytes next) = called-on st v f number-is in
+    let go : (b : Bool) → changesImage st (s .call) (number st (s .call)) ≡ b → Hosted (stateBytes next) (cond b (imageBytes next) image) (map entering steps ++ rest) last end =
+    λ b c. host next is steps fits more (subst (λ x. Hosted (stateBytes (after next steps)) (newest (cond x (imageBytes next) image) next (callsOf steps)) rest last end) c k)
+    in
+    split (changesImage st (s .call) (number st (s .call)))
+    (λ c. written entered (image-on next is) (subst (λ l. Hosted (stateBytes next) l (map entering steps ++ rest) last end) (sym (image-there next is)) (go true c)))
+    (λ c. kept entered (rw (back st v, ← number-is) c) (go false c))
+
+-- P is started, counts a record and one that is refused after its claim, and is saved, which is written. Other calls change nothing of that; the power goes; a module is
+-- made from it in whatever slice of that length, and P goes on: 2 is refused with 9, and 3 is accepted
+abbrev lived : List Happening
+lived = map entering (saving ++ others) ++ (PowerCycle ∷ (map entering resuming ++ []))
+
+grants-state : IsState (fresh grants)
+grants-state =
+    let zero-word : IsWord 0 = omega arith in
+    state-fresh grants (record { many = refl; words = each-cons (omega arith) (each-cons zero-word (each-cons zero-word (each-cons zero-word (each-cons zero-word (each-cons zero-word (each-cons zero-word (each-cons zero-word each-nil))))))) })
+
+before-fit : Each (λ s. Fits (s .call)) (saving ++ others)
+before-fit =
+    each-cons tt (each-cons tt (each-cons refl (each-cons tt (each-cons tt (each-cons tt
+    (each-cons refl (each-cons tt (each-cons tt (each-cons tt (each-cons refl (each-cons tt (each-cons refl (each-cons refl (each-cons refl (each-cons tt (each-cons tt each-nil))))))))))))))))
+
+again-fit : Each (λ s. Fits (s .call)) resuming
+again-fit = each-cons tt (each-cons tt (each-cons refl (each-cons tt (each-cons tt each-nil))))
+
+image-bytes : Bytes image
+unfolding every
+image-bytes = bytes-by image refl
+
+restore-on : (slice : List ℕ) → length slice ≡ stateLength → RestoreEntry slice image 0 (stateBytes (Image.restored image))
+unfolding restoreNumber _unless_ _▸_
+restore-on slice e =
+    let long : eqb (length slice) stateLength ≡ true = eq-eqb (length slice) stateLength e in
+    record { number-is = rw (long, examples .accepted-is); bytes-are = rw (long, examples .accepted-is) }
+
+-- the flash's image in the end: P was continued, so it has no row
+abbrev rowless : List ℕ
+rowless = (1 ∷ 0 ∷ 8 ∷ 0 ∷ 10 ∷ 0 ∷ 0 ∷ 0 ∷ 42 ∷ 0 ∷ []) ++ ((31 ∷ 0 ∷ 0 ∷ 0 ∷ []) ++ replicate 28 0)
+
+abbrev end : List ℕ
+end = stateBytes (after (Image.restored image) resuming)
+
+resumed-hosted : Hosted (stateBytes (Image.restored image)) image (map entering resuming ++ []) end rowless
+unfolding opened hasSaved touchesImage newest
+resumed-hosted = host (Image.restored image) (image-state image image-bytes (examples .accepted-is)) resuming again-fit (kept-between .goes-on) none
+
+pub lived-hosted : (slice : List ℕ) → length slice ≡ stateLength → Hosted (stateBytes (fresh grants)) (imageBytes (fresh grants)) lived end rowless
+lived-hosted slice e =
+    host (fresh grants) grants-state (saving ++ others) before-fit (kept-between .numbers-are)
+    (rw (kept-between .newest-is) (cycled {slice = slice} image-bytes (restore-on slice e) resumed-hosted))
+
+-- what is then told: of P every number since its start, of Q nothing
+abbrev toldThen : Name → Life
+toldThen name = told (sinceAll (begun (fresh grants) nobody) lived .tell) (sinceAll (begun (fresh grants) nobody) lived .events) name
+
+pub lived-told : (toldThen P ≡ Live (session 0) (credential 0) (3 ∷ 2 ∷ 1 ∷ 0 ∷ [])) × (toldThen Q ≡ Gone)
+unfolding opened sinceAll
+lived-told = (refl, refl)

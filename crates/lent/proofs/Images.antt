@@ -24,7 +24,7 @@ use Rattle.image.specs.Image.{imageBytes, isImage, restored, cycled, imageRoom,
 use Rattle.image.proofs.Laws.{long-is, image-state, one-image, state-image, state-restored}
 use Rattle.entries_image.specs.Entries.{imageNumber, ImageEntry, restoreNumber, RestoreEntry}
 use Rattle.resumed.proofs.Theorems.{told-cut}
-use Rattle.lent.specs.Lent.{Since, Holds, Imaged}
+use Rattle.lent.specs.Lent.{Since, Holds, IsImageOf, Imaged}
 
 -- ---- a restore
 restore-number : (before image : List ℕ) → 0 ≡ restoreNumber before image → isImage image ≡ true
@@ -81,21 +81,29 @@ module _ {state old new : List ℕ} {long : ℕ} (e : ImageEntry state old 0 new
   image-later = rw (long-answered, new-is) (rw zero-add at (later-kept 0 (imageRoom st) (imageBytes st) old whole room))
 
 -- ---- of a slice in which entries ended: it makes the module that the calls come to, after a power cycle, and tells of each name what was told
-pub lent-imaged : (w : Since) {last old new : List ℕ} {long : ℕ} → Bytes last → Holds w last → ImageEntry last old 0 new long → Imaged w old new long
-lent-imaged w {last} {old} {new} {long} g h e =
-    let v : IsState (stateOf last) = holds-is last (h .holds) g in
-    let is : take long new ≡ imageBytes (stateOf last) = image-written e v in
+pub image-of : (w : Since) {last image : List ℕ} → IsState (stateOf last) → Holds w last → image ≡ imageBytes (stateOf last) → IsImageOf w image
+image-of w {last} v h is =
     record {
       accepted = rw is (state-image v);
       restored = rw is (state-restored v ∙ ap cycled (h .state));
       tells = λ name. rw is (told-cut (stateOf last) v (told (w .tell) (w .events)) (h .tells) name);
-      later-kept = image-later e v;
     }
 
--- ---- an image that is read and written again is the same bytes
-pub image-again : {before image after old new : List ℕ} {long : ℕ} → Bytes image → RestoreEntry before image 0 after → ImageEntry after old 0 new long → take long new ≡ image
-image-again {image = image} {after = after} h r e =
-    let is : isImage image ≡ true = restore-image r in
-    let v : IsState (restored image) = image-state image h is in
-    let back : stateOf after ≡ restored image = ap stateOf (restore-done r) ∙ state-back (v .formed) in
-    image-written e (rw back v) ∙ rw back (one-image image h is)
+pub lent-imaged : (w : Since) {last old new : List ℕ} {long : ℕ} → Bytes last → Holds w last → ImageEntry last old 0 new long → Imaged w old new long
+lent-imaged w {last} g h e =
+    let v : IsState (stateOf last) = holds-is last (h .holds) g in
+    record { image = image-of w v h (image-written e v); later-kept = image-later e v }
+
+-- ---- a module from an image: its image is that one; so an image that is read and written again is the same bytes
+module _ {before image after : List ℕ} (h : Bytes image) (r : RestoreEntry before image 0 after) where
+  made : IsState (restored image)
+  made = image-state image h (restore-image r)
+
+  back : stateOf after ≡ restored image
+  back = ap stateOf (restore-done r) ∙ state-back (made .formed)
+
+  pub restored-image : imageBytes (stateOf after) ≡ image
+  restored-image = rw back (one-image image h (restore-image r))
+
+  pub image-again : {old new : List ℕ} {long : ℕ} → ImageEntry after old 0 new long → take long new ≡ image
+  image-again e = image-written e (rw back made) ∙ restored-image

@@ -1,4 +1,5 @@
 pub mod Images
 pub mod Theorems
+pub mod Hosted
 pub mod Refusals
 pub mod Examples

@@ -24,7 +24,7 @@ use Rattle.claims.specs.declared.Claim.the-variants.{Elevated, ByUser}
 use Rattle.claims.specs.declared.State.{State}
 use Rattle.claims.specs.declared.UserClaim.{UserClaim}
 use Rattle.claims.proofs.Laws.{claim-stands}
-use Rattle.calls.specs.Calls.{Call, List′, number, counted, Protection, Free, Under, protection, protectedNumber, refusedAfter, charged, left, listed}
+use Rattle.calls.specs.Calls.{Call, ListProcesses, number, counted, Protection, Free, Under, protection, protectedNumber, refusedAfter, charged, left, listed}
 use Rattle.calls.specs.declared.Wanted.{Wanted}
 use Rattle.calls.proofs.Cut.{after-passed}
 use Rattle.calls.proofs.Laws.{refusal-leaves}
@@ -120,7 +120,7 @@ module _ {fine : Bool} {before : List ℕ} {call : Call} {n : ℕ} {after : List
 
 -- ---- and no byte of a listing's response; its length is 0
 module _ {fine : Bool} {before old after new : List ℕ} {s : Session} {claim : Claim} {wanted : Wanted} {n long : ℕ} (v : ListEntry fine before s claim wanted old n after new long) (h : n ≢ 0) where
-  not-done : isMade fine before ≡ true → number (stateOf before) (List′ s claim wanted (length old)) ≡ 0 → ⊥
+  not-done : isMade fine before ≡ true → number (stateOf before) (ListProcesses s claim wanted (length old)) ≡ 0 → ⊥
   unfolding entryNumber _unless_ _▸_
   not-done m y = h (v .entry .number-is ∙ rw (m, y))
 
@@ -135,5 +135,5 @@ module _ {fine : Bool} {before old after new : List ℕ} {s : Session} {claim : 
   unfolding entryLength listed
   length-none =
       split (isMade fine before)
-      (λ m. v .length-is ∙ rw (m, ne-eqb (number (stateOf before) (List′ s claim wanted (length old))) 0 (not-done m)))
+      (λ m. v .length-is ∙ rw (m, ne-eqb (number (stateOf before) (ListProcesses s claim wanted (length old))) 0 (not-done m)))
       (λ m. v .length-is ∙ rw m)

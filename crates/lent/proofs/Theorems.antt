@@ -23,7 +23,7 @@ use Rattle.names.proofs.Laws.{RowFits}
 use Rattle.claims.specs.Numbers.{_unless_, _▸_}
 use Rattle.claims.specs.declared.Claim.{Claim}
 use Rattle.claims.specs.declared.State.{State}
-use Rattle.calls.specs.Calls.{Call, List′, number, listed, fresh}
+use Rattle.calls.specs.Calls.{Call, ListProcesses, number, listed, fresh}
 use Rattle.calls.specs.Listing.{rowsOf, messageLength, listing}
 use Rattle.calls.specs.Run.{step, run}
 use Rattle.calls.specs.declared.Wanted.{Wanted}
@@ -48,37 +48,37 @@ use Rattle.history.proofs.Told.{look-tells}
 use Rattle.history.proofs.Form.{state-step, state-fresh}
 use Rattle.history.proofs.Theorems.{listing-fits, tells-from, tells-fresh, run-last, history-last, calls-of}
 use Rattle.image.specs.Image as Image
-use Rattle.image.specs.Image.{isImage, cycled}
+use Rattle.image.specs.Image.{isImage, imageBytes}
 use Rattle.image.proofs.Laws.{stands-is, image-state}
 use Rattle.resumed.specs.Resumed.{toldBy, cut}
 use Rattle.resumed.proofs.Theorems.{demand3-told, image-tells}
 use Rattle.entries_image.specs.Entries.{ImageEntry, restoreNumber, RestoreEntry}
-use Rattle.lent.specs.Lent.{Response, Made, Renewed, Restored, Chain, none, called, list-called, renewed, restored, Since, begun, noted, noting, since, Small, Holds, Lent}
-use Rattle.lent.proofs.Images.{restore-image, restore-done, lent-imaged}
+use Rattle.lent.specs.Lent.{Response, Made, Renewed, Restored, Entered, called, list-called, renewed, restored, Chain, none, then, Since, begun, noted, noting, since, Small, IsSmall, Holds, Lent, cycledSince, IsImageOf}
+use Rattle.lent.proofs.Images.{restore-image, restore-done, image-written, image-of}
 
 -- ---- an entry that makes no call
-not-fine-bytes : (b : List ℕ) (call : Call) → entryBytes false b call ≡ b
+pub not-fine-bytes : (b : List ℕ) (call : Call) → entryBytes false b call ≡ b
 unfolding isMade entryBytes
 not-fine-bytes b call = refl
 
 -- ---- an entry that makes one, on a slice that holds a state
 module _ (st : State) (v : IsState st) where
-  held : holdsState (stateBytes st) ≡ true
+  pub held : holdsState (stateBytes st) ≡ true
   held = holds-written v
 
-  back : stateOf (stateBytes st) ≡ st
+  pub back : stateOf (stateBytes st) ≡ st
   back = state-back (v .formed)
 
-  fine-number : (call : Call) → entryNumber true (stateBytes st) call ≡ number st call
+  pub fine-number : (call : Call) → entryNumber true (stateBytes st) call ≡ number st call
   unfolding isMade entryNumber _unless_ _▸_
   fine-number call = rw (held, back)
 
-  fine-bytes : (call : Call) → entryBytes true (stateBytes st) call ≡ stateBytes (step st call)
+  pub fine-bytes : (call : Call) → entryBytes true (stateBytes st) call ≡ stateBytes (step st call)
   unfolding isMade entryBytes step
   fine-bytes call = rw (held, back)
 
 -- ---- what is kept from entry to entry
-record Goes (w : Since) (b : List ℕ) : Type 0 where
+pub record Goes (w : Since) (b : List ℕ) : Type 0 where
   pub calls : List Call
   pub rules : Rules (w .first)
   pub tells : Tells (w .tell) (w .first)
@@ -94,16 +94,29 @@ module _ (w : Since) (b : List ℕ) (g : Goes w b) where
   abbrev st : State
   st = run (w .first) (g .calls)
 
+  pub goes-is : stateOf b ≡ run (w .first) (g .calls)
+  goes-is = ap stateOf (g .bytes) ∙ back st (g .is)
+
+  pub goes-state : IsState (stateOf b)
+  goes-state = subst IsState (sym goes-is) (g .is)
+
+  -- what a call that is made answers and leaves
+  module _ {call : Call} {n : ℕ} {after : List ℕ} (e : Entry true b call n after) where
+    pub made-number : n ≡ number (run (w .first) (g .calls)) call
+    made-number = e .number-is ∙ ap (λ x. entryNumber true x call) (g .bytes) ∙ fine-number st (g .is) call
+
+    pub made-bytes : after ≡ stateBytes (step (run (w .first) (g .calls)) call)
+    made-bytes = e .bytes-are ∙ ap (λ x. entryBytes true x call) (g .bytes) ∙ fine-bytes st (g .is) call
+
   goes-called : (fine : Bool) (call : Call) (n : ℕ) (after : List ℕ) → (fine ≡ true → Fits call) → Entry fine b call n after → Goes (noted fine call n w) after
   goes-called true call n after fits e =
-      let number-is : n ≡ number st call = e .number-is ∙ ap (λ x. entryNumber true x call) (g .bytes) ∙ fine-number st (g .is) call in
-      let event-is : record { call = call; answered = n } ≡ event st call = ap (λ m. record { call = call; answered = m }) (number-is ∙ sym (answer-number st call)) in
+      let event-is : record { call = call; answered = n } ≡ event st call = ap (λ m. record { call = call; answered = m }) (made-number e ∙ sym (answer-number st call)) in
       record {
         calls = g .calls ++ (call ∷ []);
         rules = g .rules;
         tells = g .tells;
         is = rw (run-last (w .first) (g .calls) call) (state-step st call (fits refl) (g .is));
-        bytes = rw (run-last (w .first) (g .calls) call) (e .bytes-are ∙ ap (λ x. entryBytes true x call) (g .bytes) ∙ fine-bytes st (g .is) call);
+        bytes = rw (run-last (w .first) (g .calls) call) (made-bytes e);
         events =
             ap (λ l. l ++ (record { call = call; answered = n } ∷ [])) (g .events)
             ∙ ap (λ x. history (w .first) (g .calls) ++ (x ∷ [])) event-is
@@ -120,14 +133,14 @@ module _ (w : Since) (b : List ℕ) (g : Goes w b) where
   unfolding listed listedBytes rowsOf rowsAmong
   later-in s claim wanted old =
       let rows : List Row = rowsOf st wanted in
-      split (eqb (number st (List′ s claim wanted (length old))) 0)
+      split (eqb (number st (ListProcesses s claim wanted (length old))) 0)
       (λ e. rw e (drop-at (listing rows) (drop (messageLength (length rows)) old) (messageLength (length rows)) (length-listing rows (rows-whole wanted))))
       (λ e. rw e)
 
   listing-small : (fine : Bool) (s : Session) (claim : Claim) (wanted : Wanted) (n : ℕ) (after : List ℕ) (r : Response) → ListEntry fine b s claim wanted (r .old) n after (r .new) (r .length) → Small r
   unfolding entryResponse entryLength
   listing-small fine s claim wanted n after r e =
-      let is : stateOf b ≡ st = ap stateOf (g .bytes) ∙ back st (g .is) in
+      let is : stateOf b ≡ st = goes-is in
       split (isMade fine b)
       (λ q.
       let long : r .length ≡ listed st s claim wanted (length (r .old)) .length = e .length-is ∙ rw (q, is) in
@@ -139,10 +152,10 @@ module _ (w : Since) (b : List ℕ) (g : Goes w b) where
       record { length-small = rw long (omega arith); later-kept = rw new })
 
   -- what is kept at the end is what is asked
-  goes-holds : Holds w b
+  pub goes-holds : Holds w b
   goes-holds =
       let calls-are : callsIn (w .events) ≡ g .calls = ap callsIn (g .events) ∙ calls-of (w .first) (g .calls) in
-      let is : stateOf b ≡ st = ap stateOf (g .bytes) ∙ back st (g .is) in
+      let is : stateOf b ≡ st = goes-is in
       record {
         holds = rw (g .bytes) (held st (g .is));
         state = rw calls-are is;
@@ -188,7 +201,7 @@ module _ (before flags words : List ℕ) (h : (i : ℕ) → IsWord (getD words i
 
 -- ---- a module from an image: one that was made, and one that was not
 module _ (before image : List ℕ) (h : Bytes image) where
-  goes-restored-done : {after : List ℕ} → RestoreEntry before image 0 after → Goes (begun (Image.restored image) (toldBy image)) after
+  pub goes-restored-done : {after : List ℕ} → RestoreEntry before image 0 after → Goes (begun (Image.restored image) (toldBy image)) after
   goes-restored-done e =
       let is : isImage image ≡ true = restore-image e in
       subst (Goes _) (sym (restore-done e)) (goes-begin (Image.restored image) (image-state image h is) (toldBy image) (image-tells image h is))
@@ -202,23 +215,26 @@ module _ (before image : List ℕ) (h : Bytes image) where
       (λ i. let z : n ≡ 14 = e .number-is ∙ rw (l, i) in rw z (subst (Goes w) (sym (e .bytes-are ∙ rw (l, i))) g)))
       (λ l. let z : n ≡ 1 = e .number-is ∙ rw l in rw z (subst (Goes w) (sym (e .bytes-are ∙ rw l)) g))
 
--- ---- entries one after another
+-- ---- an entry
+pub goes-on : {b after : List ℕ} {entry : Made} (w : Since) → Goes w b → Entered b entry after → Goes (noting entry w) after
+goes-on {b} {after} w g (called {fine} {call} {n} fits e) = goes-called w b g fine call n after fits e
+goes-on {b} {after} w g (list-called {fine} {s} {claim} {wanted} {n} {r} e) = goes-called w b g fine (ListProcesses s claim wanted (length (r .old))) n after (λ q. tt) (e .entry)
+goes-on {b} {after} w g (renewed {flags} {words} {n} h e) = goes-renewed b flags words h w g n after e
+goes-on {b} {after} w g (restored {image} {n} h e) = goes-restored b image h w g n after e
+
+small-on : {b after : List ℕ} {entry : Made} (w : Since) → Goes w b → Entered b entry after → IsSmall entry
+small-on w g (called fits e) = tt
+small-on {b} {after} w g (list-called {fine} {s} {claim} {wanted} {n} {r} e) = listing-small w b g fine s claim wanted n after r e
+small-on w g (renewed h e) = tt
+small-on w g (restored h e) = tt
+
+-- entries one after another
 lent-by : {b last : List ℕ} {entries : List Made} (w : Since) → Goes w b → Chain b entries last → Lent w entries last
 unfolding since
 lent-by {b} w g none = record { holds = goes-holds w b g; listings = each-nil }
-lent-by {b} w g (called {fine} {call} {n} {after = after} fits e k) =
-    let r = lent-by (noted fine call n w) (goes-called w b g fine call n after fits e) k in
-    record { holds = r .holds; listings = each-cons tt (r .listings) }
-lent-by {b} w g (list-called {fine} {s} {claim} {wanted} {n} {r} {after = after} e k) =
-    let call : Call = List′ s claim wanted (length (r .old)) in
-    let rest = lent-by (noted fine call n w) (goes-called w b g fine call n after (λ q. tt) (e .entry)) k in
-    record { holds = rest .holds; listings = each-cons (listing-small w b g fine s claim wanted n after r e) (rest .listings) }
-lent-by {b} w g (renewed {flags} {words} {n} {after = after} h e k) =
-    let r = lent-by (noting (Renewed flags words n) w) (goes-renewed b flags words h w g n after e) k in
-    record { holds = r .holds; listings = each-cons tt (r .listings) }
-lent-by {b} w g (restored {image} {n} {after = after} h e k) =
-    let r = lent-by (noting (Restored image n) w) (goes-restored b image h w g n after e) k in
-    record { holds = r .holds; listings = each-cons tt (r .listings) }
+lent-by w g (then {entry = entry} e k) =
+    let rest = lent-by (noting entry w) (goes-on w g e) k in
+    record { holds = rest .holds; listings = each-cons (small-on w g e) (rest .listings) }
 
 -- from any slice that holds a state, whoever wrote it, and whatever was told of that state
 pub lent-held : (b : List ℕ) → Bytes b → holdsState b ≡ true → (tell : Name → Life) → Tells tell (stateOf b) → {entries : List Made} {last : List ℕ} → Chain b entries last → Lent (begun (stateOf b) tell) entries last
@@ -226,25 +242,33 @@ lent-held b g h tell t k =
     lent-by (begun (stateOf b) tell) (subst (Goes _) (one-form b h g) (goes-begin (stateOf b) (holds-is b h g) tell t)) k
 
 -- from a fresh module on
-pub lent-made : {before flags words after : List ℕ} → ((i : ℕ) → IsWord (getD words i 0)) → FreshEntry before flags words 0 after → {entries : List Made} {last : List ℕ} → Chain after entries last → Lent (begun (fresh (pairsOf flags words)) nobody) entries last
+pub goes-fresh : {before flags words after : List ℕ} → ((i : ℕ) → IsWord (getD words i 0)) → FreshEntry before flags words 0 after → Goes (begun (fresh (pairsOf flags words)) nobody) after
 unfolding _unless_
-lent-made {before} {flags} {words} h e k =
+goes-fresh {before} {flags} {words} h e =
     split (canFresh before flags words)
-    (λ can. lent-by (begun (fresh (pairsOf flags words)) nobody) (goes-made before flags words h can e) k)
+    (λ can. goes-made before flags words h can e)
     (λ can. let z : 0 ≡ 1 = e .number-is ∙ rw can in absurd (omega arith))
+
+pub lent-made : {before flags words after : List ℕ} → ((i : ℕ) → IsWord (getD words i 0)) → FreshEntry before flags words 0 after → {entries : List Made} {last : List ℕ} → Chain after entries last → Lent (begun (fresh (pairsOf flags words)) nobody) entries last
+lent-made {flags = flags} {words = words} h e k = lent-by (begun (fresh (pairsOf flags words)) nobody) (goes-fresh h e) k
 
 -- from a module that was restored on: "Demand 3 from then on counts from the number in the image"
 pub lent-restored : {before image after : List ℕ} → Bytes image → RestoreEntry before image 0 after → {entries : List Made} {last : List ℕ} → Chain after entries last → Lent (begun (Image.restored image) (toldBy image)) entries last
 lent-restored {before} {image} h e k = lent-by (begun (Image.restored image) (toldBy image)) (goes-restored-done before image h e) k
 
+-- ---- a module from the image of what entries left, in whatever slice
+pub goes-again : (w : Since) {last image slice after : List ℕ} → IsState (stateOf last) → Holds w last → Bytes image → image ≡ imageBytes (stateOf last) → RestoreEntry slice image 0 after → Goes (cycledSince w) after
+goes-again w {image = image} {after = after} v h g is r =
+    let i : IsImageOf w image = image-of w v h is in
+    let made : IsState (Image.restored image) = image-state image g (i .accepted) in
+    let tell : Name → Life = cycledSince w .tell in
+    let tells : Tells tell (Image.restored image) = look-tells (Image.restored image) (made .rules) tell (λ n. sym (i .tells n) ∙ ap (look n) (sym (stands-is image))) in
+    subst (λ first. Goes (begun first tell) after) (i .restored)
+    (subst (Goes _) (sym (restore-done r)) (goes-begin (Image.restored image) made tell tells))
+
 -- through a power cycle: entries, the image of what they left, a module from it in whatever slice, and entries again. They go on from what was told, cut there:
 -- of a process that was saved, none of the numbers that were accepted before is accepted again
-pub lent-through : (w : Since) {last old new before after : List ℕ} {long : ℕ} → Bytes last → Holds w last → Bytes new → ImageEntry last old 0 new long → RestoreEntry before (take long new) 0 after → {entries : List Made} {end : List ℕ} → Chain after entries end → Lent (begun (cycled (run (w .first) (callsIn (w .events)))) (λ name. cut (told (w .tell) (w .events) name))) entries end
-lent-through w {new = new} {after = after} {long = long} g h b e r {entries} {end} k =
-    let image : List ℕ = take long new in
-    let tell : Name → Life = λ name. cut (told (w .tell) (w .events) name) in
-    let i = lent-imaged w g h e in
-    let v : IsState (Image.restored image) = image-state image (bytes-take long new b) (i .accepted) in
-    let t : Tells tell (Image.restored image) = look-tells (Image.restored image) (v .rules) tell (λ n. sym (i .tells n) ∙ ap (look n) (sym (stands-is image))) in
-    subst (λ first. Lent (begun first tell) entries end) (i .restored)
-    (lent-by (begun (Image.restored image) tell) (subst (Goes _) (sym (restore-done r)) (goes-begin (Image.restored image) v tell t)) k)
+pub lent-through : (w : Since) {last old new before after : List ℕ} {long : ℕ} → Bytes last → Holds w last → Bytes new → ImageEntry last old 0 new long → RestoreEntry before (take long new) 0 after → {entries : List Made} {end : List ℕ} → Chain after entries end → Lent (cycledSince w) entries end
+lent-through w {last = last} {new = new} {long = long} g h b e r k =
+    let v : IsState (stateOf last) = holds-is last (h .holds) g in
+    lent-by (cycledSince w) (goes-again w v h (bytes-take long new b) (image-written e v) r) k

@@ -13,7 +13,7 @@ use Rattle.names.specs.declared.Session.{Session}
 use Rattle.claims.specs.Numbers as No
 use Rattle.claims.specs.declared.Claim.{Claim}
 use Rattle.claims.specs.declared.State.{State}
-use Rattle.calls.specs.Calls.{Call, List′, fresh}
+use Rattle.calls.specs.Calls.{Call, ListProcesses, fresh}
 use Rattle.calls.specs.Run.{run}
 use Rattle.calls.specs.declared.Wanted.{Wanted}
 use Rattle.layout.specs.Layout.{stateOf, stateBytes, holdsState}
@@ -48,21 +48,27 @@ pub data Made : Type 0 where
   -- a module from an image: its bytes, and the number
   Restored : List ℕ → ℕ → Made
 
--- each by the contract of its entry. Of a call's arguments their types are told: a name of 48 bytes, a word of 32 bits
-pub data Chain : List ℕ → List Made → List ℕ → Type 0 where
-  none : {b : List ℕ} → Chain b [] b
-  called : {fine : Bool} {call : Call} {n : ℕ} {before after last : List ℕ} {entries : List Made}
+-- an entry on a slice, and the slice afterwards, by the entry's contract. Of a call's arguments their types are told: a name of 48 bytes, a word of 32 bits
+pub data Entered : List ℕ → Made → List ℕ → Type 0 where
+  called : {fine : Bool} {call : Call} {n : ℕ} {before after : List ℕ}
       → (fine ≡ true → Fits call) → Entry fine before call n after
-      → Chain after entries last → Chain before (Called fine call n ∷ entries) last
-  list-called : {fine : Bool} {s : Session} {claim : Claim} {wanted : Wanted} {n : ℕ} {r : Response} {before after last : List ℕ} {entries : List Made}
+      → Entered before (Called fine call n) after
+  list-called : {fine : Bool} {s : Session} {claim : Claim} {wanted : Wanted} {n : ℕ} {r : Response} {before after : List ℕ}
       → ListEntry fine before s claim wanted (r .old) n after (r .new) (r .length)
-      → Chain after entries last → Chain before (Listed fine s claim wanted n r ∷ entries) last
-  renewed : {flags words : List ℕ} {n : ℕ} {before after last : List ℕ} {entries : List Made}
+      → Entered before (Listed fine s claim wanted n r) after
+  renewed : {flags words : List ℕ} {n : ℕ} {before after : List ℕ}
       → ((i : ℕ) → IsWord (getD words i 0)) → FreshEntry before flags words n after
-      → Chain after entries last → Chain before (Renewed flags words n ∷ entries) last
-  restored : {image : List ℕ} {n : ℕ} {before after last : List ℕ} {entries : List Made}
+      → Entered before (Renewed flags words n) after
+  restored : {image : List ℕ} {n : ℕ} {before after : List ℕ}
       → Bytes image → RestoreEntry before image n after
-      → Chain after entries last → Chain before (Restored image n ∷ entries) last
+      → Entered before (Restored image n) after
+
+-- entries one after another
+pub data Chain : List ℕ → List Made → List ℕ → Type 0 where
+  none : {slice : List ℕ} → Chain slice [] slice
+  then : {before after last : List ℕ} {entry : Made} {entries : List Made}
+      → Entered before entry after → Chain after entries last
+      → Chain before (entry ∷ entries) last
 
 -- ---- since when it is told: the state that stood then, what was told of each name, and what was called since, with the numbers that the entries answered
 pub record Since : Type 0 where
@@ -81,7 +87,7 @@ noted fine call n w =
 -- by an entry. With a fresh module or a restored one it begins anew; one that was refused is none
 abbrev pub noting : Made → Since → Since
 noting (Called fine call n) w = noted fine call n w
-noting (Listed fine s claim wanted n r) w = noted fine (List′ s claim wanted (length (r .old))) n w
+noting (Listed fine s claim wanted n r) w = noted fine (ListProcesses s claim wanted (length (r .old))) n w
 noting (Renewed flags words n) w = cond (eqb n No.done) (begun (fresh (pairsOf flags words)) nobody) w
 noting (Restored image n) w = cond (eqb n No.done) (begun (Image.restored image) (toldBy image)) w
 
@@ -119,12 +125,20 @@ pub record Lent (w : Since) (entries : List Made) (last : List ℕ) : Type 0 whe
   pub holds : Holds (since w entries) last
   pub listings : Each IsSmall entries
 
--- ---- the image that is written of such a slice: `new` is the buffer afterwards, `old` what it held, `long` the length that was answered
-pub record Imaged (w : Since) (old new : List ℕ) (long : ℕ) : Type 0 where
-  -- "What a module wrote is always accepted"
-  pub accepted : isImage (take long new) ≡ true
+-- ---- a power cycle: it is told since the module that the calls come to, with its saved processes alone, and of each name what was told, cut there
+abbrev pub cycledSince : Since → Since
+cycledSince w = begun (cycled (run (w .first) (callsIn (w .events)))) (λ name. cut (told (w .tell) (w .events) name))
+
+-- what the image of such a slice is
+pub record IsImageOf (w : Since) (image : List ℕ) : Type 0 where
+  -- what a module wrote is always accepted
+  pub accepted : isImage image ≡ true
   -- it makes the module that the calls come to, after a power cycle
-  pub restored : Image.restored (take long new) ≡ cycled (run (w .first) (callsIn (w .events)))
+  pub restored : Image.restored image ≡ cycledSince w .first
   -- and tells of each name what was told, cut there
-  pub tells : (name : Name) → toldBy (take long new) name ≡ cut (told (w .tell) (w .events) name)
+  pub tells : (name : Name) → toldBy image name ≡ cycledSince w .tell name
+
+-- the one that is written: `new` is the buffer afterwards, `old` what it held, `long` the length that was answered
+pub record Imaged (w : Since) (old new : List ℕ) (long : ℕ) : Type 0 where
+  pub image : IsImageOf w (take long new)
   pub later-kept : drop long new ≡ drop long old

@@ -8,17 +8,22 @@ use lib.ListN.{replicate}
 use Rattle.rows.specs.Bytes.{numberOf, numberAt}
 use Rattle.rows.specs.Rows.{rows, every, pairwise}
 use Rattle.table.specs.Table.{standing}
-use Rattle.calls.specs.Calls.{Call, Open, Select, Start, Continue, End, Record, Kill}
-use Rattle.calls.specs.Run.{run}
-use Rattle.calls.proofs.Sequences.{P, Q, session, credential, class, userYes, yes′, computed}
+use Rattle.claims.specs.declared.Claim.the-variants.{Elevated}
+use Rattle.claims.specs.declared.Grants.{Grants}
+use Rattle.claims.specs.declared.State.{State}
+use Rattle.calls.specs.Calls.{Call, Open, Close, Drop, Select, Start, Continue, Elevate, End, Record, Kill, number, fresh}
+use Rattle.calls.specs.Run.{step, run}
+use Rattle.calls.proofs.Sequences.{P, Q, R, session, credential, class, userYes, yes′, Step, _⇒_, callsOf, Answered, after, computed}
 use Rattle.history.specs.History.{Event, history}
-use Rattle.history.specs.Lives.{Life, Gone, Live, Kept, passed, count, told, counts, ends, shuts, drops, resumes, after, charges, tellsPassed, onward, follow}
+use Rattle.history.specs.Lives as Lives
+use Rattle.history.specs.Lives.{Life, Gone, Live, Kept, passed, count, told, counts, ends, shuts, drops, resumes, charges, tellsPassed, onward, follow}
 use Rattle.image.specs.Image.{numbersIn, maskIn, rowCountIn, grantsSaid, grantsIn, savedFrom, keptIn, restored, imageLong, headFits, wordFits, isKeepable, differ, isImage, imageBytes, imageOf, numbersBytes, maskOf, wordIn, savedOf, savedBytes}
 use Rattle.resumed.specs.Resumed.{toldSince, starts, isNew, toldBy}
+use Rattle.resumed.specs.Changes.{hasSaved, touchesImage, changesImage, newest}
 
 -- all that the examples compute with
 unfoldable pub opened : Type 1
-unfolding computed history counts ends shuts drops resumes after charges tellsPassed onward follow passed starts isNew numberOf numberAt rows every pairwise numbersIn maskIn rowCountIn grantsSaid grantsIn savedFrom keptIn restored imageLong headFits wordFits isKeepable differ isImage imageBytes imageOf numbersBytes maskOf wordIn savedOf savedBytes
+unfolding computed history counts ends shuts drops resumes Lives.after charges tellsPassed onward follow passed starts isNew numberOf numberAt rows every pairwise numbersIn maskIn rowCountIn grantsSaid grantsIn savedFrom keptIn restored imageLong headFits wordFits isKeepable differ isImage imageBytes imageOf numbersBytes maskOf wordIn savedOf savedBytes
 opened = Type 0
 
 -- credential 0 has the classes 0 to 4, no other is provisioned; P is saved, with next number 3
@@ -104,3 +109,63 @@ pub record Cycled : Type 0 where
 pub cycled : Cycled
 unfolding opened
 cycled = record { of-P = refl; of-Q = refl; then-P = refl; then-Q = refl }
+
+-- ---- an image written where the list says so, and a power cycle some calls later. Credential 0 alone is provisioned, with the classes 0 to 4
+abbrev pub grants : List Grants
+grants = record { provisioned = true; word = 31 } ∷ replicate 7 (record { provisioned = false; word = 0 })
+
+-- P counts a record and one that is refused after its claim, and is saved: its image is `image`, with next number 3
+abbrev pub saving : List Step
+saving =
+    (Open (session 0) ⇒ 0)
+    ∷ (Select (session 0) 0x10 ⇒ 0)
+    ∷ (Start (session 0) (credential 0) P ⇒ 0)
+    ∷ (recorded 0 ⇒ 0)
+    ∷ (Record (session 0) (yes′ 0 1) (class 5) ⇒ 10)
+    ∷ (End (session 0) (userYes 0 2) true ⇒ 0)
+    ∷ []
+
+-- other calls, some refused, none of which changes it; a kill of an active process is among them, and a continue and an end with keep that are refused
+abbrev pub others : List Step
+others =
+    (Start (session 0) (credential 0) Q ⇒ 0)
+    ∷ (recorded 0 ⇒ 0)
+    ∷ (recorded 0 ⇒ 9)
+    ∷ (Record (session 0) (yes′ 0 1) (class 5) ⇒ 10)
+    ∷ (Continue (session 0) (credential 0) P ⇒ 7)
+    ∷ (End (session 0) (userYes 0 9) true ⇒ 9)
+    ∷ (Kill (session 0) (yes′ 0 2) R ⇒ 6)
+    ∷ (Elevate (session 0) (credential 0) R true ⇒ 0)
+    ∷ (Kill (session 0) Elevated Q ⇒ 0)
+    ∷ (Drop (session 0) ⇒ 0)
+    ∷ (Close (session 0) ⇒ 0)
+    ∷ []
+
+-- after the restore: P goes on at 3, and no number below is good
+abbrev pub resuming : List Step
+resuming =
+    (Open (session 0) ⇒ 0)
+    ∷ (Select (session 0) 0x10 ⇒ 0)
+    ∷ (Continue (session 0) (credential 0) P ⇒ 0)
+    ∷ (recorded 2 ⇒ 9)
+    ∷ (recorded 3 ⇒ 0)
+    ∷ []
+
+-- which of the calls change the image
+abbrev changing : State → List Call → List Bool
+changing st [] = []
+changing st (call ∷ calls) = changesImage st call (number st call) ∷ changing (step st call) calls
+
+pub record KeptBetween : Type 0 where
+  pub numbers-are : Answered (fresh grants) (saving ++ others)
+  -- one is written after the end, and none later: it is that of the last state
+  pub written-once : changing (fresh grants) (callsOf (saving ++ others)) ≡ replicate 5 false ++ (true ∷ replicate 11 false)
+  pub newest-is : newest (imageBytes (fresh grants)) (fresh grants) (callsOf (saving ++ others)) ≡ image
+  pub image-is : imageBytes (after (fresh grants) (saving ++ others)) ≡ image
+  pub goes-on : Answered (restored image) resuming
+  -- the continue changes it again: until one is written, a power cycle takes P back to 3
+  pub continue-changes : changing (restored image) (callsOf resuming) ≡ false ∷ false ∷ true ∷ false ∷ false ∷ []
+
+pub kept-between : KeptBetween
+unfolding opened hasSaved touchesImage newest
+kept-between = record { numbers-are = refl; written-once = refl; newest-is = refl; image-is = refl; goes-on = refl; continue-changes = refl }

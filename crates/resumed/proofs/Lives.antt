@@ -15,7 +15,7 @@ use Rattle.names.specs.declared.Name.{Name}
 use Rattle.names.specs.declared.Session.{Session}
 use Rattle.claims.specs.declared.Claim.{Claim}
 use Rattle.claims.specs.declared.Claim.the-variants.{Elevated, ByUser}
-use Rattle.calls.specs.Calls.{Call, Open, Close, Drop, Select, Start, Continue, Elevate, End, Record, List′, Kill, SetWord, Protection, Free, Under, protection}
+use Rattle.calls.specs.Calls.{Call, Open, Close, Drop, Select, Start, Continue, Elevate, End, Record, ListProcesses, Kill, SetWord, Protection, Free, Under, protection}
 use Rattle.history.specs.History.{Event}
 use Rattle.history.specs.Lives.{Life, Gone, Live, Raised, Kept, passed, count, sameSession, isUserOf, counts, ends, shuts, drops, resumes, after, charges, tellsPassed, onward, follow}
 use Rattle.resumed.specs.Resumed.{bare, starts, begins, isNew}
@@ -98,7 +98,7 @@ module _ (old : List ℕ) where
   after-onto n (Drop s) h life = drops-onto s life
   after-onto n (End s u keep) h life = ap (ends s (u .credential) keep) (counts-onto s (ByUser u) life) ∙ ends-onto s (u .credential) keep (counts s (ByUser u) life)
   after-onto n (Record s claim class) h life = counts-onto s claim life
-  after-onto n (List′ s claim wanted room) h life = counts-onto s claim life
+  after-onto n (ListProcesses s claim wanted room) h life = counts-onto s claim life
   after-onto n (Kill s claim m) h life = split (sameName m n) (λ e. rw e) (λ e. rw e (counts-onto s claim life))
   after-onto n (SetWord s claim c word) h life = counts-onto s claim life
 
@@ -135,7 +135,7 @@ after-starts n (Elevate s c new verdict) h a b = rw h
 after-starts n (Drop s) h a b = clash h refl
 after-starts n (End s u keep) h a b = clash h refl
 after-starts n (Record s claim class) h a b = clash h refl
-after-starts n (List′ s claim wanted room) h a b = clash h refl
+after-starts n (ListProcesses s claim wanted room) h a b = clash h refl
 after-starts n (Kill s claim m) h a b = clash h refl
 after-starts n (SetWord s claim c word) h a b = clash h refl
 
@@ -171,7 +171,7 @@ after-gone n (Elevate s c new verdict) h = rw h
 after-gone n (Drop s) h = refl
 after-gone n (End s u keep) h = refl
 after-gone n (Record s claim class) h = counts-gone s claim
-after-gone n (List′ s claim wanted room) h = counts-gone s claim
+after-gone n (ListProcesses s claim wanted room) h = counts-gone s claim
 after-gone n (Kill s claim m) h = split (sameName m n) (λ e. rw e) (λ e. rw e (counts-gone s claim))
 after-gone n (SetWord s claim c word) h = counts-gone s claim
 

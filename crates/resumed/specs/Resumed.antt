@@ -15,7 +15,7 @@ use Rattle.table.specs.Table.{isElevation}
 use Rattle.claims.specs.Numbers as No
 use Rattle.claims.specs.declared.State.{State}
 use Rattle.claims.specs.declared.UserClaim.{UserClaim}
-use Rattle.calls.specs.Calls.{Call, Open, Close, Drop, Select, Start, Continue, Elevate, End, Record, List′, Kill, SetWord}
+use Rattle.calls.specs.Calls.{Call, Open, Close, Drop, Select, Start, Continue, Elevate, End, Record, ListProcesses, Kill, SetWord}
 use Rattle.facts.specs.Facts.{processes}
 use Rattle.history.specs.History.{Event}
 use Rattle.history.specs.Lives.{Life, Gone, Live, Raised, Kept, passed, count, told, down}
@@ -46,7 +46,7 @@ starts name (Elevate s c new verdict) = sameName new name
 starts name (Drop s) = false
 starts name (End s u keep) = false
 starts name (Record s claim class) = false
-starts name (List′ s claim wanted room) = false
+starts name (ListProcesses s claim wanted room) = false
 starts name (Kill s claim old) = false
 starts name (SetWord s claim c word) = false
 

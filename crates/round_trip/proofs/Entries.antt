@@ -22,7 +22,7 @@ use Rattle.round_trip.specs.RoundTrip.{ReadsAs, PieceReadsAs, bufferAfte
 use Rattle.round_trip.proofs.Buffers.{buffer-is-read, piece-buffer-is-read}
 
 -- what a slice of seven was lent for is handed out
-given-done : {A : Type 0} {number : ℕ} (value before : A) → number ≡ No.done → given number value before ≡ value
+pub given-done : {A : Type 0} {number : ℕ} (value before : A) → number ≡ No.done → given number value before ≡ value
 unfolding given
 given-done {A} {number} value before e = rw e
 

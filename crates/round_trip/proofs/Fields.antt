@@ -15,16 +15,16 @@ use Rattle.rows.proofs.Bytes.{length-bytes, number-back}
 use Rattle.formats.specs.declared.Field.{Field}
 use Rattle.formats.specs.declared.Field.the-variants.{Unused}
 use Rattle.formats.specs.declared.Layout.{Layout}
-use Rattle.formats.specs.Formats.{formOf, fieldsOf}
+use Rattle.formats.specs.Formats.{formOf, meant, isWithin, isSingle, isAllowed, fieldsOf}
 use Rattle.formats.proofs.Laws.{form-sound, bits-sound}
-use Rattle.fields.specs.Fields.{meant, isAllowed, valueCount, fields, valuesIn, areAllowed, fieldBytes}
+use Rattle.fields.specs.Fields.{fields, valuesIn, areAllowed, fieldBytes}
 use Rattle.fields.proofs.Laws.{fields-from}
 
 -- ---- one field: a value that may stand in it has no reserved bit, and its bytes hold it
 module _ (f : Field) (v : ℕ) (h : isAllowed (formOf f) v ≡ true) where
   at-most : v ≤ formOf f .most
-  unfolding isAllowed
-  at-most = leb-true v (formOf f .most) (and-right (leb (formOf f .least) v) (leb v (formOf f .most)) h)
+  unfolding isAllowed isWithin
+  at-most = leb-true v (formOf f .most) (and-right (leb (formOf f .least) v) (leb v (formOf f .most)) (and-left (isWithin (formOf f) v) (isSingle (formOf f) v) h))
 
   means-itself : meant (formOf f) v ≡ v
   unfolding meant

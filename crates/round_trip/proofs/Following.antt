@@ -10,8 +10,8 @@ use lib.ListN.{length, getD, replicate, length-append}
 use Rattle.lists.specs.Lists.{padded}
 use Rattle.lists.proofs.Tests.{and-both}
 use Rattle.formats.specs.declared.Rest.the-variants.{Exactly, Said, SaidTo}
-use Rattle.formats.specs.Formats.{formOf, fieldsOf, restOf}
-use Rattle.fields.specs.Fields.{isAllowed, fields, areAllowed}
+use Rattle.formats.specs.Formats.{formOf, isWithin, isSingle, isAllowed, fieldsOf, restOf}
+use Rattle.fields.specs.Fields.{fields, areAllowed}
 use Rattle.pieces.specs.Pieces.{fitsRest}
 use Rattle.message_codes.specs.Codes.{find, errors, responses, layoutOf}
 use Rattle.messages.specs.Messages.{layoutFor, messageBytes, carries}
@@ -45,7 +45,7 @@ module _ (told : ℕ) (id more : List ℕ) (small : told < 256) (short : length 
   errorValues = 0xff ∷ told ∷ length id ∷ replicate 4 0
 
   pub vendor-error-is-read : ReadsAs 0x7f errorValues (id ++ more) (messageBytes 0x7f errorValues (id ++ more))
-  unfolding layoutFor layoutOf find responses errors fields padded fieldsOf areAllowed isAllowed formOf restOf
+  unfolding layoutFor layoutOf find responses errors fields padded fieldsOf areAllowed isAllowed isWithin isSingle formOf restOf
   vendor-error-is-read =
       let long : length (id ++ more) ≡ length id + length more = length-append id more in
       said-to-is-read 0x7f errorValues (id ++ more) refl

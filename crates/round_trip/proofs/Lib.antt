@@ -8,3 +8,5 @@ pub mod Following
 pub mod Listing
 pub mod ListingRead
 pub mod Worked
+pub mod ByName
+pub mod Walks

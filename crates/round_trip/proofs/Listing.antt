@@ -22,8 +22,8 @@ use Rattle.formats.specs.declared.Field.{Field}
 use Rattle.formats.specs.declared.Layout.{Layout}
 use Rattle.formats.specs.declared.Layout.the-variants.{OneCredential, ProcessList}
 use Rattle.formats.specs.declared.Part.the-variants.{ProcessInfo}
-use Rattle.formats.specs.Formats.{between, formOf, fieldsOf, restOf}
-use Rattle.fields.specs.Fields.{isAllowed, fields, areAllowed, fieldBytes}
+use Rattle.formats.specs.Formats.{between, formOf, isWithin, isSingle, isAllowed, fieldsOf, restOf}
+use Rattle.fields.specs.Fields.{fields, areAllowed, fieldBytes}
 use Rattle.pieces.specs.Pieces.{restLong, first, second, fitsRest}
 use Rattle.message_codes.specs.Codes.{find, requests, responses, layoutOf}
 use Rattle.messages.specs.Messages.{bodyBytes, layoutFor, messageBytes, carries, carriesPiece}
@@ -44,7 +44,7 @@ listing-is l = refl
 
 -- a number of two bytes alone: every one of them may stand there
 pub one-allowed : (layout : Layout) (f : Field) (n : ℕ) → formOf f ≡ between 2 0 65535 → fieldsOf layout ≡ f ∷ [] → n < 65536 → areAllowed (fields layout) (alone n) ≡ true
-unfolding fields padded areAllowed isAllowed formOf
+unfolding fields padded areAllowed isAllowed isWithin isSingle formOf
 one-allowed layout f n two one h = rw (one, two, le-leb 0 n (omega arith), le-leb n 65535 (omega arith))
 
 pub request-carried : (credential : ℕ) → credential < 65536 → carries 0x8e (alone credential) [] ≡ true
@@ -76,7 +76,7 @@ type-low ActiveElevation = refl
 type-low SavedUser = refl
 
 row-carried : (row : Row) → RowFits row → PartCarried ProcessInfo (rowHeld row)
-unfolding rowHeld carriesPiece first second restOf restLong fields padded fieldsOf areAllowed isAllowed formOf
+unfolding rowHeld carriesPiece first second restOf restLong fields padded fieldsOf areAllowed isAllowed isWithin isSingle formOf
 row-carried row v =
     record {
       front = record {

@@ -27,8 +27,8 @@ use Rattle.formats.specs.declared.Field.{Field}
 use Rattle.formats.specs.declared.Layout.{Layout}
 use Rattle.formats.specs.declared.Layout.the-variants.{OneCredential, ProcessList}
 use Rattle.formats.specs.declared.Part.the-variants.{ProcessInfo}
-use Rattle.formats.specs.Formats.{between, formOf, fieldsOf, restOf}
-use Rattle.fields.specs.Fields.{meant, isAllowed, fields, longOf, valuesIn, areAllowed}
+use Rattle.formats.specs.Formats.{between, formOf, meant, isWithin, isSingle, isAllowed, fieldsOf, restOf}
+use Rattle.fields.specs.Fields.{fields, longOf, valuesIn, areAllowed}
 use Rattle.pieces.specs.Pieces.{valuesOf, headLong, restLong, pieceLong, isPiece, first, second, behind, isPart, partLong, areParts, fitsRest}
 use Rattle.message_codes.specs.Codes.{find, requests, responses, layoutOf}
 use Rattle.messages.specs.Messages.{layoutIn, headOf, messageValues, isMessage, readMessage}
@@ -86,7 +86,7 @@ module _ (b : List ℕ) where
   process-long = refl
 
   process-part : Bytes b → isPart ProcessInfo b ≡ isRow (take 51 b)
-  unfolding isPart isPiece isRow pieceLong headLong valuesOf fields padded fieldsOf longOf valuesIn areAllowed isAllowed meant formOf restOf restLong first second numberAt numberOf
+  unfolding isPart isPiece isRow pieceLong headLong valuesOf fields padded fieldsOf longOf valuesIn areAllowed isAllowed isWithin isSingle meant formOf restOf restLong first second numberAt numberOf
   process-part h =
       let small : numberOf (take 2 b) < 65536 = number-low 2 0 b h in
       let one : numberOf (take 1 (drop 2 b)) ≡ getD b 2 0 = number-one 2 b in

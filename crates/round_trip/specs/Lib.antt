@@ -1,3 +1,4 @@
 pub mod Parts
 pub mod RoundTrip
 pub mod Listing
+pub mod Walks

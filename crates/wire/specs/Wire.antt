@@ -17,7 +17,7 @@ use Rattle.claims.specs.Numbers as No
 use Rattle.claims.specs.Numbers.{_when_, _unless_, _▸_}
 use Rattle.claims.specs.declared.Claim.{Claim}
 use Rattle.claims.specs.declared.State.{State}
-use Rattle.calls.specs.Calls.{List′, number}
+use Rattle.calls.specs.Calls.{ListProcesses, number}
 use Rattle.calls.specs.Listing.{amongOf, rowOf, rowsOf, authProcesses, messageLength, listing}
 use Rattle.calls.specs.declared.Wanted.{Wanted}
 use Rattle.wire.specs.declared.CountRead.{CountRead}
@@ -123,6 +123,6 @@ listingLength rows old = cond (leb (messageLength (length rows)) (length old)) (
 -- ---- the list call: what it leaves in the lent buffer. "A refusal leaves state and buffer as they were."
 unfoldable pub listedBytes : State → Session → Claim → Wanted → List ℕ → List ℕ
 listedBytes st s claim wanted old =
-    cond (eqb (number st (List′ s claim wanted (length old))) No.done)
+    cond (eqb (number st (ListProcesses s claim wanted (length old))) No.done)
     (listing (rowsOf st wanted) ++ drop (messageLength (length (rowsOf st wanted))) old)
     old

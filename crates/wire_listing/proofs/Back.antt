@@ -12,7 +12,7 @@ use Rattle.names.specs.declared.Session.{Session}
 use Rattle.names.proofs.Laws.{RowFits}
 use Rattle.claims.specs.declared.Claim.{Claim}
 use Rattle.claims.specs.declared.State.{State}
-use Rattle.calls.specs.Calls.{List′, number, listed}
+use Rattle.calls.specs.Calls.{ListProcesses, number, listed}
 use Rattle.calls.specs.Listing.{rowsOf, messageLength, listing}
 use Rattle.calls.specs.declared.Wanted.{Wanted}
 use Rattle.wire.specs.Wire.{readCount, zeroRow, readRowAt, listedBytes}
@@ -27,8 +27,8 @@ pub record ReadsAs (rows : List Row) (message : List ℕ) : Type 0 where
 
 module _ (st : State) (s : Session) (claim : Claim) (wanted : Wanted) (old : List ℕ) where
   -- an accepted one: the first bytes of the buffer, as many as the call answers, are read as the rows of the wanted credential
-  pub listed-back : number st (List′ s claim wanted (length old)) ≡ 0 → Each RowFits (rowsOf st wanted) → length (rowsOf st wanted) ≤ 65535 → ReadsAs (rowsOf st wanted) (take (listed st s claim wanted (length old) .length) (listedBytes st s claim wanted old))
+  pub listed-back : number st (ListProcesses s claim wanted (length old)) ≡ 0 → Each RowFits (rowsOf st wanted) → length (rowsOf st wanted) ≤ 65535 → ReadsAs (rowsOf st wanted) (take (listed st s claim wanted (length old) .length) (listedBytes st s claim wanted old))
   unfolding listed
   listed-back e fit few =
-      rw (eq-eqb (number st (List′ s claim wanted (length old))) 0 e, list-accepted st s claim wanted old e, take-at (listing (rowsOf st wanted)) (drop (messageLength (length (rowsOf st wanted))) old) (messageLength (length (rowsOf st wanted))) (length-listing (rowsOf st wanted) fit))
+      rw (eq-eqb (number st (ListProcesses s claim wanted (length old))) 0 e, list-accepted st s claim wanted old e, take-at (listing (rowsOf st wanted)) (drop (messageLength (length (rowsOf st wanted))) old) (messageLength (length (rowsOf st wanted))) (length-listing (rowsOf st wanted) fit))
       (record { count = count-back (rowsOf st wanted) fit few; row = row-at-back (rowsOf st wanted) fit few; past = row-past-back (rowsOf st wanted) fit few })

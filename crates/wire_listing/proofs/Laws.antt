@@ -23,7 +23,7 @@ use Rattle.claims.specs.Claim.{admitted, claimant}
 use Rattle.claims.specs.declared.Claim.{Claim}
 use Rattle.claims.specs.declared.State.{State}
 use Rattle.claims.proofs.Laws.{clear-rest, clear-when}
-use Rattle.calls.specs.Calls.{List′, isWanted, mayList, isShort, number, listed}
+use Rattle.calls.specs.Calls.{ListProcesses, isWanted, mayList, isShort, number, listed}
 use Rattle.calls.specs.Listing.{amongOf, rowOf, rowsOf, messageLength, listing}
 use Rattle.calls.specs.declared.Listed.{Listed}
 use Rattle.calls.specs.declared.Wanted.{Wanted}
@@ -63,14 +63,14 @@ rows-of st wanted = refl
 -- ---- the list call
 module _ (st : State) (s : Session) (claim : Claim) (wanted : Wanted) (old : List ℕ) where
   -- "A refusal leaves state and buffer as they were."
-  pub list-refused : (number st (List′ s claim wanted (length old)) ≡ 0 → ⊥) → listedBytes st s claim wanted old ≡ old
+  pub list-refused : (number st (ListProcesses s claim wanted (length old)) ≡ 0 → ⊥) → listedBytes st s claim wanted old ≡ old
   unfolding listedBytes
-  list-refused h = rw (ne-eqb (number st (List′ s claim wanted (length old))) 0 h)
+  list-refused h = rw (ne-eqb (number st (ListProcesses s claim wanted (length old))) 0 h)
 
-  module _ (e : number st (List′ s claim wanted (length old)) ≡ 0) where
+  module _ (e : number st (ListProcesses s claim wanted (length old)) ≡ 0) where
     pub list-accepted : listedBytes st s claim wanted old ≡ listing (rowsOf st wanted) ++ drop (messageLength (length (rowsOf st wanted))) old
     unfolding listedBytes
-    list-accepted = rw (eq-eqb (number st (List′ s claim wanted (length old))) 0 e)
+    list-accepted = rw (eq-eqb (number st (ListProcesses s claim wanted (length old))) 0 e)
 
     -- an accepted one has room
     pub list-room : messageLength (length (rowsOf st wanted)) ≤ length old
@@ -96,19 +96,19 @@ module _ (st : State) (s : Session) (claim : Claim) (wanted : Wanted) (old : Lis
 
   -- by the length that calls' decision has: it is 0 exactly where the call is refused
   module _ {decided : Listed} (d : decided ≡ listed st s claim wanted (length old)) where
-    long : decided .length ≡ cond (eqb (number st (List′ s claim wanted (length old))) 0) (messageLength (length (rowsOf st wanted))) 0
+    long : decided .length ≡ cond (eqb (number st (ListProcesses s claim wanted (length old))) 0) (messageLength (length (rowsOf st wanted))) 0
     unfolding listed
     long = ap (λ (x : Listed). x .length) d
 
     pub list-bytes : {new : List ℕ} → (decided .length ≡ 0 → ⊥) → new ≡ listingOver (rowsAmong wanted (standing (st .table))) old → new ≡ listedBytes st s claim wanted old
     list-bytes h q =
-        split (eqb (number st (List′ s claim wanted (length old))) 0)
-        (λ e. q ∙ sym (list-written (eqb-true (number st (List′ s claim wanted (length old))) 0 e)))
+        split (eqb (number st (ListProcesses s claim wanted (length old))) 0)
+        (λ e. q ∙ sym (list-written (eqb-true (number st (ListProcesses s claim wanted (length old))) 0 e)))
         (λ e. absurd (h (long ∙ rw e)))
 
     pub list-stays : decided .length ≡ 0 → old ≡ listedBytes st s claim wanted old
     unfolding messageLength
     list-stays h =
-        split (eqb (number st (List′ s claim wanted (length old))) 0)
+        split (eqb (number st (ListProcesses s claim wanted (length old))) 0)
         (λ e. let some : decided .length ≡ 4 + 51 * length (rowsOf st wanted) = long ∙ rw e in absurd (omega arith))
-        (λ e. sym (list-refused (eqb-false (number st (List′ s claim wanted (length old))) 0 e)))
+        (λ e. sym (list-refused (eqb-false (number st (ListProcesses s claim wanted (length old))) 0 e)))

@@ -164,9 +164,9 @@ pub struct CredParams<'a> {
     pub credential_id: WireCredential,
     /// CredentialType.
     pub credential_type: CredentialType,
-    /// BaseAsymAlgo.
+    /// BaseAsymAlgo: exactly one.
     pub base_asym_algo: BaseAsymAlgo,
-    /// BaseHashAlgo.
+    /// BaseHashAlgo: exactly one.
     pub base_hash_algo: BaseHashAlgo,
     /// CredentialData.
     pub credential_data: &'a [u8],

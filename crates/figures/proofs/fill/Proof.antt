@@ -1,10 +1,7 @@
 use Prim.Native.Nat.{_-_}
-use mathlib.Core.Path.{_∙_}
-use native.Mathlib.Omega.{arith}
 use lib.ListN.{length}
-use Rattle.io.proofs.Counting.{counts}
-use Rattle.figures.proofs.Rules.{Filling, filling-more, rules}
-use Rattle.figures.proofs.Rules.{Filling, filling-more, rules}
+use Rattle.figures.proofs.Rules.{Filling, rules}
+use Rattle.figures.proofs.Rules.{Filling, rules}
 use Rattle.figures.proofs.fill.Statement.{statement}
 use Rattle.figures.proofs.fill.Tie as tie
 
@@ -41,11 +38,14 @@ part-count-end c = search rules
 count-requires : tie.Need-count-requires Inv-loop μ-loop
 count-requires c κs = search rules
 
+stop-of-requires : tie.Need-stop-of-requires Inv-loop μ-loop
+stop-of-requires c κs = search rules
+
 same-length : tie.Need-same-length Inv-loop μ-loop
-same-length c = c .before .before .before .before .before .part .given .1 ∙ c .before .before .before .before .before .before .before .before .before .loop .inv .long
+same-length c = search rules
 
 returns : tie.Need-returns Inv-loop μ-loop
-returns c = counts _ _ (omega (arith, c .before .before .before .before .before .part .given .1, c .before .before .before .before .before .before .before .before .before .loop .inv .few))
+returns c = search rules
 
 add-count : tie.Need-add-count Inv-loop μ-loop
 add-count c = search rules
@@ -54,16 +54,10 @@ loop-less : tie.Need-loop-less Inv-loop μ-loop
 loop-less c = search rules
 
 loop-again : tie.Need-loop-again Inv-loop μ-loop
-loop-again c =
-    filling-more
-    (c .before .before .before .before .before .before .before .before .before .loop .inv)
-    (c .before .count .result)
-    _
-    (c .before .before .before .before .before .part .given .1)
-    (c .before .count .ensures .0 .0)
+loop-again c = search rules
 
 same-length-2 : tie.Need-same-length-2 Inv-loop μ-loop
-same-length-2 c = c .before .loop .inv .long
+same-length-2 c = search rules
 
 returns-2 : tie.Need-returns-2 Inv-loop μ-loop
 returns-2 c = search rules
@@ -83,6 +77,7 @@ fill-spec =
     part-count-start
     part-count-end
     count-requires
+    stop-of-requires
     same-length
     returns
     add-count

@@ -3,13 +3,19 @@ use Rattle.figures.proofs.report.Statement.{statement}
 use Rattle.figures.proofs.report.Tie as tie
 
 abbrev Inv-loop : tie.InvT-loop
-Inv-loop said₀ image₀ totals₀ more₀ said image totals more = Reporting said₀ image₀ said image totals
+Inv-loop said₀ image₀ totals₀ told₀ more₀ said image totals told more = Reporting said₀ image₀ said image totals told more
 
 abbrev μ-loop : tie.MeasureT-loop
-μ-loop said₀ image₀ totals₀ more₀ said image totals more = turnsLeft totals more
+μ-loop said₀ image₀ totals₀ told₀ more₀ said image totals told more = turnsLeft totals more
+
+no-totals-requires : tie.Need-no-totals-requires Inv-loop μ-loop
+no-totals-requires c κs = search rules
 
 loop-holds : tie.Need-loop-holds Inv-loop μ-loop
 loop-holds c = search rules
+
+read-piece-requires : tie.Need-read-piece-requires Inv-loop μ-loop
+read-piece-requires c κs = search rules
 
 take-turn-requires : tie.Need-take-turn-requires Inv-loop μ-loop
 take-turn-requires c κs = search rules
@@ -35,7 +41,9 @@ report-spec =
     (tie.spec
     Inv-loop
     μ-loop
+    no-totals-requires
     loop-holds
+    read-piece-requires
     take-turn-requires
     loop-less
     loop-again

@@ -1,11 +1,12 @@
 use Prim.Native.Nat.{_-_}
 use lib.ListN.{length as List·length}
-use Rattle.figures.proofs.Rules.{Texting, rules}
+use Rattle.figures.proofs.Rules.{rules}
+use Rattle.figures.proofs.Texts.{Texting}
 use Rattle.figures.proofs.with.Statement.{statement}
 use Rattle.figures.proofs.with.Tie as tie
 
 abbrev Inv-loop : tie.InvT-loop
-Inv-loop part bytes₀ length₀ i₀ bytes length i = Texting bytes length
+Inv-loop part bytes₀ length₀ i₀ bytes length i = Texting bytes₀ length₀ part bytes length i
 
 abbrev μ-loop : tie.MeasureT-loop
 μ-loop part bytes₀ length₀ i₀ bytes length i = List·length part - i

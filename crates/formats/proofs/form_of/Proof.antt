@@ -96,113 +96,125 @@ between-requires-10 c κs = search rules
 enum-told-16 : tie.Need-enum-told-16
 enum-told-16 c = search rules
 
-flags-requires-6 : tie.Need-flags-requires-6
-flags-requires-6 c κs = search rules
+one-flag-requires : tie.Need-one-flag-requires
+one-flag-requires c κs = search rules
 
 enum-told-17 : tie.Need-enum-told-17
 enum-told-17 c = search rules
 
-between-requires-11 : tie.Need-between-requires-11
-between-requires-11 c κs = search rules
+one-flag-requires-2 : tie.Need-one-flag-requires-2
+one-flag-requires-2 c κs = search rules
 
 enum-told-18 : tie.Need-enum-told-18
 enum-told-18 c = search rules
 
-flags-requires-7 : tie.Need-flags-requires-7
-flags-requires-7 c κs = search rules
+flags-requires-6 : tie.Need-flags-requires-6
+flags-requires-6 c κs = search rules
 
 enum-told-19 : tie.Need-enum-told-19
 enum-told-19 c = search rules
 
-between-requires-12 : tie.Need-between-requires-12
-between-requires-12 c κs = search rules
+between-requires-11 : tie.Need-between-requires-11
+between-requires-11 c κs = search rules
 
 enum-told-20 : tie.Need-enum-told-20
 enum-told-20 c = search rules
 
-between-requires-13 : tie.Need-between-requires-13
-between-requires-13 c κs = search rules
+flags-requires-7 : tie.Need-flags-requires-7
+flags-requires-7 c κs = search rules
 
 enum-told-21 : tie.Need-enum-told-21
 enum-told-21 c = search rules
 
-between-requires-14 : tie.Need-between-requires-14
-between-requires-14 c κs = search rules
+between-requires-12 : tie.Need-between-requires-12
+between-requires-12 c κs = search rules
 
 enum-told-22 : tie.Need-enum-told-22
 enum-told-22 c = search rules
 
-between-requires-15 : tie.Need-between-requires-15
-between-requires-15 c κs = search rules
+between-requires-13 : tie.Need-between-requires-13
+between-requires-13 c κs = search rules
 
 enum-told-23 : tie.Need-enum-told-23
 enum-told-23 c = search rules
 
-between-requires-16 : tie.Need-between-requires-16
-between-requires-16 c κs = search rules
+between-requires-14 : tie.Need-between-requires-14
+between-requires-14 c κs = search rules
 
 enum-told-24 : tie.Need-enum-told-24
 enum-told-24 c = search rules
 
-between-requires-17 : tie.Need-between-requires-17
-between-requires-17 c κs = search rules
+between-requires-15 : tie.Need-between-requires-15
+between-requires-15 c κs = search rules
 
 enum-told-25 : tie.Need-enum-told-25
 enum-told-25 c = search rules
 
-between-requires-18 : tie.Need-between-requires-18
-between-requires-18 c κs = search rules
+between-requires-16 : tie.Need-between-requires-16
+between-requires-16 c κs = search rules
 
 enum-told-26 : tie.Need-enum-told-26
 enum-told-26 c = search rules
 
-flags-requires-8 : tie.Need-flags-requires-8
-flags-requires-8 c κs = search rules
+between-requires-17 : tie.Need-between-requires-17
+between-requires-17 c κs = search rules
 
 enum-told-27 : tie.Need-enum-told-27
 enum-told-27 c = search rules
 
-between-requires-19 : tie.Need-between-requires-19
-between-requires-19 c κs = search rules
+between-requires-18 : tie.Need-between-requires-18
+between-requires-18 c κs = search rules
 
 enum-told-28 : tie.Need-enum-told-28
 enum-told-28 c = search rules
 
-flags-requires-9 : tie.Need-flags-requires-9
-flags-requires-9 c κs = search rules
+flags-requires-8 : tie.Need-flags-requires-8
+flags-requires-8 c κs = search rules
 
 enum-told-29 : tie.Need-enum-told-29
 enum-told-29 c = search rules
 
-flags-requires-10 : tie.Need-flags-requires-10
-flags-requires-10 c κs = search rules
+between-requires-19 : tie.Need-between-requires-19
+between-requires-19 c κs = search rules
 
 enum-told-30 : tie.Need-enum-told-30
 enum-told-30 c = search rules
 
-between-requires-20 : tie.Need-between-requires-20
-between-requires-20 c κs = search rules
+flags-requires-9 : tie.Need-flags-requires-9
+flags-requires-9 c κs = search rules
 
 enum-told-31 : tie.Need-enum-told-31
 enum-told-31 c = search rules
 
-between-requires-21 : tie.Need-between-requires-21
-between-requires-21 c κs = search rules
+flags-requires-10 : tie.Need-flags-requires-10
+flags-requires-10 c κs = search rules
 
 enum-told-32 : tie.Need-enum-told-32
 enum-told-32 c = search rules
 
-between-requires-22 : tie.Need-between-requires-22
-between-requires-22 c κs = search rules
+between-requires-20 : tie.Need-between-requires-20
+between-requires-20 c κs = search rules
 
 enum-told-33 : tie.Need-enum-told-33
 enum-told-33 c = search rules
 
-between-requires-23 : tie.Need-between-requires-23
-between-requires-23 c κs = search rules
+between-requires-21 : tie.Need-between-requires-21
+between-requires-21 c κs = search rules
 
 enum-told-34 : tie.Need-enum-told-34
 enum-told-34 c = search rules
+
+between-requires-22 : tie.Need-between-requires-22
+between-requires-22 c κs = search rules
+
+enum-told-35 : tie.Need-enum-told-35
+enum-told-35 c = search rules
+
+between-requires-23 : tie.Need-between-requires-23
+between-requires-23 c κs = search rules
+
+enum-told-36 : tie.Need-enum-told-36
+enum-told-36 c = search rules
 
 between-requires-24 : tie.Need-between-requires-24
 between-requires-24 c κs = search rules
@@ -343,6 +355,14 @@ returns-34 : tie.Need-returns-34
 unfolding formOf
 returns-34 c = search rules
 
+returns-35 : tie.Need-returns-35
+unfolding formOf
+returns-35 c = search rules
+
+returns-36 : tie.Need-returns-36
+unfolding formOf
+returns-36 c = search rules
+
 pub form-of-spec : {M : Type 1} → statement M
 form-of-spec =
     tie.close
@@ -378,42 +398,46 @@ form-of-spec =
     enum-told-15
     between-requires-10
     enum-told-16
-    flags-requires-6
+    one-flag-requires
     enum-told-17
-    between-requires-11
+    one-flag-requires-2
     enum-told-18
-    flags-requires-7
+    flags-requires-6
     enum-told-19
-    between-requires-12
+    between-requires-11
     enum-told-20
-    between-requires-13
+    flags-requires-7
     enum-told-21
-    between-requires-14
+    between-requires-12
     enum-told-22
-    between-requires-15
+    between-requires-13
     enum-told-23
-    between-requires-16
+    between-requires-14
     enum-told-24
-    between-requires-17
+    between-requires-15
     enum-told-25
-    between-requires-18
+    between-requires-16
     enum-told-26
-    flags-requires-8
+    between-requires-17
     enum-told-27
-    between-requires-19
+    between-requires-18
     enum-told-28
-    flags-requires-9
+    flags-requires-8
     enum-told-29
-    flags-requires-10
+    between-requires-19
     enum-told-30
-    between-requires-20
+    flags-requires-9
     enum-told-31
-    between-requires-21
+    flags-requires-10
     enum-told-32
-    between-requires-22
+    between-requires-20
     enum-told-33
-    between-requires-23
+    between-requires-21
     enum-told-34
+    between-requires-22
+    enum-told-35
+    between-requires-23
+    enum-told-36
     between-requires-24
     returns
     returns-2
@@ -448,4 +472,6 @@ form-of-spec =
     returns-31
     returns-32
     returns-33
-    returns-34)
+    returns-34
+    returns-35
+    returns-36)

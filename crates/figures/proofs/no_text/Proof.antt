@@ -1,0 +1,9 @@
+use Rattle.figures.proofs.Rules.{rules}
+use Rattle.figures.proofs.no_text.Statement.{statement}
+use Rattle.figures.proofs.no_text.Tie as tie
+
+returns : tie.Need-returns
+returns c = search rules
+
+pub no-text-spec : {M : Type 1} → statement M
+no-text-spec = tie.close (tie.spec returns)

@@ -1,0 +1,65 @@
+-- A host through power cycles: it writes an image after each entry that changes it, the power goes at any time between, and a module is then made from the image that
+-- was written last. "flash must return the newest".
+use Prim.Native.Nat.{ℕ}
+use mathlib.Core.Path.{_≡_}
+use mathlib.Core.Bool.{Bool, false}
+use mathlib.Core.List.{List, [], _∷_}
+use lib.Dec.{eqb}
+use lib.ListN.{length, take}
+use Rattle.rows.specs.Bytes.{Bytes}
+use Rattle.claims.specs.Numbers as No
+use Rattle.calls.specs.Calls.{ListProcesses}
+use Rattle.layout.specs.Layout.{stateOf}
+use Rattle.image.specs.Image.{imageBytes}
+use Rattle.resumed.specs.Changes.{changesImage}
+use Rattle.entries_image.specs.Entries.{ImageEntry, RestoreEntry}
+use Rattle.lent.specs.Lent.{Made, Called, Listed, Renewed, Restored, Entered, Since, noting, Holds, cycledSince, IsImageOf}
+
+-- the entries that change an image, on the slice before them: such a call, a fresh module, and a restored one
+abbrev pub entryChanges : List ℕ → Made → Bool
+entryChanges before (Called fine call n) = changesImage (stateOf before) call n
+entryChanges before (Listed fine s claim wanted n r) = changesImage (stateOf before) (ListProcesses s claim wanted (length (r .old))) n
+entryChanges before (Renewed flags words n) = eqb n No.done
+entryChanges before (Restored image n) = eqb n No.done
+
+-- what happens to a module
+pub data Happening : Type 0 where
+  Enters : Made → Happening
+  PowerCycle : Happening
+
+-- from a slice and the image that the flash has to a slice and an image
+pub data Hosted : List ℕ → List ℕ → List Happening → List ℕ → List ℕ → Type 0 where
+  none : {slice image : List ℕ} → Hosted slice image [] slice image
+  -- an entry that leaves the image as it was: none is written
+  kept : {before image after last newest : List ℕ} {entry : Made} {happenings : List Happening}
+      → Entered before entry after → entryChanges before entry ≡ false
+      → Hosted after image happenings last newest
+      → Hosted before image (Enters entry ∷ happenings) last newest
+  -- after every other entry one is written, and after any one may be
+  written : {before image after old new last newest : List ℕ} {long : ℕ} {entry : Made} {happenings : List Happening}
+      → Entered before entry after → ImageEntry after old 0 new long
+      → Hosted after (take long new) happenings last newest
+      → Hosted before image (Enters entry ∷ happenings) last newest
+  -- the power goes, and the slice with it; a module is made from the flash's image, in whatever slice. An entry after which the power went before its image was
+  -- written is none of these: its answer was told to nobody
+  cycled : {before image slice after last newest : List ℕ} {happenings : List Happening}
+      → Bytes image → RestoreEntry slice image 0 after
+      → Hosted after image happenings last newest
+      → Hosted before image (PowerCycle ∷ happenings) last newest
+
+-- ---- since when it is told, and what, after such happenings
+abbrev pub afterwards : Happening → Since → Since
+afterwards (Enters entry) w = noting entry w
+afterwards PowerCycle w = cycledSince w
+
+unfoldable pub sinceAll : Since → List Happening → Since
+sinceAll w [] = w
+sinceAll w (one ∷ happenings) = sinceAll (afterwards one w) happenings
+
+-- ---- what is to hold of the slice and the image in which they ended
+pub record IsNewest (w : Since) (last newest : List ℕ) : Type 0 where
+  pub holds : Holds w last
+  -- the image that was written last is byte for byte that of the state now
+  pub bytes : newest ≡ imageBytes (stateOf last)
+  -- so it makes the module that the calls come to, after a power cycle
+  pub image : IsImageOf w newest
