@@ -1,7 +1,7 @@
 // The figures of a drawer of images: document 02, order 6. It reads standard input, and prints a line for each image and the total. docs/FIGURES.md tells
-// how the desk uses it. Proved: what comes of exactly the bytes that were read, from totals that begin with those of no image; that a read which failed ends
-// it without a total; the text of each line. Run, and not proved: that `read` hands over the bytes of standard input in their order, that `write` writes the
-// text that it is handed, and that no word is taken on the command line.
+// how the desk uses it. Proved: what comes of exactly the bytes that were read, from totals that begin with those of no image; that it goes on until a total,
+// too many images or a failure, and that a failed read is one; the text of each line. Run, and not proved: that `read` hands over the bytes of standard input
+// in their order, that what a turn answers is written, and nothing else, and that no word is taken on the command line.
 ghost use mathlib.Core.Path.{_≡_};
 ghost use mathlib.Core.Bool.{true};
 ghost use mathlib.Core.List.{[]};
