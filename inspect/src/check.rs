@@ -5,6 +5,7 @@ use crate::scope::{self, Scope};
 use crate::source::Kind;
 use crate::tree::{Folder, Id, Tree};
 use std::collections::{BTreeMap, BTreeSet, HashSet};
+use std::fs;
 use std::path::Path;
 
 /// One rule: what holds of all that were looked at, and what is wrong.
@@ -26,6 +27,7 @@ pub fn check(root: &Path, tree: &Tree, map: &Map) -> Vec<Verdict> {
         files_are_named(tree, map),
         answers_are_one(tree),
         nothing_is_asked(tree),
+        readme_has_the_crates(root, tree),
     ]
 }
 
@@ -336,6 +338,39 @@ fn nothing_is_asked(tree: &Tree) -> Verdict {
         rule: "public functions ask nothing of their callers",
         looked_at: functions.len(),
         wrong: wrong.collect(),
+    }
+}
+
+/// README's table of crates has those of crates.txt, in their order: who reads one finds the other.
+fn readme_has_the_crates(root: &Path, tree: &Tree) -> Verdict {
+    let readme = fs::read_to_string(root.join("README.md")).unwrap_or_default();
+    let rows = readme
+        .lines()
+        .skip_while(|line| !line.starts_with("| Crate | What it has |"))
+        .skip(2)
+        .take_while(|line| line.starts_with('|'));
+    let named: Vec<&str> = rows
+        .filter_map(|row| row.split('|').nth(1))
+        .flat_map(|cell| cell.split(','))
+        .map(str::trim)
+        .collect();
+    let listed: Vec<&str> = tree.crates.iter().map(|c| c.name.as_str()).collect();
+    let nobody = "none";
+    let wrong = (0..listed.len().max(named.len()))
+        .map(|at| {
+            (
+                named.get(at).unwrap_or(&nobody),
+                listed.get(at).unwrap_or(&nobody),
+            )
+        })
+        .find(|(there, here)| there != here)
+        .map(|(there, here)| {
+            format!("README.md: its table of crates has {there} where crates.txt has {here}")
+        });
+    Verdict {
+        rule: "README's table has the crates in the order of crates.txt",
+        looked_at: listed.len(),
+        wrong: wrong.into_iter().collect(),
     }
 }
 

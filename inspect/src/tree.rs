@@ -51,8 +51,11 @@ impl File {
     }
 }
 
+#[derive(Debug, PartialEq)]
 pub struct Crate {
     pub name: String,
+    /// the heading that it stands below
+    pub family: String,
     pub comment: String,
     /// the crates of this repository that it may cite
     pub relies_on: Vec<String>,
@@ -188,17 +191,21 @@ impl Tree {
     }
 }
 
-/// The lines of crates.txt: `name: those it relies on`, below a comment.
-fn crates(text: &str) -> Vec<Crate> {
+/// The lines of crates.txt: `name: those it relies on`, below a comment, in families below a heading of two signs.
+pub fn crates(text: &str) -> Vec<Crate> {
     let mut found: Vec<Crate> = Vec::new();
+    let mut family = "";
     let mut comment = "";
     for line in text.lines() {
-        if let Some(words) = line.strip_prefix('#') {
+        if let Some(words) = line.strip_prefix("##") {
+            family = words.trim();
+        } else if let Some(words) = line.strip_prefix('#') {
             comment = words.trim();
         } else if let Some((name, others)) = line.split_once(':') {
             let relies_on = others.split_whitespace().map(str::to_string).collect();
             found.push(Crate {
                 name: name.trim().to_string(),
+                family: family.to_string(),
                 comment: comment.to_string(),
                 relies_on,
                 own_proof_lines: 0,

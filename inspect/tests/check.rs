@@ -49,6 +49,24 @@ fn a_name_that_is_not_there() {
 }
 
 #[test]
+fn a_table_of_crates_in_another_order() {
+    fails(
+        "crates",
+        "README.md",
+        "names, tell",
+        "tell, names",
+        &["README.md: its table of crates has tell where crates.txt has names"],
+    );
+    fails(
+        "crate",
+        "README.md",
+        "names, tell",
+        "names",
+        &["README.md: its table of crates has none where crates.txt has tell"],
+    );
+}
+
+#[test]
 fn a_place_that_is_not_there() {
     fails(
         "place",

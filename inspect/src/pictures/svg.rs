@@ -25,9 +25,3 @@ pub fn text(x: f64, y: f64, class: &str, words: &str) -> String {
 pub fn link(anchor: &str, inside: &str) -> String {
     format!("<a href=\"#{anchor}\">{inside}</a>")
 }
-
-/// A line from a point down to another, which leaves and arrives upright.
-pub fn curve(from: (f64, f64), to: (f64, f64)) -> String {
-    let middle = (from.1 + to.1) / 2.0;
-    format!("<path d=\"M{:.1} {:.1} C{:.1} {middle:.1} {:.1} {middle:.1} {:.1} {:.1}\" class=\"edge\"/>\n", from.0, from.1, from.0, to.0, to.0, to.1)
-}
