@@ -111,7 +111,7 @@ impl Generator {
         }
         match Call::ENTRIES[self.random.weighted(&weights(self.style))] {
             "fresh" => self.wrong_fresh(),
-            "holds" => Call::Holds,
+            "holds" => Call::Holds {},
             "open" => {
                 let session = self.session_in(module, Session::Closed);
                 Call::Open { session }

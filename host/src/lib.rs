@@ -69,6 +69,9 @@
 #![deny(missing_docs)]
 #![deny(unsafe_code)]
 
+#[macro_use]
+mod signatures;
+
 mod call;
 #[allow(unsafe_code)]
 pub mod entries;
@@ -88,6 +91,7 @@ pub use listing::{
 };
 pub use module::{Module, STATE_LENGTH, VERSION_1_0};
 pub use numbers::{answered, Refusal, UnknownNumber};
+pub use signatures::{Signature, SIGNATURES};
 pub use values::{
     Claim, Class, Credential, Grants, Kind, Name, Session, UserClaim, Wanted, NAME_LENGTH,
 };
