@@ -169,10 +169,10 @@ mod tests {
 
     #[test]
     fn a_pair_with_other_states_differs() {
-        let mut pair = Pair::of(&[0; 681]);
+        let mut pair = Pair::of(&[0; layout::STATE_LENGTH]);
         assert!(pair.call(&Call::Open { session: 0 }).is_ok());
         assert_eq!(pair.read_back(), Ok(()));
-        pair.archive = Archive::of(&[0; 681]);
+        pair.archive = Archive::of(&[0; layout::STATE_LENGTH]);
         assert_eq!(pair.read_back(), Err(Difference::ReadBack));
         assert!(matches!(
             pair.call(&Call::Open { session: 1 }),
