@@ -16,8 +16,9 @@
 #define NAMED(last) named(last), SLAVOTUK_NAME_SIZE
 #define VALUES values, SLAVOTUK_MESSAGE_VALUES
 
-/* Where docs/STATE.md has the next number of the process at a place. */
-#define NEXT_NUMBER(place) (48 + 53 * (place))
+/* Where docs/STATE.md has the next number of the process at a place: the places are last, and a name is last in each. */
+#define PLACE_SIZE (5 + SLAVOTUK_NAME_SIZE)
+#define NEXT_NUMBER(place) (SLAVOTUK_STATE_SIZE - PLACE_SIZE * (SLAVOTUK_PROCESSES - (place)) + 3)
 
 #define EXPECT(value, expected) expect(__LINE__, #value, (unsigned long)(value), (unsigned long)(expected))
 

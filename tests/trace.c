@@ -23,9 +23,9 @@ enum { BEGINS = 0, ENDS = 1, MARKS_SIZE = 4096 };
 
 enum { PLACES = SLAVOTUK_PROCESSES, NAME = SLAVOTUK_NAME_SIZE, PAIRS = PLACES * (PLACES - 1) / 2 };
 
-/* Where names lie in a state (docs/STATE.md) and in an image (docs/IMAGE.md). */
-enum { PLACES_AT = 45, PLACE_SIZE = 53, NAME_IN_PLACE = 5 };
-enum { ROWS_AT = SLAVOTUK_IMAGE_HEADER_SIZE, ROW_SIZE = SLAVOTUK_IMAGE_ROW_SIZE, NAME_IN_ROW = 4 };
+/* Where names lie in a state (docs/STATE.md) and in an image (docs/IMAGE.md): last in a place and in a row, and places last in a state. */
+enum { NAME_IN_PLACE = 5, PLACE_SIZE = NAME_IN_PLACE + NAME, PLACES_AT = SLAVOTUK_STATE_SIZE - PLACE_SIZE * PLACES };
+enum { ROWS_AT = SLAVOTUK_IMAGE_HEADER_SIZE, ROW_SIZE = SLAVOTUK_IMAGE_ROW_SIZE, NAME_IN_ROW = ROW_SIZE - NAME };
 
 /* Drawn names differ from their first byte on. On the board of the accident all began with 16 bytes of zero. */
 enum { DRAWN, ZEROS_IN_FRONT, SETS };

@@ -5,6 +5,8 @@ use crate::numbers::{DONE, NOT_GRANTED};
 use crate::ordinary;
 use crate::structured::Module;
 use slavotuk::entries::{self, RawClaim};
+use slavotuk::layout::state::{place_at, COUNT_AT, LENGTH, NEXT, PLACES_AT};
+use slavotuk::PLACES;
 
 /// Runs the whole input, calls with more than one fault, and calls on slices that hold no state; the first difference is told.
 pub fn check(input: &Input) -> Result<(), String> {
@@ -46,7 +48,7 @@ fn check_calls(input: &Input) -> Result<(), String> {
 /// Calls with every choice of faults, on the starting state and on the same with its first process spent: so the order of the checks is compared too.
 fn check_many_faults(input: &Input) -> Result<(), String> {
     let mut spent = input.state.clone();
-    spent[48..50].fill(0xff);
+    spent[place_at(0) + NEXT..][..2].fill(0xff);
     for state in [&input.state, &spent] {
         for (session, claim, class) in many_calls() {
             let mut by_entry = state.clone();
@@ -110,7 +112,15 @@ fn check_changed_bytes(input: &Input) -> Result<(), String> {
 
 fn check_lengths(input: &Input) -> Result<(), String> {
     let calls = passing_calls(input)?;
-    for length in [0, 1, 44, 45, 680, 682, 734] {
+    for length in [
+        0,
+        1,
+        COUNT_AT,
+        PLACES_AT,
+        LENGTH - 1,
+        LENGTH + 1,
+        place_at(PLACES + 1),
+    ] {
         let mut changed = input.state.clone();
         changed.resize(length, 0);
         check_slice(&changed, calls)

@@ -4,20 +4,20 @@ use crate::input::{self, Differ};
 use crate::numbers::*;
 use crate::timing::{median, nanoseconds};
 use slavotuk::entries::{self, RawClaim};
+use slavotuk::{FULL_LISTING_LENGTH, NAME_LENGTH, PLACES};
 
 /// How many processes stand, in the order they are reported.
-pub const STANDING: [usize; 3] = [0, 1, 12];
+pub const STANDING: [usize; 3] = [0, 1, PLACES];
 
 /// How often each call is made in a round. Claims are in turn, a refused kill's too, which spends its number, and none may be spent.
 const TURNS: u16 = 10_000;
 
-const LONGEST_LISTING: usize = 4 + 51 * 12;
-const NAME: [u8; 48] = [0xa5; 48];
+const NAME: [u8; NAME_LENGTH] = [0xa5; NAME_LENGTH];
 
 /// What a call is lent.
 struct Lent {
     state: Vec<u8>,
-    response: [u8; LONGEST_LISTING],
+    response: [u8; FULL_LISTING_LENGTH],
 }
 
 /// A call, or two of which the second undoes the first.
@@ -129,7 +129,7 @@ impl Case {
     fn lend(&self, standing: usize) -> Option<Lent> {
         (self.before)(standing).map(|before| Lent {
             state: input::standing_state(before, Differ::LastByte),
-            response: [0; LONGEST_LISTING],
+            response: [0; FULL_LISTING_LENGTH],
         })
     }
 

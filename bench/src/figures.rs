@@ -1,6 +1,8 @@
 //! The program that prints figures of a drawer of images, beside `cksum` of the same file.
 
 use crate::timing::{median, WARM_UP_ROUNDS};
+use slavotuk::layout::image::{ROWS_AT, WORDS_AT};
+use slavotuk::{Credential, NAME_LENGTH, PLACES};
 use std::fs::{self, File};
 use std::path::{Path, PathBuf};
 use std::process::{Command, Stdio};
@@ -8,8 +10,8 @@ use std::time::Instant;
 
 /// As many images as the program tells of.
 const IMAGES: usize = 4_096;
-const CREDENTIALS: usize = 8;
-const ROWS: usize = 12;
+const CREDENTIALS: usize = Credential::COUNT;
+const ROWS: usize = PLACES;
 /// The grant word of each credential: every second class.
 const WORD: u32 = 0x5555_5555;
 
@@ -119,12 +121,18 @@ fn drawer_of(image: &[u8]) -> Vec<u8> {
 
 /// Rows of credential 0, at next numbers from 1 on, whose names differ in their last byte.
 fn image() -> Vec<u8> {
-    let head = [0xff, CREDENTIALS as u16, 10, ROWS as u16, 42];
+    let head = [
+        0xff,
+        CREDENTIALS as u16,
+        WORDS_AT as u16,
+        ROWS as u16,
+        ROWS_AT as u16,
+    ];
     let mut image: Vec<u8> = head.into_iter().flat_map(u16::to_le_bytes).collect();
     image.extend(WORD.to_le_bytes().repeat(CREDENTIALS));
     for row in 1..=ROWS as u8 {
         image.extend([0, 0, row, 0]);
-        image.extend([0; 47]);
+        image.extend([0; NAME_LENGTH - 1]);
         image.push(row);
     }
     image

@@ -2,6 +2,7 @@
 
 use crate::numbers::*;
 use slavotuk::entries::{self, RawClaim};
+use slavotuk::{NAME_LENGTH, STATE_LENGTH};
 
 /// What the calls are drawn from.
 pub const SEED: u64 = 20_261_115;
@@ -98,11 +99,11 @@ impl Differ {
         }
     }
 
-    fn process_name(self, process: usize) -> [u8; 48] {
-        let mut name = [0x5a; 48];
+    fn process_name(self, process: usize) -> [u8; NAME_LENGTH] {
+        let mut name = [0x5a; NAME_LENGTH];
         let at = match self {
             Differ::FirstByte => 0,
-            Differ::LastByte => 47,
+            Differ::LastByte => NAME_LENGTH - 1,
         };
         name[at] = process as u8;
         name
@@ -181,7 +182,7 @@ pub fn credentials() -> ([u8; 8], [u32; 8]) {
 
 /// A state with the first places taken, at most twelve, made by the entries.
 pub fn standing_state(standing: usize, differ: Differ) -> Vec<u8> {
-    let mut state = vec![0; 681];
+    let mut state = vec![0; STATE_LENGTH];
     let (provisioned, words) = credentials();
     done(entries::fresh(&mut state, &provisioned, &words));
     for session in 0..3 {

@@ -3,20 +3,12 @@
 
 use crate::numbers::*;
 use slavotuk::entries::RawClaim;
-
-const STATE_LENGTH: usize = 681;
-const COUNT_AT: usize = 44;
-const PLACES_AT: usize = 45;
-const MOST_PROCESSES: usize = 12;
-
-const CREDENTIAL_LENGTH: usize = 5;
-
-const PLACE_LENGTH: usize = 53;
-const CREDENTIAL_AT: usize = 0;
-const TYPE_AT: usize = 1;
-const SESSION_AT: usize = 2;
-const NEXT_AT: usize = 3;
-const NAME_AT: usize = 5;
+use slavotuk::layout::state::{
+    place_at, COUNT_AT, CREDENTIALS_AT, CREDENTIAL_LENGTH, LENGTH as STATE_LENGTH, NAME as NAME_AT,
+    NEXT as NEXT_AT, OWNER as CREDENTIAL_AT, PLACES_AT, PLACE_LENGTH, SESSION as SESSION_AT,
+    TYPE as TYPE_AT,
+};
+use slavotuk::PLACES as MOST_PROCESSES;
 
 const USER: u8 = 0;
 const ELEVATION: u8 = 1;
@@ -31,7 +23,7 @@ pub fn record(state: &mut [u8], session: u32, claim: RawClaim, class: u32) -> u3
     match passing_place(state, session, claim) {
         Err(number) => number,
         Ok(place) => {
-            let process = &mut state[PLACES_AT + place * PLACE_LENGTH..][..PLACE_LENGTH];
+            let process = &mut state[place_at(place)..][..PLACE_LENGTH];
             if process[TYPE_AT] == USER {
                 let next = next_number(process) + 1;
                 process[NEXT_AT..NAME_AT].copy_from_slice(&next.to_le_bytes());
@@ -56,7 +48,7 @@ fn holds_state(state: &[u8]) -> bool {
     if count > MOST_PROCESSES {
         return false;
     }
-    let (sessions, credentials) = state[..COUNT_AT].split_at(4);
+    let (sessions, credentials) = state[..COUNT_AT].split_at(CREDENTIALS_AT);
     let (standing, free) = state[PLACES_AT..].split_at(count * PLACE_LENGTH);
     are_zero(free)
         && sessions.iter().all(|&phase| phase <= 2)

@@ -3,6 +3,10 @@
 
 use crate::numbers::*;
 use slavotuk::entries::RawClaim;
+use slavotuk::layout::state::{
+    self, credential_at, COUNT_AT, CREDENTIAL_LENGTH, PLACES_AT, PLACE_LENGTH,
+};
+use slavotuk::{NAME_LENGTH, STATE_LENGTH};
 
 #[derive(Clone, Copy, PartialEq, Eq)]
 enum Phase {
@@ -30,7 +34,7 @@ struct Process {
     kind: Type,
     session: u8,
     next: u16,
-    name: [u8; 48],
+    name: [u8; NAME_LENGTH],
 }
 
 /// What document 01's module holds.
@@ -42,25 +46,25 @@ pub struct Module {
 }
 
 impl Module {
-    /// The module of 681 bytes that hold a state.
+    /// The module of bytes that hold a state.
     pub fn from_bytes(bytes: &[u8]) -> Module {
-        let count = usize::from(bytes[44]);
+        let count = usize::from(bytes[COUNT_AT]);
         Module {
             sessions: std::array::from_fn(|session| phase_of(bytes[session])),
             credentials: std::array::from_fn(|credential| {
-                credential_of(&bytes[4 + 5 * credential..][..5])
+                credential_of(&bytes[credential_at(credential)..][..CREDENTIAL_LENGTH])
             }),
-            processes: bytes[45..]
-                .chunks_exact(53)
+            processes: bytes[PLACES_AT..]
+                .chunks_exact(PLACE_LENGTH)
                 .take(count)
                 .map(process_of)
                 .collect(),
         }
     }
 
-    /// The 681 bytes that hold this module's state.
+    /// The bytes that hold this module's state.
     pub fn to_bytes(&self) -> Vec<u8> {
-        let mut bytes = Vec::with_capacity(681);
+        let mut bytes = Vec::with_capacity(STATE_LENGTH);
         bytes.extend(self.sessions.map(|phase| phase as u8));
         for credential in &self.credentials {
             bytes.push(u8::from(credential.provisioned));
@@ -72,7 +76,7 @@ impl Module {
             bytes.extend(process.next.to_le_bytes());
             bytes.extend(process.name);
         }
-        bytes.resize(681, 0);
+        bytes.resize(STATE_LENGTH, 0);
         bytes
     }
 
@@ -163,21 +167,21 @@ fn phase_of(byte: u8) -> Phase {
 
 fn credential_of(bytes: &[u8]) -> Credential {
     Credential {
-        provisioned: bytes[0] == 1,
-        word: u32::from_le_bytes([bytes[1], bytes[2], bytes[3], bytes[4]]),
+        provisioned: bytes[state::PROVISIONED] == 1,
+        word: u32::from_le_bytes(std::array::from_fn(|at| bytes[state::WORD + at])),
     }
 }
 
 fn process_of(bytes: &[u8]) -> Process {
     Process {
-        credential: bytes[0],
-        kind: match bytes[1] {
+        credential: bytes[state::OWNER],
+        kind: match bytes[state::TYPE] {
             0 => Type::User,
             1 => Type::Elevation,
             _ => Type::Saved,
         },
-        session: bytes[2],
-        next: u16::from_le_bytes([bytes[3], bytes[4]]),
-        name: std::array::from_fn(|at| bytes[5 + at]),
+        session: bytes[state::SESSION],
+        next: u16::from_le_bytes([bytes[state::NEXT], bytes[state::NEXT + 1]]),
+        name: std::array::from_fn(|at| bytes[state::NAME + at]),
     }
 }

@@ -66,37 +66,7 @@ pub struct Answer {
 
 impl fmt::Display for Answer {
     fn fmt(&self, out: &mut fmt::Formatter) -> fmt::Result {
-        write!(out, "{}", self.number)?;
-        match &self.made {
-            Call::List {
-                response, length, ..
-            } => write!(
-                out,
-                ", length {length}, response {}",
-                Bytes(response.as_ref())
-            ),
-            Call::Image { image, length } => {
-                write!(out, ", length {length}, image {}", Bytes(image.as_ref()))
-            }
-            Call::WriteRequest { buffer, .. } => {
-                write!(out, ", buffer {}", Bytes(buffer.as_ref()))
-            }
-            Call::ReadRequest { credential, .. } => write!(out, ", credential {credential:#x}"),
-            Call::ReadCount { count, .. } => write!(out, ", count {count:#x}"),
-            Call::ReadRow {
-                credential,
-                kind,
-                name,
-                ..
-            } => {
-                let name = Bytes(name.as_ref());
-                write!(
-                    out,
-                    ", credential {credential:#x}, kind {kind}, name {name}"
-                )
-            }
-            _ => Ok(()),
-        }
+        write!(out, "{}{}", self.number, self.made.handed_out())
     }
 }
 

@@ -107,7 +107,7 @@ impl Tried {
 
     /// A slice is asked whether it holds a state, and goes through a call that fits the state it was made from.
     fn slice(&mut self, slice: &[u8]) -> Result<(), String> {
-        let told = self.call(slice, &Call::Holds)?.number == 0;
+        let told = self.call(slice, &Call::Holds {})?.number == 0;
         let held = layout::read(slice).is_some();
         if told != held {
             return Err(format!("told {told}, held {held}: {}", Bytes(slice)));

@@ -5,7 +5,8 @@ use crate::figures_drawers::{
     MOST_IMAGES,
 };
 use crate::figures_trial::{Setting, Trial};
-use crate::images::{put, row_at, NUMBER_IN_ROW};
+use crate::images::put;
+use slavotuk::layout::image::{row_at, NEXT};
 use slavotuk_model::figures::figures;
 use slavotuk_model::image::{HEAD_LENGTH, LONGEST, ROW_LENGTH};
 use slavotuk_model::module::{CREDENTIALS, PLACES, SPENT};
@@ -43,9 +44,14 @@ pub fn lone_bytes(setting: &Setting) -> Result<String, String> {
 
 /// Each with an image after it, and cut off in front of its last byte, behind its length, and in its length.
 pub fn lengths(setting: &Setting) -> Result<String, String> {
-    const LENGTHS: [usize; 12] = [0, 1, 41, 42, 43, 93, 94, 95, 666, 667, 668, LONGEST_PIECE];
+    const ONE_ROW: usize = HEAD_LENGTH + ROW_LENGTH;
+    let mut lengths = vec![0, 1, LONGEST + 2, LONGEST_PIECE];
+    for bound in [HEAD_LENGTH, ONE_ROW] {
+        lengths.extend([bound - 1, bound, bound + 1]);
+    }
+    lengths.extend([LONGEST, LONGEST + 1]);
     let mut trial = Trial::new(setting, "lengths");
-    for length in LENGTHS {
+    for length in lengths {
         for rows in nearest_row_counts(length) {
             let mut image = with_rows(rows);
             image.resize(length, 0);
@@ -61,7 +67,7 @@ pub fn lengths(setting: &Setting) -> Result<String, String> {
             }
         }
     }
-    Ok(trial.counted("lengths 0, 1, 41 to 43, 93 to 95, 666 to 668 and 65,535, whole and cut off"))
+    Ok(trial.counted("lengths of no row, one row and twelve and their neighbours, 0, 1 and 65,535, whole and cut off"))
 }
 
 /// How many rows have the images that are just not longer than this, and just longer.
@@ -96,7 +102,16 @@ pub fn cut_off(setting: &Setting) -> Result<String, String> {
 pub fn skipped(setting: &Setting) -> Result<String, String> {
     let mut trial = Trial::new(setting, "skipped");
     let images = piece(&example()).repeat(LONGEST_PIECE / HEAD_LENGTH);
-    let lengths = [667, 668, 719, 4_095, 4_096, 4_097, 65_534, LONGEST_PIECE];
+    let lengths = [
+        LONGEST + 1,
+        LONGEST + 2,
+        LONGEST + 1 + ROW_LENGTH,
+        4_095,
+        4_096,
+        4_097,
+        65_534,
+        LONGEST_PIECE,
+    ];
     for length in lengths {
         // what is skipped begins with an image, or somewhere in one
         for from in [0, 1, 2, 10, 43] {
@@ -111,7 +126,7 @@ pub fn skipped(setting: &Setting) -> Result<String, String> {
             trial.drawer(format!("length {length}"), &drawer)?;
         }
     }
-    Ok(trial.counted("good images after lengths of 667 to 65,535"))
+    Ok(trial.counted("good images after lengths of one more than the longest to 65,535"))
 }
 
 /// Exactly as many images as are told of, the last one of every kind.
@@ -238,7 +253,7 @@ pub fn every_number(setting: &Setting) -> Result<String, String> {
     let mut trial = Trial::new(setting, "numbers");
     let image = |number| {
         let mut image = with_rows(1);
-        put(&mut image, row_at(0) + NUMBER_IN_ROW, number);
+        put(&mut image, row_at(0) + NEXT, number);
         image
     };
     let images: Vec<Vec<u8>> = (0..=u16::MAX).map(image).collect();

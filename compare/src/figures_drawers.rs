@@ -1,7 +1,7 @@
 //! What drawers are made of.
 
 use slavotuk_model::image;
-use slavotuk_model::module::{Kind, Module, Process, CREDENTIALS, PLACES};
+use slavotuk_model::module::{Kind, Module, Process, CREDENTIALS, NAME_LENGTH, PLACES};
 
 /// This many images are told of: document 02's number, and not the model's.
 pub const MOST_IMAGES: usize = 4_096;
@@ -36,7 +36,7 @@ pub fn image_with(pairs: [(bool, u32); CREDENTIALS], numbers: &[u16]) -> Vec<u8>
         module.processes.push(Process {
             credential: 0,
             kind: Kind::SavedUser { next: *next },
-            name: [row as u8; 48],
+            name: [row as u8; NAME_LENGTH],
         });
     }
     image::write(&module)
@@ -71,7 +71,7 @@ mod tests {
             let total = format!("{rows} 5 {rows}\ntotal 1 {rows} 5\n");
             assert_eq!(figures(&piece(&with_rows(rows))), total);
         }
-        let cut_off = with_length(43, &example());
+        let cut_off = with_length(example().len() + 1, &example());
         assert_eq!(figures(&cut_off), "bad\ntotal 0 0 0\n");
     }
 }

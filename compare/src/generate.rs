@@ -4,6 +4,7 @@ use crate::call::{Answer, Call, ENTRIES};
 use crate::images;
 use crate::random::Random;
 use slavotuk::entries::RawClaim;
+use slavotuk::layout::listing::{row_at, FULL_LENGTH, ROWS_AT};
 use slavotuk_model::layout::{self, STATE_LENGTH};
 use slavotuk_model::module::{Credential, Kind, Name, Process, Session, Wanted};
 use slavotuk_model::module::{CREDENTIALS, NAME_LENGTH, PLACES, SESSIONS, SPENT};
@@ -111,7 +112,7 @@ impl Generator {
         }
         match Call::ENTRIES[self.random.weighted(&weights(self.style))] {
             "fresh" => self.wrong_fresh(),
-            "holds" => Call::Holds,
+            "holds" => Call::Holds {},
             "open" => {
                 let session = self.session_in(module, Session::Closed);
                 Call::Open { session }
@@ -349,7 +350,9 @@ impl Generator {
             _ => module.rows(Wanted::All),
         };
         let exact = messages::listing(&rows).len();
-        self.room_about(exact, &[0, 3, 4, 5, 54, 55, 615, 616, 617])
+        let bounds = [1, ROWS_AT, row_at(1), FULL_LENGTH];
+        let others = bounds.map(|bound| [bound - 1, bound, bound + 1]).concat();
+        self.room_about(exact, &others)
     }
 
     fn room_about(&mut self, exact: usize, others: &[usize]) -> usize {

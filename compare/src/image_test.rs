@@ -1,10 +1,13 @@
 //! Images on both sides of each bound. An accepted one is written again and has to be the same bytes; after a refusal the slice has to hold what it held.
 
 use crate::call::{Bytes, Call};
-use crate::images::{self, names, put, row_at, NUMBER_IN_ROW};
+use crate::images::{self, names, put};
 use crate::random::Random;
 use crate::report::Report;
 use crate::sides::Pair;
+use slavotuk::layout::image::{
+    row_at, MASK_AT, NEXT, ROWS_OFFSET_AT, ROW_COUNT_AT, WORDS_OFFSET_AT, WORD_COUNT_AT,
+};
 use slavotuk_model::image::{self, LONGEST, ROW_LENGTH};
 use slavotuk_model::layout::{self, STATE_LENGTH};
 use slavotuk_model::module::{Module, PLACES};
@@ -194,15 +197,15 @@ fn every_number(tried: &mut Tried, images: &[Image]) -> Result<String, String> {
         return Err("an image is missing".to_string());
     };
     let last = row_at(images::rows(&three.bytes) - 1);
-    let owners = three.bytes[images::MASK].count_ones().into();
+    let owners = three.bytes[MASK_AT].count_ones().into();
     let numbers = [
-        ("mask", none, images::MASK, 256),
-        ("count of words", three, images::COUNT_OF_WORDS, 1),
-        ("offset of words", three, images::OFFSET_OF_WORDS, 1),
-        ("count of rows", three, images::COUNT_OF_ROWS, 1),
-        ("offset of rows", three, images::OFFSET_OF_ROWS, 1),
+        ("mask", none, MASK_AT, 256),
+        ("count of words", three, WORD_COUNT_AT, 1),
+        ("offset of words", three, WORDS_OFFSET_AT, 1),
+        ("count of rows", three, ROW_COUNT_AT, 1),
+        ("offset of rows", three, ROWS_OFFSET_AT, 1),
         ("credential", three, last, owners),
-        ("next number", three, last + NUMBER_IN_ROW, 65_535),
+        ("next number", three, last + NEXT, 65_535),
     ];
     for (number, image, at, good) in numbers {
         let before = tried.accepted;
@@ -238,7 +241,7 @@ fn every_length(tried: &mut Tried, images: &[Image]) -> Result<String, String> {
     let names = names(PLACES + 1, &mut tried.random);
     let mut rows = images::draw(0x5a, &names, &mut tried.random);
     for count in 0..=PLACES + 1 {
-        put(&mut rows, images::COUNT_OF_ROWS, count as u16);
+        put(&mut rows, ROW_COUNT_AT, count as u16);
         for length in 0..=LENGTHS {
             let good = count <= PLACES && length == row_at(count);
             let outcome = tried.expect(&rows[..length], good);

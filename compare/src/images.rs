@@ -1,20 +1,9 @@
 //! Images: drawn, and damaged in their fields.
 
 use crate::random::Random;
-use slavotuk_model::image::{self, HEAD_LENGTH, ROW_LENGTH};
+use slavotuk::layout::image::*;
+use slavotuk_model::image;
 use slavotuk_model::module::{Kind, Module, Name, Process, CREDENTIALS, NAME_LENGTH, SPENT};
-
-/// Where the five numbers of the head stand.
-pub const MASK: usize = 0;
-pub const COUNT_OF_WORDS: usize = 2;
-pub const OFFSET_OF_WORDS: usize = 4;
-pub const COUNT_OF_ROWS: usize = 6;
-pub const OFFSET_OF_ROWS: usize = 8;
-/// Where the words begin.
-const WORDS: usize = 10;
-/// Where a row has its next number and its name; the credential is first.
-pub const NUMBER_IN_ROW: usize = 2;
-pub const NAME_IN_ROW: usize = 4;
 
 /// An image with these credentials provisioned, and a row for each of the names.
 pub fn draw(mask: u8, names: &[Name], random: &mut Random) -> Vec<u8> {
@@ -48,12 +37,7 @@ pub fn names(count: usize, random: &mut Random) -> Vec<Name> {
 
 /// How many whole rows the bytes have room for.
 pub fn rows(image: &[u8]) -> usize {
-    image.len().saturating_sub(HEAD_LENGTH) / ROW_LENGTH
-}
-
-/// Where a row begins.
-pub fn row_at(row: usize) -> usize {
-    HEAD_LENGTH + ROW_LENGTH * row
+    image.len().saturating_sub(ROWS_AT) / ROW_LENGTH
 }
 
 /// Puts a number of two bytes there.
@@ -63,7 +47,7 @@ pub fn put(image: &mut [u8], at: usize, number: u16) {
 
 /// Puts the word of a credential there.
 pub fn put_word(image: &mut [u8], credential: usize, word: u32) {
-    let at = WORDS + 4 * credential;
+    let at = word_at(credential);
     image[at..at + 4].copy_from_slice(&word.to_le_bytes());
 }
 
@@ -90,17 +74,17 @@ pub fn damage(image: &mut Vec<u8>, fields: usize, random: &mut Random) {
 }
 
 fn change_mask(image: &mut [u8], random: &mut Random) {
-    let mask = get(image, MASK);
+    let mask = get(image, MASK_AT);
     let changed = match random.percent(80) {
         true => mask ^ (1 << random.below(16)),
         false => random.word() as u16,
     };
-    put(image, MASK, changed);
+    put(image, MASK_AT, changed);
 }
 
 /// The numbers that have one value each.
 fn change_head(image: &mut [u8], random: &mut Random) {
-    let at = random.pick(&[COUNT_OF_WORDS, OFFSET_OF_WORDS, OFFSET_OF_ROWS]);
+    let at = random.pick(&[WORD_COUNT_AT, WORDS_OFFSET_AT, ROWS_OFFSET_AT]);
     let held = get(image, at);
     let (less, more) = (held.wrapping_sub(1), held.wrapping_add(1));
     let others = [less, more, held ^ 0x100, held ^ 0x8000, 0, 74, held];
@@ -109,7 +93,7 @@ fn change_head(image: &mut [u8], random: &mut Random) {
 
 fn change_count(image: &mut [u8], rows: u16, random: &mut Random) {
     let others = [rows.wrapping_sub(1), rows + 1, 0, 12, 13, rows ^ 0x100];
-    put(image, COUNT_OF_ROWS, random.pick(&others));
+    put(image, ROW_COUNT_AT, random.pick(&others));
 }
 
 fn change_word(image: &mut [u8], random: &mut Random) {
@@ -131,12 +115,12 @@ fn change_owner(image: &mut [u8], row: usize, random: &mut Random) {
 fn change_number(image: &mut [u8], row: usize, random: &mut Random) {
     let drawn = random.word() as u16;
     let number = random.pick(&[0, 0, 1, 256, SPENT - 1, SPENT, drawn]);
-    put(image, row_at(row) + NUMBER_IN_ROW, number);
+    put(image, row_at(row) + NEXT, number);
 }
 
 /// Another row's name; half of them with a byte changed again.
 fn change_name(image: &mut [u8], row: usize, other: usize, random: &mut Random) {
-    let (to, from) = (row_at(row) + NAME_IN_ROW, row_at(other) + NAME_IN_ROW);
+    let (to, from) = (row_at(row) + NAME, row_at(other) + NAME);
     image.copy_within(from..row_at(other + 1), to);
     if random.percent(50) {
         let at = random.pick(&[0, 15, 16, 31, 32, 46, 47]);
@@ -168,7 +152,7 @@ pub fn without_row(bytes: &[u8], row: usize) -> Option<Vec<u8>> {
 /// Gives the rows of one name another.
 pub fn rename(image: &mut [u8], from: &[u8], to: &[u8]) {
     for row in 0..rows(image) {
-        let name = &mut image[row_at(row) + NAME_IN_ROW..row_at(row + 1)];
+        let name = &mut image[row_at(row) + NAME..row_at(row + 1)];
         if name == from {
             name.copy_from_slice(to);
         }
@@ -178,9 +162,10 @@ pub fn rename(image: &mut [u8], from: &[u8], to: &[u8]) {
 #[cfg(test)]
 mod tests {
     use super::*;
+    use slavotuk_model::module::PLACES;
 
     fn names() -> Vec<Name> {
-        (0..12).map(|row| [row; 48]).collect()
+        (0..PLACES as u8).map(|row| [row; NAME_LENGTH]).collect()
     }
 
     #[test]

@@ -3,6 +3,7 @@
 use crate::call::{Answer, Call};
 use crate::sides::Pair;
 use slavotuk::entries::RawClaim;
+use slavotuk::layout::listing::row_at;
 use slavotuk_model::image::LONGEST;
 use slavotuk_model::layout::STATE_LENGTH;
 use slavotuk_model::module::{CREDENTIALS, NAME_LENGTH, SPENT};
@@ -116,9 +117,9 @@ type Numbered = (u32, fn(u16) -> Call);
 /// Every class is granted.
 const GRANTED: [Numbered; 6] = [
     (0, |number| record(number, 4)),
-    (0, |number| list(number, 1, 60)),
+    (0, |number| list(number, 1, row_at(1))),
     (0, |number| set_word(number, 2)),
-    (15, |number| list(number, 1, 54)),
+    (15, |number| list(number, 1, row_at(1) - 1)),
     (6, |number| kill(number, 9)),
     (5, |number| set_word(number, UNPROVISIONED)),
 ];
@@ -128,7 +129,7 @@ const NOT_GRANTED: [Numbered; 6] = [
     (0, |number| record(number, 4)),
     (6, |number| kill(number, 2)),
     (10, |number| record(number, 5)),
-    (10, |number| list(number, 2, 60)),
+    (10, |number| list(number, 2, row_at(1))),
     (10, |number| set_word(number, 1)),
     (10, keep),
 ];

@@ -5,6 +5,7 @@ use crate::images;
 use crate::sequence::{Failure, Sequence};
 use crate::sides::Pair;
 use slavotuk::entries::RawClaim;
+use slavotuk::layout::{image, listing};
 use slavotuk_model::layout::{self, STATE_LENGTH};
 use slavotuk_model::module::{Module, NAME_LENGTH, SESSIONS};
 
@@ -198,7 +199,14 @@ fn plainer_calls(call: &Call) -> Vec<Call> {
         }
         | Call::Image { image: buffer, .. } => {
             let room = buffer.as_ref().len();
-            let rooms = [0, 4, 42, room / 2, room.saturating_sub(1), room];
+            let rooms = [
+                0,
+                listing::ROWS_AT,
+                image::ROWS_AT,
+                room / 2,
+                room.saturating_sub(1),
+                room,
+            ];
             for room in rooms.into_iter().filter(|tried| *tried <= room) {
                 plainer.push(change(&|call| set_room(call, room)));
             }
@@ -286,7 +294,7 @@ pub fn describe(failure: &Failure) -> Vec<String> {
 fn describe_lent(lent: &[u8]) -> Vec<String> {
     match layout::read(lent) {
         Some(module) if module == Module::fresh([(false, 0); 8]) => {
-            vec!["lent: 681 zero bytes".to_string()]
+            vec![format!("lent: {STATE_LENGTH} zero bytes")]
         }
         Some(module) => {
             let mut lines = vec![format!("lent: sessions {:?}", module.sessions)];

@@ -5,38 +5,36 @@ use slavotuk_model::entries::{self, Lent, RawClaim};
 use slavotuk_model::{layout, Module};
 use std::fmt;
 
-/// Makes the call on the model. Its entries share no line with the archive's, and its claim is a type of its own.
-#[rustfmt::skip]
-fn modelled(lent: &mut Lent, call: &mut Call) -> u32 {
-    let claim_of = |claim: &slavotuk::entries::RawClaim| RawClaim {
+/// The model's claim is a type of its own.
+fn modelled_claim(claim: &slavotuk::entries::RawClaim) -> RawClaim {
+    RawClaim {
         kind: claim.kind,
         credential: claim.credential,
         number: claim.number,
         verdict: claim.verdict,
-    };
-    match call {
-        Call::Fresh { provisioned, words } => entries::fresh(lent, provisioned, words),
-        Call::Holds => entries::holds(lent),
-        Call::Open { session } => entries::open(lent, *session),
-        Call::Close { session } => entries::close(lent, *session),
-        Call::Drop { session } => entries::drop(lent, *session),
-        Call::Select { session, version } => entries::select(lent, *session, *version),
-        Call::Start { session, credential, name } => entries::start(lent, *session, *credential, name),
-        Call::Continue { session, credential, name } => entries::continue_saved(lent, *session, *credential, name),
-        Call::Elevate { session, credential, name, verdict } => entries::elevate(lent, *session, *credential, name, *verdict),
-        Call::End { session, credential, number, verdict, keep } => entries::end(lent, *session, *credential, *number, *verdict, *keep),
-        Call::Record { session, claim, class } => entries::record(lent, *session, claim_of(claim), *class),
-        Call::List { session, claim, wanted, response, length } => entries::list(lent, *session, claim_of(claim), *wanted, response.as_mut(), length),
-        Call::Kill { session, claim, name } => entries::kill(lent, *session, claim_of(claim), name),
-        Call::SetWord { session, claim, target, word } => entries::set_word(lent, *session, claim_of(claim), *target, *word),
-        Call::Image { image, length } => entries::image(lent, image.as_mut(), length),
-        Call::Restore { image } => entries::restore(lent, image),
-        Call::ReadRequest { message, credential } => entries::read_request(message, credential),
-        Call::WriteRequest { buffer, credential } => entries::write_request(buffer.as_mut(), *credential),
-        Call::ReadCount { message, count } => entries::read_count(message, count),
-        Call::ReadRow { message, at, credential, kind, name } => entries::read_row(message, *at, credential, kind, name.as_mut()),
     }
 }
+
+/// What the model's entry gets for a parameter.
+macro_rules! given {
+    ($name:ident: RawClaim) => { modelled_claim($name) };
+    ($name:ident: $($type:tt)+) => { slavotuk::given!($name: $($type)+) };
+}
+
+macro_rules! modelled {
+    ($($group:ident { $($(#[$doc:meta])* $symbol:ident $function:ident $case:ident $([$($state:tt)+])? $(($name:ident: $($type:tt)+))*;)* })*) => {
+        /// Makes the call on the model. Its entries share no line with the archive's, but have the names and the parameters of the functions around those.
+        fn modelled(lent: &mut Lent, call: &mut Call) -> u32 {
+            match call {
+                $($(Call::$case { $($name),* } => {
+                    entries::$function($(slavotuk::first!(lent, $($state)+),)? $(given!($name: $($type)+)),*)
+                })*)*
+            }
+        }
+    };
+}
+
+slavotuk::calls!(modelled);
 
 /// A copy of the call is made: the call itself is there to be printed and made again.
 fn answer(call: &Call, make: impl FnOnce(&mut Call) -> u32) -> Answer {
@@ -171,10 +169,10 @@ mod tests {
 
     #[test]
     fn a_pair_with_other_states_differs() {
-        let mut pair = Pair::of(&[0; 681]);
+        let mut pair = Pair::of(&[0; layout::STATE_LENGTH]);
         assert!(pair.call(&Call::Open { session: 0 }).is_ok());
         assert_eq!(pair.read_back(), Ok(()));
-        pair.archive = Archive::of(&[0; 681]);
+        pair.archive = Archive::of(&[0; layout::STATE_LENGTH]);
         assert_eq!(pair.read_back(), Err(Difference::ReadBack));
         assert!(matches!(
             pair.call(&Call::Open { session: 1 }),

@@ -6,7 +6,8 @@ use crate::console::Console;
 use crate::document::{is_computed, path};
 use crate::folder::Folder;
 use crate::line::{self, Command};
-use slavotuk::{Credential, Module, Refusal};
+use slavotuk::layout::image::*;
+use slavotuk::{Credential, Module, Refusal, NAME_LENGTH};
 use std::fs;
 
 /// The line of docs/IMAGE.md behind which everything is computed.
@@ -21,23 +22,27 @@ const EXAMPLE: &str = "examples/power-cycle.txt";
 /// Changes of the example's first image: the offset, the new bytes, and why it is an image no more.
 const CHANGES: [(usize, &[u8], &str); 14] = [
     (
-        0,
+        MASK_AT,
         &[1],
         "credential 1 is then not provisioned, and its word not zero",
     ),
-    (1, &[1], "there is no credential 8"),
-    (2, &[7], "there are 8 words"),
-    (4, &[11], "the words begin at 10"),
-    (6, &[1], "an image with one row has 94 bytes"),
-    (6, &[3], "an image with three rows has 198 bytes"),
-    (8, &[43], "the rows begin at 42"),
-    (18, &[1], "the word of a credential that is not provisioned"),
-    (41, &[128], "the same"),
-    (42, &[2], "credential 2 is not provisioned"),
-    (43, &[1], "there is no credential 256"),
-    (44, &[0], "a save has counted one"),
-    (96, &[0, 0], "the same"),
-    (114, &[0x11; 32], "Q is then P"),
+    (MASK_AT + 1, &[1], "there is no credential 8"),
+    (WORD_COUNT_AT, &[7], "there are 8 words"),
+    (WORDS_OFFSET_AT, &[11], "the words begin at 10"),
+    (ROW_COUNT_AT, &[1], "an image with one row has 94 bytes"),
+    (ROW_COUNT_AT, &[3], "an image with three rows has 198 bytes"),
+    (ROWS_OFFSET_AT, &[ROWS_AT as u8 + 1], "the rows begin at 42"),
+    (
+        word_at(2),
+        &[1],
+        "the word of a credential that is not provisioned",
+    ),
+    (word_at(7) + 3, &[128], "the same"),
+    (row_at(0) + OWNER, &[2], "credential 2 is not provisioned"),
+    (row_at(0) + OWNER + 1, &[1], "there is no credential 256"),
+    (row_at(0) + NEXT, &[0], "a save has counted one"),
+    (row_at(1) + NEXT, &[0, 0], "the same"),
+    (row_at(1) + NAME + 16, &[0x11; 32], "Q is then P"),
 ];
 
 /// What the example's lines are answered, and the images that they write.
@@ -146,9 +151,9 @@ fn drawn(image: &[u8]) -> String {
     for row in 0..rows {
         fields.draw(2, &format!("row {row}: credential {}", fields.number(2)));
         fields.draw(2, &format!("row {row}: next number {}", fields.number(2)));
-        let name = image[fields.at..][..48].try_into().unwrap();
+        let name = image[fields.at..][..NAME_LENGTH].try_into().unwrap();
         let letter = bytes::letter_of(name).unwrap_or("without a letter");
-        fields.draw(48, &format!("row {row}: name {letter}"));
+        fields.draw(NAME_LENGTH, &format!("row {row}: name {letter}"));
     }
     fields.draw(0, "the end");
     assert_eq!(fields.at, image.len());

@@ -110,7 +110,7 @@ pub const COMMANDS: [Topic; 25] = [
         short: "list processes",
         more: &[
             "WANTED is a credential or 'all', which is 65535. ROOM is the lent buffer's",
-            "length: 616 bytes, a full listing's, where it isn't given, and at most 65536.",
+            "length: a full listing's where it isn't given, and at most 65536.",
             "For instance: list 0 user 0 1 yes all 54",
             "Refused with, in this order: 1, 2, 3, the claim's, 10, 15.",
         ],
@@ -171,7 +171,7 @@ pub const COMMANDS: [Topic; 25] = [
     Topic {
         name: "save",
         form: "save FILE",
-        short: "write the 681 bytes of the state to a file",
+        short: "write the bytes of the state to a file",
         more: &[
             "A file name with blanks stands between quotation marks. A file is replaced",
             "whole or not at all, and is on the disk before it is called saved: a new one",

@@ -117,65 +117,58 @@ fn command(name: &str, words: &mut Reader) -> Result<Command, String> {
     })
 }
 
-fn call(name: &str, words: &mut Reader) -> Result<Call, String> {
-    let session = words.number("session")?;
-    Ok(match name {
-        "open" => Call::Open { session },
-        "close" => Call::Close { session },
-        "drop" => Call::Drop { session },
-        "select" => Call::Select {
-            session,
-            version: words.number("version")?,
-        },
-        "start" => Call::Start {
-            session,
-            credential: words.number("credential")?,
-            name: words.name()?,
-        },
-        "continue" => Call::Continue {
-            session,
-            credential: words.number("credential")?,
-            name: words.name()?,
-        },
-        "elevate" => Call::Elevate {
-            session,
-            credential: words.number("credential")?,
-            name: words.name()?,
-            verdict: words.verdict()?,
-        },
-        "end" => Call::End {
-            session,
-            credential: words.number("credential")?,
-            number: words.number16("number")?,
-            verdict: words.verdict()?,
-            keep: words.flag("keep", "remove")?,
-        },
-        "record" => Call::Record {
-            session,
-            claim: words.claim()?,
-            class: words.number("class")?,
-        },
-        "list" => Call::List {
-            session,
-            claim: words.claim()?,
-            wanted: words.wanted()?,
-            response: vec![0; words.room()?],
-            length: 0,
-        },
-        "kill" => Call::Kill {
-            session,
-            claim: words.claim()?,
-            name: words.name()?,
-        },
-        "set-word" => Call::SetWord {
-            session,
-            claim: words.claim()?,
-            target: words.number("credential")?,
-            word: words.number("word")?,
-        },
-        other => return Err(format!("{} is no call", quoted(other))),
-    })
+/// Reads a parameter of a call, by its name: a number of that name where nothing else is said.
+macro_rules! parameter {
+    ($words:ident name) => {
+        $words.name()?
+    };
+    ($words:ident claim) => {
+        $words.claim()?
+    };
+    ($words:ident number) => {
+        $words.number16("number")?
+    };
+    ($words:ident verdict) => {
+        $words.verdict()?
+    };
+    ($words:ident keep) => {
+        $words.flag("keep", "remove")?
+    };
+    ($words:ident wanted) => {
+        $words.wanted()?
+    };
+    ($words:ident response) => {
+        vec![0; $words.room()?]
+    };
+    ($words:ident length) => {
+        0
+    };
+    ($words:ident target) => {
+        $words.number("credential")?
+    };
+    ($words:ident $number:ident) => {
+        $words.number(stringify!($number))?
+    };
 }
+
+macro_rules! call {
+    (
+        module $module:tt
+        sessions { $($(#[$doc:meta])* $symbol:ident $function:ident $case:ident [$($state:tt)+] $(($name:ident: $($type:tt)+))*;)* }
+        power $power:tt
+        listing $listing:tt
+    ) => {
+        /// The call of this name, its parameters read in their order.
+        fn call(name: &str, words: &mut Reader) -> Result<Call, String> {
+            match format!("slavotuk_{}", name.replace('-', "_")).as_str() {
+                $(stringify!($symbol) => Ok(Call::$case { $($name: parameter!(words $name)),* }),)*
+                _ => Err(format!("{} is no call", quoted(name))),
+            }
+        }
+    };
+}
+
+slavotuk::calls!(call);
 
 /// A word of a line; one between quotation marks may have blanks in it.
 #[derive(Clone, Copy)]

@@ -3,6 +3,8 @@
 mod common;
 
 use common::*;
+use slavotuk::layout::state::*;
+use slavotuk::{layout, STATE_LENGTH};
 use std::fs;
 
 const SETUP: &str =
@@ -13,7 +15,7 @@ fn what_was_saved_is_loaded() {
     let folder = Folder::new("round");
     let file = folder.file("state");
     let before = good(format!("{SETUP}save {file}\nshow names\n"));
-    assert_eq!(fs::read(&file).unwrap().len(), 681);
+    assert_eq!(fs::read(&file).unwrap().len(), STATE_LENGTH);
     let after = good(format!("load {file}\nshow names\n"));
     let shown = |out: &str| out[out.find("sessions").unwrap()..].to_string();
     assert_eq!(shown(&before), shown(&after));
@@ -29,8 +31,9 @@ fn an_old_file_is_replaced_whole() {
     let folder = Folder::new("replace");
     let file = folder.file("a state");
     fs::write(&file, vec![9; 10_000]).unwrap();
-    assert_eq!(good(format!("save \"{file}\"\n")), "saved 681 bytes\n");
-    assert_eq!(fs::read(&file).unwrap().len(), 681);
+    let told = format!("saved {STATE_LENGTH} bytes\n");
+    assert_eq!(good(format!("save \"{file}\"\n")), told);
+    assert_eq!(fs::read(&file).unwrap().len(), STATE_LENGTH);
     assert_eq!(folder.names(), ["a state"]);
 }
 
@@ -41,7 +44,7 @@ fn load_begins_a_new_history() {
     let out = good(format!(
         "open 0\nsave {file}\nopen 1\nload {file}\nopen 1\nhistory\n"
     ));
-    let told = format!("loaded 681 bytes\na new history begins\n0 done\nsince load {file}\n     1  open 1: 0 done\n");
+    let told = format!("loaded {STATE_LENGTH} bytes\na new history begins\n0 done\nsince load {file}\n     1  open 1: 0 done\n");
     assert!(out.ends_with(&told), "{out}");
 }
 
@@ -67,14 +70,14 @@ fn damaged_files_change_nothing() {
     for (at, byte) in [
         (0, 3),
         (0, 0),
-        (4, 2),
-        (15, 1),
-        (44, 2),
-        (44, 13),
-        (45, 2),
+        (credential_at(0) + PROVISIONED, 2),
+        (credential_at(2) + WORD, 1),
+        (COUNT_AT, 2),
+        (COUNT_AT, 13),
+        (place_at(0) + OWNER, 2),
         // a saved process that has counted nothing
-        (48, 0),
-        (680, 1),
+        (place_at(0) + NEXT, 0),
+        (STATE_LENGTH - 1, 1),
     ] {
         let mut damaged = whole.clone();
         assert_ne!(damaged[at], byte);
@@ -83,12 +86,14 @@ fn damaged_files_change_nothing() {
         not_loaded(&file, "its bytes hold no state, 1 argument");
         assert_eq!(fs::read(&file).unwrap(), damaged);
     }
-    fs::write(&file, &whole[..680]).unwrap();
-    not_loaded(&file, "it has 680 bytes, and a state 681");
-    fs::write(&file, b"").unwrap();
-    not_loaded(&file, "it has 0 bytes, and a state 681");
+    for length in [STATE_LENGTH - 1, 0] {
+        fs::write(&file, &whole[..length]).unwrap();
+        let why = format!("it has {length} bytes, and a state {STATE_LENGTH}");
+        not_loaded(&file, &why);
+    }
     fs::write(&file, [&whole[..], &[0]].concat()).unwrap();
-    not_loaded(&file, "it has more than the 681 bytes of a state");
+    let why = format!("it has more than the {STATE_LENGTH} bytes of a state");
+    not_loaded(&file, &why);
 }
 
 #[test]
@@ -170,7 +175,7 @@ fn a_symbolic_link_stays_and_its_file_is_replaced() {
     let (link, file) = (format!("{near}/link"), format!("{far}/file"));
     fs::write(&file, b"old").unwrap();
     symlink("../far/file", &link).unwrap();
-    for (command, length) in [("save", 681), ("image", 94)] {
+    for (command, length) in [("save", STATE_LENGTH), ("image", layout::image::row_at(1))] {
         good(format!("{SETUP}{command} {link}\n"));
         assert_eq!(fs::read_link(&link).unwrap().to_str(), Some("../far/file"));
         assert!(fs::symlink_metadata(&file).unwrap().is_file());

@@ -3,10 +3,15 @@
 mod common;
 
 use common::*;
+use slavotuk::layout::image::*;
 use std::fs::{self, File};
 
 /// Document 01's first eleven steps in short: P is saved at number 3, and R active.
 const SETUP: &str = "open 0\nselect 0 0x10\nstart 0 0 P\nlist 0 user 0 0 yes 0\nlist 0 user 0 1 yes 0\nend 0 0 2 yes keep\nstart 0 1 R\n";
+
+/// The bytes of an image with one row, and with none.
+const ONE_ROW: usize = row_at(1);
+const NO_ROW: usize = row_at(0);
 
 /// What follows the first line that begins so.
 fn from<'a>(out: &'a str, start: &str) -> &'a str {
@@ -15,9 +20,10 @@ fn from<'a>(out: &'a str, start: &str) -> &'a str {
 
 /// The image of the module behind `SETUP`, field by field.
 fn image() -> Vec<u8> {
-    let mut image = vec![3, 0, 8, 0, 10, 0, 1, 0, 42, 0];
-    image.extend([15, 0, 0, 0, 16, 0, 0, 0]);
-    image.resize(42, 0);
+    let mut image = vec![3, 0, 8, 0, WORDS_AT as u8, 0, 1, 0, ROWS_AT as u8, 0];
+    image.resize(ROWS_AT, 0);
+    image[word_at(0)] = 15;
+    image[word_at(1)] = 16;
     image.extend([0, 0, 3, 0]);
     image.extend([0; 16]);
     image.extend([0x11; 32]);
@@ -29,12 +35,14 @@ fn the_saved_process_is_restored_and_the_active_one_lost() {
     let folder = Folder::new("cycle");
     let file = folder.file("image");
     let out = good(format!("{SETUP}image {file}\n"));
-    assert!(out.ends_with("0 done\n0 done\nwritten 94 bytes\n"), "{out}");
+    let told = format!("0 done\n0 done\nwritten {ONE_ROW} bytes\n");
+    assert!(out.ends_with(&told), "{out}");
     assert_eq!(fs::read(&file).unwrap(), image());
     assert_eq!(folder.names(), ["image"]);
 
-    let restored =
-        format!("0 done\nrestored from 94 bytes\na new history begins\nsince restore {file}\n");
+    let restored = format!(
+        "0 done\nrestored from {ONE_ROW} bytes\na new history begins\nsince restore {file}\n"
+    );
     let drawn = "\
 sessions
   0  closed
@@ -52,7 +60,7 @@ processes, 1 of 12
     let again = folder.file("again");
     let script =
         format!("fresh none\nopen 3\nrestore {file}\nhistory\nshow names\nimage {again}\n");
-    let told = format!("{restored}{drawn}0 done\nwritten 94 bytes\n");
+    let told = format!("{restored}{drawn}0 done\nwritten {ONE_ROW} bytes\n");
     assert_eq!(from(&good(script), "0 done\nrestored"), told);
     assert_eq!(fs::read(&again).unwrap(), image());
 }
@@ -66,7 +74,8 @@ fn a_process_goes_on_with_its_number() {
         "restore {file}\ncontinue 1 0 P\nopen 1\nselect 1 0x10\nlist 1 user 0 3 yes 0\ncontinue 1 1 R\ncontinue 1 0 P\n\
          end 1 0 0 yes remove\nend 1 0 2 yes remove\nend 1 0 4 yes remove\nend 1 0 3 yes keep\nimage {file}\nrestore {file}\nshow names\n"
     );
-    let answers = "\
+    let answers = format!(
+        "\
 2 session
 0 done
 0 done
@@ -78,14 +87,15 @@ fn a_process_goes_on_with_its_number() {
 9 out of turn
 0 done
 0 done
-written 94 bytes
+written {ONE_ROW} bytes
 0 done
-restored from 94 bytes
+restored from {ONE_ROW} bytes
 a new history begins
-";
+"
+    );
     let out = good(script);
     let told = from(&out, "2 session");
-    assert_eq!(&told[..answers.len()], answers);
+    assert_eq!(told[..answers.len()], answers);
     assert!(told.ends_with("saved user              -            4  00*16+11*32  P\n"));
 }
 
@@ -97,19 +107,21 @@ fn a_continued_process_is_lost() {
     let script = format!(
         "{SETUP}image {file}\ncontinue 0 0 P\nimage {file}\nrestore {file}\nopen 0\nselect 0 0x10\ncontinue 0 0 P\nstart 0 1 P\nshow\n"
     );
-    let told = "\
+    let told = format!(
+        "\
 0 done
-written 42 bytes
+written {NO_ROW} bytes
 0 done
-restored from 42 bytes
+restored from {NO_ROW} bytes
 a new history begins
 0 done
 0 done
 6 no process
 0 done
-";
-    assert!(from(&good(script), "0 done\nwritten 42").starts_with(told));
-    assert_eq!(fs::read(&file).unwrap().len(), 42);
+"
+    );
+    assert!(good(script).contains(&told));
+    assert_eq!(fs::read(&file).unwrap().len(), NO_ROW);
 }
 
 /// What goes wrong where the newest image is not the one that is returned.
@@ -143,9 +155,12 @@ fn a_spent_process_stays_spent() {
         "fresh 0=0x14\nopen 0\nselect 0 0x10\nstart 0 0 P\nrecords 0 0 0 65533 4\nend 0 0 65534 yes keep\nimage {file}\nrestore {file}\n\
          open 0\nselect 0 0x10\ncontinue 0 0 P\nrecord 0 user 0 65535 yes 4\nrecord 0 user 0 0 yes 4\nend 0 0 65535 yes keep\n"
     ));
-    assert_eq!(fs::read(&file).unwrap()[42..46], [0, 0, 0xff, 0xff]);
-    let told = "restored from 94 bytes\na new history begins\n0 done\n0 done\n0 done\n13 spent\n13 spent\n13 spent\n";
-    assert!(out.ends_with(told), "{out}");
+    assert_eq!(
+        fs::read(&file).unwrap()[row_at(0)..][..NAME],
+        [0, 0, 0xff, 0xff]
+    );
+    let told = format!("restored from {ONE_ROW} bytes\na new history begins\n0 done\n0 done\n0 done\n13 spent\n13 spent\n13 spent\n");
+    assert!(out.ends_with(&told), "{out}");
 }
 
 #[test]
@@ -157,10 +172,11 @@ fn twelve_saved_processes_make_the_longest_image() {
         script.push_str(&format!("start 0 0 {at:02x}*48\nend 0 0 0 yes keep\n"));
     }
     let out = good(format!("{script}image {file}\nrestore {file}\nshow\n"));
-    assert!(out.contains("written 666 bytes\n0 done\nrestored from 666 bytes\n"));
+    let told = format!("written {FULL_LENGTH} bytes\n0 done\nrestored from {FULL_LENGTH} bytes\n");
+    assert!(out.contains(&told));
     assert!(out.contains("processes, 12 of 12"));
-    let rows = fs::read(&file).unwrap()[42..].to_vec();
-    let owners_and_numbers = rows.chunks(52).map(|row| row[..5].to_vec());
+    let rows = fs::read(&file).unwrap()[ROWS_AT..].to_vec();
+    let owners_and_numbers = rows.chunks(ROW_LENGTH).map(|row| row[..=NAME].to_vec());
     let wanted: Vec<Vec<u8>> = (0..12).map(|at| vec![0, 0, 1, 0, at]).collect();
     assert_eq!(owners_and_numbers.collect::<Vec<_>>(), wanted);
 }
@@ -183,6 +199,16 @@ fn the_example_goes_through_two_power_cycles() {
     assert_eq!(folder.names(), ["board.image"]);
 }
 
+/// What is said of a file of so many bytes that are no image.
+fn no_image(length: usize) -> String {
+    format!("the file's {length} bytes are no image")
+}
+
+/// What is said of one that has more than an image can have.
+fn longer() -> String {
+    format!("the file has more than the {FULL_LENGTH} bytes of the longest image")
+}
+
 /// Restores from a file that is no image: 14, and that the module and the calls so far are as they were.
 #[track_caller]
 fn not_restored(file: &str, why: &str) {
@@ -199,34 +225,35 @@ fn a_file_that_is_no_image_is_refused() {
     let folder = Folder::new("refused");
     let file = folder.file("image");
     for (at, byte) in [
-        (0, 0),
-        (0, 2),
-        (1, 1),
-        (2, 7),
-        (4, 11),
-        (6, 0),
-        (6, 2),
-        (8, 41),
-        (18, 1),
-        (42, 2),
-        (43, 1),
-        (44, 0),
+        (MASK_AT, 0),
+        (MASK_AT, 2),
+        (MASK_AT + 1, 1),
+        (WORD_COUNT_AT, 7),
+        (WORDS_OFFSET_AT, 11),
+        (ROW_COUNT_AT, 0),
+        (ROW_COUNT_AT, 2),
+        (ROWS_OFFSET_AT, ROWS_AT as u8 - 1),
+        (word_at(2), 1),
+        (row_at(0) + OWNER, 2),
+        (row_at(0) + OWNER + 1, 1),
+        (row_at(0) + NEXT, 0),
     ] {
         let mut damaged = image();
         assert_ne!(damaged[at], byte);
         damaged[at] = byte;
         fs::write(&file, &damaged).unwrap();
-        not_restored(&file, "the file's 94 bytes are no image");
+        not_restored(&file, &no_image(ONE_ROW));
         assert_eq!(fs::read(&file).unwrap(), damaged);
     }
     let mut twice = image();
-    twice.extend_from_within(42..);
-    twice[6] = 2;
+    twice.extend_from_within(ROWS_AT..);
+    twice[ROW_COUNT_AT] = 2;
     fs::write(&file, &twice).unwrap();
-    not_restored(&file, "the file's 146 bytes are no image");
+    not_restored(&file, &no_image(row_at(2)));
     *twice.last_mut().unwrap() = 0x12;
     fs::write(&file, &twice).unwrap();
-    assert!(good(format!("restore {file}\n")).starts_with("0 done\nrestored from 146 bytes\n"));
+    let told = format!("0 done\nrestored from {} bytes\n", row_at(2));
+    assert!(good(format!("restore {file}\n")).starts_with(&told));
 }
 
 #[test]
@@ -234,26 +261,33 @@ fn a_file_of_another_length_is_refused() {
     let folder = Folder::new("length");
     let file = folder.file("image");
     let whole = image();
-    for length in [0, 1, 41, 42, 93, 95, 146, 666] {
+    for length in [
+        0,
+        1,
+        NO_ROW - 1,
+        NO_ROW,
+        ONE_ROW - 1,
+        ONE_ROW + 1,
+        row_at(2),
+        FULL_LENGTH,
+    ] {
         let mut bytes = whole.clone();
         bytes.resize(length, 0);
         fs::write(&file, &bytes).unwrap();
-        not_restored(&file, &format!("the file's {length} bytes are no image"));
+        not_restored(&file, &no_image(length));
     }
-    let longer = "the file has more than the 666 bytes of the longest image";
-    fs::write(&file, [&whole[..], &[0; 573]].concat()).unwrap();
-    not_restored(&file, longer);
+    fs::write(&file, [0; FULL_LENGTH + 1]).unwrap();
+    not_restored(&file, &longer());
     // more than is ever read: the blocks of this file are not there
     File::create(&file).unwrap().set_len(1 << 40).unwrap();
-    not_restored(&file, longer);
+    not_restored(&file, &longer());
 }
 
 #[cfg(unix)]
 #[test]
 fn devices_are_read_as_files() {
-    not_restored("/dev/null", "the file's 0 bytes are no image");
-    let longer = "the file has more than the 666 bytes of the longest image";
-    not_restored("/dev/zero", longer);
+    not_restored("/dev/null", &no_image(0));
+    not_restored("/dev/zero", &longer());
 }
 
 #[test]
@@ -282,7 +316,7 @@ fn an_old_image_is_replaced_whole() {
     let out = good(format!(
         "image \"{file}\"\n{SETUP}image \"{file}\"\nhistory\n"
     ));
-    assert!(out.starts_with("0 done\nwritten 42 bytes\n"));
+    assert!(out.starts_with(&format!("0 done\nwritten {NO_ROW} bytes\n")));
     assert!(out.ends_with(&format!("     9  image \"{file}\": 0 done\n")));
     assert_eq!(fs::read(&file).unwrap(), image());
     assert_eq!(folder.names(), ["an image"]);

@@ -1,14 +1,11 @@
 //! The image of a module, as docs/IMAGE.md draws it.
 
-use crate::{Bytes, NAME_LENGTH, PLACES};
+use crate::{layout, Bytes};
 use std::fmt;
 use std::ops::Deref;
 
-const HEAD_LENGTH: usize = 42;
-const ROW_LENGTH: usize = 4 + NAME_LENGTH;
-
 /// How many bytes the image of twelve saved processes has, the longest that there is.
-pub const FULL_IMAGE_LENGTH: usize = HEAD_LENGTH + ROW_LENGTH * PLACES;
+pub const FULL_IMAGE_LENGTH: usize = layout::image::FULL_LENGTH;
 
 /// What a module keeps while it is without power, as the bytes that are to be kept: its credentials, their words, and its saved processes with their next
 /// numbers. [`Module::image`](crate::Module::image) writes one, and [`Module::restore`](crate::Module::restore) makes a module from its bytes.
@@ -21,7 +18,7 @@ pub const FULL_IMAGE_LENGTH: usize = HEAD_LENGTH + ROW_LENGTH * PLACES;
 /// old ones.
 ///
 /// ```
-/// use slavotuk::{Credential, Grants, Module, Name, Phase, Refusal, Session, Standing, UserClaim, VERSION_1_0};
+/// use slavotuk::{layout, Credential, Grants, Module, Name, Phase, Refusal, Session, Standing, UserClaim, VERSION_1_0};
 ///
 /// let (session, credential, name) = (Session::try_from(0)?, Credential::try_from(0)?, Name([0x11; 48]));
 /// let mut module = Module::fresh(&[Grants::of_word(15); 8])?;
@@ -33,7 +30,7 @@ pub const FULL_IMAGE_LENGTH: usize = HEAD_LENGTH + ROW_LENGTH * PLACES;
 ///
 /// // the saved process is in the image, and the active one is not
 /// let image = module.image()?;
-/// assert_eq!(image.len(), 42 + 52);
+/// assert_eq!(image.len(), layout::image::row_at(1));
 ///
 /// // the board is reseated
 /// let flash = image.to_vec();

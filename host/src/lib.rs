@@ -65,14 +65,19 @@
 //! | [`message`] | all messages of 004 clause 9.2 |
 //! | [`entries`] | the archive's entries as they are, with numbers and byte slices |
 //! | [`Call`] | a call of an entry as a value |
+//! | [`layout`] | where things lie in a state, an image and a listing |
 
 #![deny(missing_docs)]
 #![deny(unsafe_code)]
+
+#[macro_use]
+mod signatures;
 
 mod call;
 #[allow(unsafe_code)]
 pub mod entries;
 mod image;
+pub mod layout;
 mod listing;
 pub mod message;
 mod module;
@@ -82,13 +87,15 @@ mod view;
 
 pub use call::{Bytes, Call};
 pub use image::{Image, FULL_IMAGE_LENGTH};
+pub use layout::PLACES;
 pub use listing::{
     read_request, write_request, Listing, Row, Rows, WireCredential, FULL_LISTING_LENGTH,
     REQUEST_LENGTH,
 };
 pub use module::{Module, STATE_LENGTH, VERSION_1_0};
 pub use numbers::{answered, Refusal, UnknownNumber};
+pub use signatures::{Signature, SIGNATURES};
 pub use values::{
     Claim, Class, Credential, Grants, Kind, Name, Session, UserClaim, Wanted, NAME_LENGTH,
 };
-pub use view::{Phase, Process, Processes, Standing, PLACES};
+pub use view::{Phase, Process, Processes, Standing};

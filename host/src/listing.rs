@@ -1,16 +1,14 @@
 //! The listing messages, GET_AUTH_PROCESSES and AUTH_PROCESSES, as docs/WIRE.md draws them.
 
-use crate::{answered, entries, Credential, Kind, Name, Refusal, Wanted, NAME_LENGTH, PLACES};
+use crate::layout::listing::{self, NAME, OWNER, ROWS_AT, ROW_LENGTH, TYPE};
+use crate::{answered, entries, Credential, Kind, Name, Refusal, Wanted, NAME_LENGTH};
 use std::fmt;
 
 /// How many bytes a request has.
-pub const REQUEST_LENGTH: usize = 4;
-
-const HEAD_LENGTH: usize = 4;
-const ROW_LENGTH: usize = 3 + NAME_LENGTH;
+pub const REQUEST_LENGTH: usize = listing::REQUEST_LENGTH;
 
 /// How many bytes the listing of twelve processes has, the longest that a module writes.
-pub const FULL_LISTING_LENGTH: usize = HEAD_LENGTH + ROW_LENGTH * PLACES;
+pub const FULL_LISTING_LENGTH: usize = listing::FULL_LENGTH;
 
 /// What stands in a message for all credentials.
 const ALL_CREDENTIALS: u16 = 65535;
@@ -147,7 +145,7 @@ impl<'a> Listing<'a> {
 
     /// Its rows, in the order of the process table.
     pub fn rows(&self) -> Rows<'a> {
-        let rows = self.message.get(HEAD_LENGTH..).unwrap_or_default();
+        let rows = self.message.get(ROWS_AT..).unwrap_or_default();
         Rows(rows.chunks_exact(ROW_LENGTH))
     }
 
@@ -173,10 +171,10 @@ pub struct Rows<'a>(std::slice::ChunksExact<'a, u8>);
 /// A row where it lies. The whole message was tested when the listing was read; the entry that reads a row would test it again for each.
 fn row_of(bytes: &[u8]) -> Row {
     let mut name = [0; NAME_LENGTH];
-    name.copy_from_slice(&bytes[3..]);
+    name.copy_from_slice(&bytes[NAME..]);
     Row {
-        credential: WireCredential(u16::from_le_bytes([bytes[0], bytes[1]])),
-        kind: match bytes[2] {
+        credential: WireCredential(u16::from_le_bytes([bytes[OWNER], bytes[OWNER + 1]])),
+        kind: match bytes[TYPE] {
             0 => Kind::ActiveUser,
             1 => Kind::ActiveElevation,
             _ => Kind::SavedUser,

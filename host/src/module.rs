@@ -2,12 +2,12 @@
 
 use crate::entries::{self, RawClaim};
 use crate::{
-    answered, Claim, Class, Credential, Grants, Image, Listing, Name, Refusal, Session, UserClaim,
-    Wanted, WireCredential, FULL_IMAGE_LENGTH,
+    answered, layout, Claim, Class, Credential, Grants, Image, Listing, Name, Refusal, Session,
+    UserClaim, Wanted, WireCredential, FULL_IMAGE_LENGTH,
 };
 
 /// How many bytes a state has.
-pub const STATE_LENGTH: usize = 681;
+pub const STATE_LENGTH: usize = layout::state::LENGTH;
 
 /// The version byte of version 1.0, the only one that can be selected.
 pub const VERSION_1_0: u8 = 0x10;
@@ -70,12 +70,12 @@ impl Module {
     /// A module that owns these bytes; [`Refusal::Argument`] where they hold no state.
     ///
     /// ```
-    /// use slavotuk::{Grants, Module, Refusal};
+    /// use slavotuk::{Grants, Module, Refusal, STATE_LENGTH};
     ///
     /// let module = Module::fresh(&[Grants::UNPROVISIONED; 8])?;
     /// let mut bytes = module.clone().into_bytes();
     /// assert_eq!(Module::from_bytes(bytes), Ok(module));
-    /// bytes[680] = 1;
+    /// bytes[STATE_LENGTH - 1] = 1;
     /// assert_eq!(Module::from_bytes(bytes), Err(Refusal::Argument));
     /// # Ok::<(), Refusal>(())
     /// ```
@@ -120,7 +120,7 @@ impl<'a> Module<&'a mut [u8]> {
     /// module.open(Session::new(3).unwrap())?;
     /// assert_eq!(flash[3], 1);
     ///
-    /// assert_eq!(Module::lent(&mut flash[..680]).unwrap_err(), Refusal::Argument);
+    /// assert_eq!(Module::lent(&mut flash[1..]).unwrap_err(), Refusal::Argument);
     /// # Ok::<(), Refusal>(())
     /// ```
     pub fn lent(state: &'a mut [u8]) -> Result<Self, Refusal> {
@@ -189,20 +189,20 @@ impl<S: AsRef<[u8]>> Module<S> {
     /// Writes the image of the module to the front of the buffer, and gives its length; later bytes stay as they were. Refusals: room.
     ///
     /// ```
+    /// use slavotuk::layout::image::{word_at, MASK_AT, ROWS_AT};
     /// use slavotuk::{Grants, Module, Refusal};
     ///
     /// let mut grants = [Grants::UNPROVISIONED; 8];
     /// grants[1] = Grants::of_word(16);
     /// let module = Module::fresh(&grants)?;
     ///
-    /// let mut buffer = [0xaa; 44];
-    /// assert_eq!(module.write_image(&mut buffer[..41]), Err(Refusal::Room));
-    /// assert_eq!(buffer, [0xaa; 44]);
-    /// assert_eq!(module.write_image(&mut buffer)?, 42);
-    /// assert_eq!(buffer[..10], [2, 0, 8, 0, 10, 0, 0, 0, 42, 0]);
-    /// assert_eq!(buffer[10..18], [0, 0, 0, 0, 16, 0, 0, 0]);
-    /// assert_eq!(buffer[18..42], [0; 24]);
-    /// assert_eq!(buffer[42..], [0xaa; 2]);
+    /// let mut buffer = [0xaa; ROWS_AT + 2];
+    /// assert_eq!(module.write_image(&mut buffer[..ROWS_AT - 1]), Err(Refusal::Room));
+    /// assert_eq!(buffer, [0xaa; ROWS_AT + 2]);
+    /// assert_eq!(module.write_image(&mut buffer)?, ROWS_AT);
+    /// assert_eq!(buffer[MASK_AT..][..2], [2, 0]);
+    /// assert_eq!(buffer[word_at(1)..][..4], [16, 0, 0, 0]);
+    /// assert_eq!(buffer[ROWS_AT..], [0xaa; 2]);
     /// # Ok::<(), Refusal>(())
     /// ```
     pub fn write_image(&self, buffer: &mut [u8]) -> Result<usize, Refusal> {
@@ -323,6 +323,7 @@ impl<S: AsMut<[u8]>> Module<S> {
     /// with the next number:
     ///
     /// ```
+    /// use slavotuk::layout::listing::row_at;
     /// use slavotuk::{Credential, Grants, Module, Name, Refusal, Session, UserClaim, Wanted, FULL_LISTING_LENGTH, VERSION_1_0};
     ///
     /// let (session, credential) = (Session::try_from(0)?, Credential::try_from(0)?);
@@ -333,7 +334,7 @@ impl<S: AsMut<[u8]>> Module<S> {
     ///
     /// let claim = UserClaim { credential, number: 0, verdict: true };
     /// let mut buffer = [0xaa; FULL_LISTING_LENGTH];
-    /// assert_eq!(module.list(session, claim, Wanted::All, &mut buffer[..54]), Err(Refusal::Room));
+    /// assert_eq!(module.list(session, claim, Wanted::All, &mut buffer[..row_at(1) - 1]), Err(Refusal::Room));
     /// assert_eq!(buffer, [0xaa; FULL_LISTING_LENGTH]);
     /// assert_eq!(module.list(session, claim, Wanted::All, &mut buffer), Err(Refusal::OutOfTurn));
     /// let claim = UserClaim { number: 1, ..claim };

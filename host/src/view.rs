@@ -1,16 +1,8 @@
 //! What a state holds, read from its bytes as docs/STATE.md draws them.
 
+use crate::layout::state::*;
 use crate::{Credential, Grants, Kind, Module, Name, Session, NAME_LENGTH};
 use std::fmt;
-
-/// How many processes can stand.
-pub const PLACES: usize = 12;
-
-const CREDENTIALS_AT: usize = Session::COUNT;
-const CREDENTIAL_LENGTH: usize = 5;
-const COUNT_AT: usize = CREDENTIALS_AT + CREDENTIAL_LENGTH * Credential::COUNT;
-const PLACES_AT: usize = COUNT_AT + 1;
-const PLACE_LENGTH: usize = 5 + NAME_LENGTH;
 
 /// Whether a session is open, and with which version.
 ///
@@ -129,13 +121,13 @@ pub struct Processes<'a>(std::slice::ChunksExact<'a, u8>);
 // The bytes of a module hold a state, so each field below is in its range.
 
 fn process_of(place: &[u8]) -> Process {
-    let session = Session(place[2]);
-    let next_number = u16::from_le_bytes([place[3], place[4]]);
+    let session = Session(place[SESSION]);
+    let next_number = u16::from_le_bytes([place[NEXT], place[NEXT + 1]]);
     let mut name = [0; NAME_LENGTH];
-    name.copy_from_slice(&place[5..]);
+    name.copy_from_slice(&place[NAME..]);
     Process {
-        credential: Credential(place[0]),
-        standing: match place[1] {
+        credential: Credential(place[OWNER]),
+        standing: match place[TYPE] {
             0 => Standing::ActiveUser {
                 session,
                 next_number,
@@ -190,16 +182,15 @@ impl<S: AsRef<[u8]>> Module<S> {
     /// # Ok::<(), slavotuk::Refusal>(())
     /// ```
     pub fn grants(&self, credential: Credential) -> Grants {
-        let at = CREDENTIALS_AT + CREDENTIAL_LENGTH * usize::from(credential.0);
-        let bytes = &self.bytes()[at..at + CREDENTIAL_LENGTH];
-        let word = u32::from_le_bytes([bytes[1], bytes[2], bytes[3], bytes[4]]);
-        Grants((bytes[0] == 1).then_some(word))
+        let bytes = &self.bytes()[credential_at(credential.0.into())..][..CREDENTIAL_LENGTH];
+        let word = std::array::from_fn(|at| bytes[WORD + at]);
+        Grants((bytes[PROVISIONED] == 1).then_some(u32::from_le_bytes(word)))
     }
 
     /// The processes that stand, in the order of their starts.
     pub fn processes(&self) -> Processes<'_> {
         let count = usize::from(self.bytes()[COUNT_AT]);
-        let places = &self.bytes()[PLACES_AT..PLACES_AT + PLACE_LENGTH * count];
+        let places = &self.bytes()[PLACES_AT..place_at(count)];
         Processes(places.chunks_exact(PLACE_LENGTH))
     }
 }

@@ -3,13 +3,11 @@
 mod common;
 
 use common::*;
+use slavotuk::layout::image::*;
 use slavotuk::{
     entries, Claim, Grants, Image, Module, Name, Phase, Refusal, Standing, FULL_IMAGE_LENGTH,
     STATE_LENGTH, VERSION_1_0,
 };
-
-const HEAD: usize = 42;
-const ROW: usize = 52;
 
 /// Document 01's module in which credential 0 has saved P at next number 3 and credential 1 has saved R at 1. Session 0 is open, and in it each has an active
 /// process: P2 is credential 0's, and Q is an elevation for credential 1.
@@ -41,10 +39,17 @@ fn row(owner: u8, next: u16, name: Name) -> Vec<u8> {
     bytes
 }
 
+/// The numbers in front of the words.
+fn head(mask: u8, rows: u8) -> Vec<u8> {
+    vec![mask, 0, 8, 0, WORDS_AT as u8, 0, rows, 0, ROWS_AT as u8, 0]
+}
+
 /// The image of that module, byte by byte.
 fn drawn() -> Vec<u8> {
-    let mut bytes = vec![3, 0, 8, 0, 10, 0, 2, 0, 42, 0, 15, 0, 0, 0, 20, 0, 0, 0];
-    bytes.resize(HEAD, 0);
+    let mut bytes = head(3, 2);
+    bytes.resize(ROWS_AT, 0);
+    bytes[word_at(0)] = 15;
+    bytes[word_at(1)] = 20;
     bytes.extend(row(0, 3, p()));
     bytes.extend(row(1, 1, r()));
     bytes
@@ -74,14 +79,13 @@ fn the_image_is_as_drawn() {
 #[test]
 fn every_saved_process_is_in_it_and_no_other() {
     let lengths = |module: &Module| module.image().unwrap().len();
-    assert_eq!(lengths(&Module::fresh(&grants()).unwrap()), HEAD);
-    assert_eq!(lengths(&opened(&[0, 1, 2, 3])), HEAD);
-    assert_eq!(lengths(&full()), HEAD + 11 * ROW);
+    assert_eq!(lengths(&Module::fresh(&grants()).unwrap()), ROWS_AT);
+    assert_eq!(lengths(&opened(&[0, 1, 2, 3])), ROWS_AT);
+    assert_eq!(lengths(&full()), row_at(11));
     assert_eq!(lengths(&all_saved()), FULL_IMAGE_LENGTH);
-    assert_eq!(FULL_IMAGE_LENGTH, HEAD + 12 * ROW);
-    let names: Vec<u8> = all_saved().image().unwrap()[HEAD..]
-        .chunks(ROW)
-        .map(|row| row[4])
+    let names: Vec<u8> = all_saved().image().unwrap()[ROWS_AT..]
+        .chunks(ROW_LENGTH)
+        .map(|row| row[NAME])
         .collect();
     assert_eq!(names, (0..12).collect::<Vec<u8>>());
 }
@@ -111,7 +115,12 @@ fn a_buffer_too_short_is_left() {
 fn a_slice_without_a_state_has_no_image() {
     let mut damaged = with_saved().into_bytes();
     damaged[0] = 3;
-    let slices = [&damaged[..], &[], &[0; 680], &[0; 682]];
+    let slices = [
+        &damaged[..],
+        &[],
+        &[0; STATE_LENGTH - 1],
+        &[0; STATE_LENGTH + 1],
+    ];
     for (state, room) in slices
         .into_iter()
         .flat_map(|state| [(state, 0), (state, 700)])
@@ -127,8 +136,8 @@ fn a_slice_without_a_state_has_no_image() {
 fn the_state_is_only_read() {
     static FLASH: [u8; STATE_LENGTH] = [0; STATE_LENGTH];
     let image = Module::read_only(&FLASH).unwrap().image().unwrap();
-    assert_eq!(image[..10], [0, 0, 8, 0, 10, 0, 0, 0, 42, 0]);
-    assert_eq!(image[10..], [0; 32]);
+    assert_eq!(image[..WORDS_AT], head(0, 0));
+    assert_eq!(image[WORDS_AT..], [0; ROWS_AT - WORDS_AT]);
 }
 
 // ---- the restorer
@@ -183,24 +192,24 @@ fn what_was_written_is_restored_and_written_again() {
 
 /// Changes of the drawn image, each of which makes bytes that are no image: the offset, the new byte, and why.
 const DAMAGE: [(usize, u8, &str); 18] = [
-    (0, 2, "credential 0 has a word and a row"),
-    (0, 1, "credential 1 has a word and a row"),
-    (1, 1, "a bit of the mask over 7"),
-    (1, 0x80, "the mask's last bit"),
-    (2, 7, "the count of words"),
-    (3, 1, "the count of words"),
-    (4, 11, "the offset of the words"),
-    (5, 1, "the offset of the words"),
-    (6, 1, "a row less than there are"),
-    (6, 3, "a row more than there are"),
-    (7, 1, "the count of rows"),
-    (8, 43, "the offset of the rows"),
-    (9, 1, "the offset of the rows"),
-    (18, 1, "a word of credential 2"),
-    (41, 0x80, "a word of credential 7"),
-    (HEAD, 2, "credential 2 is not provisioned"),
-    (HEAD + 1, 1, "there is no such credential"),
-    (HEAD + ROW + 2, 0, "next number 0"),
+    (MASK_AT, 2, "credential 0 has a word and a row"),
+    (MASK_AT, 1, "credential 1 has a word and a row"),
+    (MASK_AT + 1, 1, "a bit of the mask over 7"),
+    (MASK_AT + 1, 0x80, "the mask's last bit"),
+    (WORD_COUNT_AT, 7, "the count of words"),
+    (WORD_COUNT_AT + 1, 1, "the count of words"),
+    (WORDS_OFFSET_AT, 11, "the offset of the words"),
+    (WORDS_OFFSET_AT + 1, 1, "the offset of the words"),
+    (ROW_COUNT_AT, 1, "a row less than there are"),
+    (ROW_COUNT_AT, 3, "a row more than there are"),
+    (ROW_COUNT_AT + 1, 1, "the count of rows"),
+    (ROWS_OFFSET_AT, ROWS_AT as u8 + 1, "the offset of the rows"),
+    (ROWS_OFFSET_AT + 1, 1, "the offset of the rows"),
+    (word_at(2), 1, "a word of credential 2"),
+    (word_at(7) + 3, 0x80, "a word of credential 7"),
+    (row_at(0) + OWNER, 2, "credential 2 is not provisioned"),
+    (row_at(0) + OWNER + 1, 1, "there is no such credential"),
+    (row_at(1) + NEXT, 0, "next number 0"),
 ];
 
 /// Hands the bytes to the restorer, in slices that hold a state and others, and looks that each holds what it held.
@@ -225,7 +234,7 @@ fn damaged_images_are_refused() {
     // equal names, of one credential and of two
     for owner in [0, 1] {
         let mut bytes = drawn();
-        bytes.truncate(HEAD + ROW);
+        bytes.truncate(row_at(1));
         bytes.extend(row(owner, 1, p()));
         is_no_image(&bytes);
     }
@@ -238,20 +247,20 @@ fn other_lengths_are_refused() {
         is_no_image(&image[..length]);
     }
     for byte in [0, 1] {
-        for more in 1..=ROW {
+        for more in 1..=ROW_LENGTH {
             is_no_image(&[&drawn(), &vec![byte; more][..]].concat());
         }
     }
     // thirteen rows, each as it may stand
     let mut bytes = image.to_vec();
-    bytes[6] = 13;
+    bytes[ROW_COUNT_AT] = 13;
     bytes.extend(row(0, 1, q()));
     is_no_image(&bytes);
 }
 
 #[test]
 fn a_slice_of_another_length_is_refused_first() {
-    for length in [0, 1, 680, 682] {
+    for length in [0, 1, STATE_LENGTH - 1, STATE_LENGTH + 1] {
         for image in [drawn(), vec![]] {
             let mut slice = vec![0xee; length];
             assert_eq!(entries::restore(&mut slice, &image), 1);
@@ -308,7 +317,7 @@ fn active_processes_are_lost_and_their_names_free() {
 #[test]
 fn a_spent_process_stays_spent() {
     let mut bytes = drawn();
-    bytes[HEAD + 2..HEAD + 4].fill(0xff);
+    bytes[row_at(0) + NEXT..][..2].fill(0xff);
     let mut module = Module::restore(&bytes).unwrap();
     module.open(session(0)).unwrap();
     module.select(session(0), VERSION_1_0).unwrap();

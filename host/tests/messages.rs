@@ -3,14 +3,15 @@
 mod common;
 
 use common::*;
+use slavotuk::layout::listing::row_at;
 use slavotuk::{
     entries, read_request, write_request, Kind, Listing, Name, Row, Wanted, WireCredential,
-    FULL_LISTING_LENGTH,
+    FULL_LISTING_LENGTH, NAME_LENGTH, REQUEST_LENGTH,
 };
 
 /// The row that the archive's own reader gives.
 fn entry_row(message: &[u8], at: usize) -> Row {
-    let (mut credential, mut kind, mut name) = (0, 0, [0; 48]);
+    let (mut credential, mut kind, mut name) = (0, 0, [0; NAME_LENGTH]);
     let number = entries::read_row(message, at, &mut credential, &mut kind, &mut name);
     assert_eq!(number, 0);
     Row {
@@ -46,7 +47,7 @@ fn rows_are_those_of_the_archives_reader() {
     let mut message = vec![0x0e, 0x77, 200, 0];
     for row in 0..200u8 {
         message.extend([row, row.wrapping_mul(7), row % 3]);
-        message.extend([row ^ 0x5a; 48]);
+        message.extend([row ^ 0x5a; NAME_LENGTH]);
     }
     let listing = Listing::read(&message).unwrap();
     assert_eq!(listing.rows().len(), 200);
@@ -83,7 +84,7 @@ fn a_listing_of_one_credential_leaves_the_others_out() {
 #[test]
 fn the_largest_message_is_read() {
     let mut message = vec![0x0e, 0, 0xff, 0xff];
-    message.resize(4 + 51 * 65535, 1);
+    message.resize(row_at(65535), 1);
     assert_eq!(Listing::read(&message).unwrap().rows().len(), 65535);
     message.push(1);
     assert!(Listing::read(&message).is_err());
@@ -94,9 +95,9 @@ fn requests_are_read_back() {
     for number in [0, 7, 8, 300, 65534, 65535] {
         let mut buffer = [0xee; 6];
         let message = write_request(&mut buffer, WireCredential(number)).unwrap();
-        assert_eq!(message.len(), 4);
+        assert_eq!(message.len(), REQUEST_LENGTH);
         assert_eq!(read_request(message), Ok(WireCredential(number)));
-        assert_eq!(buffer[4..], [0xee; 2]);
+        assert_eq!(buffer[REQUEST_LENGTH..], [0xee; 2]);
     }
     let mut buffer = [0; 4];
     assert_eq!(

@@ -4,8 +4,8 @@ mod common;
 
 use common::*;
 use slavotuk::{
-    answered, write_request, Claim, Class, Listing, Module, Name, Refusal, Standing, UserClaim,
-    Wanted, FULL_LISTING_LENGTH,
+    answered, layout, write_request, Claim, Class, Listing, Module, Name, Refusal, Standing,
+    UserClaim, Wanted, FULL_LISTING_LENGTH,
 };
 
 /// The names as document 01's table has them, from number 1 on.
@@ -85,7 +85,7 @@ fn refused_and_spent<T: std::fmt::Debug>(
         .position(|process| process.credential == claim.credential && process.standing == standing)
         .unwrap();
     let mut expected = module.bytes().to_vec();
-    let next = 45 + 53 * place + 3;
+    let next = layout::state::place_at(place) + layout::state::NEXT;
     expected[next..next + 2].copy_from_slice(&(claim.number + 1).to_le_bytes());
     let answer = call(module, claim).unwrap_err();
     assert_eq!(answer.number(), number, "{answer}");
@@ -285,13 +285,14 @@ fn message_and_room() {
 
     let mut module = opened(&[0]);
     module.start(session(0), credential(0), &p()).unwrap();
-    let mut buffer = [0xaa; 54];
+    const ROOM: usize = layout::listing::row_at(1);
+    let mut buffer = [0xaa; ROOM - 1];
     refused_and_spent(&mut module, 15, by(0, 0), |m, claim| {
         m.list(session(0), claim, Wanted::All, &mut buffer)
             .map(|_| ())
     });
-    assert_eq!(buffer, [0xaa; 54]);
-    let mut buffer = [0xaa; 55];
+    assert_eq!(buffer, [0xaa; ROOM - 1]);
+    let mut buffer = [0xaa; ROOM];
     module
         .list(session(0), by(0, 1), Wanted::All, &mut buffer)
         .unwrap();

@@ -3,6 +3,7 @@
 mod common;
 
 use common::*;
+use slavotuk::layout::state::*;
 use slavotuk::{
     Claim, Grants, Module, Phase, Process, Refusal, Standing, STATE_LENGTH, VERSION_1_0,
 };
@@ -10,17 +11,21 @@ use slavotuk::{
 /// The example of docs/STATE.md.
 fn example() -> [u8; STATE_LENGTH] {
     let mut bytes = [0; STATE_LENGTH];
-    bytes[..14].copy_from_slice(&[2, 1, 0, 0, 1, 15, 0, 0, 0, 1, 16, 0, 0, 0]);
-    bytes[44] = 3;
+    bytes[..2].copy_from_slice(&[2, 1]);
+    for (credential, word) in [(0, 15), (1, 16)] {
+        bytes[credential_at(credential) + PROVISIONED] = 1;
+        bytes[credential_at(credential) + WORD] = word;
+    }
+    bytes[COUNT_AT] = 3;
     let places = [
         ([0, 0, 0, 3, 0], p()),
         ([1, 2, 0, 0x2c, 1], q()),
         ([1, 1, 0, 0, 0], r()),
     ];
     for (at, (head, name)) in places.into_iter().enumerate() {
-        let place = &mut bytes[45 + 53 * at..][..53];
-        place[..5].copy_from_slice(&head);
-        place[5..].copy_from_slice(name.as_ref());
+        let place = &mut bytes[place_at(at)..][..PLACE_LENGTH];
+        place[..NAME].copy_from_slice(&head);
+        place[NAME..].copy_from_slice(name.as_ref());
     }
     bytes
 }
@@ -28,19 +33,19 @@ fn example() -> [u8; STATE_LENGTH] {
 /// The changes that docs/STATE.md names, each of which makes the example hold no state: the offset and the new bytes.
 const DAMAGE: [(usize, &[u8]); 14] = [
     (3, &[3]),
-    (4, &[2]),
-    (18, &[1]),
-    (44, &[2]),
-    (44, &[4]),
-    (44, &[13]),
-    (45, &[2]),
-    (47, &[1]),
-    (47, &[2]),
-    (100, &[1]),
-    (101, &[0, 0]),
-    (155, &[1]),
-    (203, &[0x11]),
-    (680, &[1]),
+    (credential_at(0) + PROVISIONED, &[2]),
+    (credential_at(2) + WORD + 3, &[1]),
+    (COUNT_AT, &[2]),
+    (COUNT_AT, &[4]),
+    (COUNT_AT, &[13]),
+    (place_at(0) + OWNER, &[2]),
+    (place_at(0) + SESSION, &[1]),
+    (place_at(0) + SESSION, &[2]),
+    (place_at(1) + SESSION, &[1]),
+    (place_at(1) + NEXT, &[0, 0]),
+    (place_at(2) + NEXT + 1, &[1]),
+    (place_at(3) - 1, &[0x11]),
+    (STATE_LENGTH - 1, &[1]),
 ];
 
 #[test]
@@ -101,7 +106,7 @@ fn damaged_bytes_are_refused_and_left() {
 fn a_saved_process_has_counted_one() {
     for next in [[1, 0], [0, 1]] {
         let mut bytes = example();
-        bytes[101..103].copy_from_slice(&next);
+        bytes[place_at(1) + NEXT..][..2].copy_from_slice(&next);
         let module = Module::from_bytes(bytes).unwrap();
         let saved = module.processes().nth(1).unwrap();
         assert_eq!(saved.next_number(), Some(u16::from_le_bytes(next)));
@@ -110,7 +115,7 @@ fn a_saved_process_has_counted_one() {
 
 #[test]
 fn other_lengths_are_refused_and_left() {
-    for length in [0, 1, 680, 682, 1362] {
+    for length in [0, 1, STATE_LENGTH - 1, STATE_LENGTH + 1, 2 * STATE_LENGTH] {
         let mut bytes = vec![0xab; length];
         assert_eq!(Module::lent(&mut bytes).unwrap_err(), Refusal::Argument);
         let fresh = Module::fresh_in(&mut bytes, &grants());

@@ -102,13 +102,15 @@ impl Names {
 #[cfg(test)]
 mod tests {
     use super::*;
+    use slavotuk::layout::state::{place_at, LENGTH, NAME, PLACE_LENGTH};
 
     fn buffers() -> Vec<Buffer> {
+        let first = place_at(0) + NAME;
         [
-            "buffer\tstate\t0x1000\t681\tplace\t50\t53",
-            "buffer\tname\t0x2000\t48",
+            format!("buffer\tstate\t0x1000\t{LENGTH}\tplace\t{first}\t{PLACE_LENGTH}"),
+            format!("buffer\tname\t0x2000\t{NAME_LENGTH}"),
         ]
-        .map(|line| match Said::read(line) {
+        .map(|line| match Said::read(&line) {
             Ok(Said::Buffer(buffer)) => buffer,
             other => panic!("{other:?}"),
         })
@@ -118,26 +120,25 @@ mod tests {
     #[test]
     fn a_place_is_told_by_its_buffer() {
         let buffers = buffers();
-        let at = |address| place_of(Access { address, size: 1 }, &buffers);
-        assert_eq!(at(0x0fff), "elsewhere");
-        assert_eq!(at(0x1000), "byte 0 of the state");
-        assert_eq!(at(0x1000 + 49), "byte 49 of the state");
-        assert_eq!(
-            at(0x1000 + 50),
-            "byte 50 of the state (place 0, byte 0 of its name)"
-        );
-        assert_eq!(
-            at(0x1000 + 57),
-            "byte 57 of the state (place 0, byte 7 of its name)"
-        );
-        assert_eq!(at(0x1000 + 98), "byte 98 of the state");
-        assert_eq!(
-            at(0x1000 + 680),
-            "byte 680 of the state (place 11, byte 47 of its name)"
-        );
-        assert_eq!(at(0x1000 + 681), "elsewhere");
-        assert_eq!(at(0x2000 + 47), "byte 47 of the name");
-        assert_eq!(at(0x2000 + 48), "elsewhere");
+        let at = |address, byte: usize| {
+            let address = address + byte as u64;
+            place_of(Access { address, size: 1 }, &buffers)
+        };
+        let in_state = |byte| at(0x1000, byte);
+        let in_name = |byte| at(0x2000, byte);
+        assert_eq!(at(0x0fff, 0), "elsewhere");
+        for byte in [0, place_at(0) + NAME - 1, place_at(1)] {
+            assert_eq!(in_state(byte), format!("byte {byte} of the state"));
+        }
+        for (place, of_name) in [(0, 0), (0, 7), (11, NAME_LENGTH - 1)] {
+            let byte = place_at(place) + NAME + of_name;
+            let told =
+                format!("byte {byte} of the state (place {place}, byte {of_name} of its name)");
+            assert_eq!(in_state(byte), told);
+        }
+        assert_eq!(in_state(LENGTH), "elsewhere");
+        assert_eq!(in_name(47), "byte 47 of the name");
+        assert_eq!(in_name(NAME_LENGTH), "elsewhere");
     }
 
     #[test]

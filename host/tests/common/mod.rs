@@ -1,7 +1,9 @@
 //! What the tests of the wrapper share: document 01's module and names, and short forms of the values.
 #![allow(dead_code)]
 
-use slavotuk::{Class, Credential, Grants, Module, Name, Session, UserClaim, VERSION_1_0};
+use slavotuk::{
+    Class, Credential, Grants, Module, Name, Session, UserClaim, NAME_LENGTH, PLACES, VERSION_1_0,
+};
 
 pub fn session(number: u8) -> Session {
     Session::new(number).unwrap()
@@ -17,9 +19,9 @@ pub fn class(number: u8) -> Class {
 
 /// Document 01's P is `named(0x11, 0x11)`, its Q `named(0x22, 0x22)`, its R `named(0x11, 0x12)`.
 pub fn named(body: u8, last: u8) -> Name {
-    let mut bytes = [0; 48];
+    let mut bytes = [0; NAME_LENGTH];
     bytes[16..].fill(body);
-    bytes[47] = last;
+    bytes[NAME_LENGTH - 1] = last;
     Name(bytes)
 }
 
@@ -65,10 +67,10 @@ pub fn opened(sessions: &[u8]) -> Module {
 /// A module whose table is full: credential 0 has started eleven processes in session 0 and saved them, and has a twelfth active.
 pub fn full() -> Module {
     let mut module = opened(&[0]);
-    for at in 0..12 {
-        let name = Name([at; 48]);
+    for at in 0..PLACES {
+        let name = Name([at as u8; NAME_LENGTH]);
         module.start(session(0), credential(0), &name).unwrap();
-        if at < 11 {
+        if at < PLACES - 1 {
             module.end(session(0), by(0, 0), true).unwrap();
         }
     }

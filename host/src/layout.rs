@@ -1,0 +1,113 @@
+//! Where things lie in the bytes: the figures of all hosts and of their tests. tests/layout.rs holds the header's to them; the model of the comparison has its own.
+
+use crate::{Credential, Session, NAME_LENGTH};
+
+/// How many processes can stand.
+pub const PLACES: usize = 12;
+
+/// A state, as docs/STATE.md draws it: the phase of each session, the credentials, the count of processes, and their places.
+pub mod state {
+    use super::*;
+
+    /// The first credential.
+    pub const CREDENTIALS_AT: usize = Session::COUNT;
+    /// Whether it is provisioned, in a credential.
+    pub const PROVISIONED: usize = 0;
+    /// Its word, in a credential.
+    pub const WORD: usize = 1;
+    /// How many bytes a credential has.
+    pub const CREDENTIAL_LENGTH: usize = WORD + 4;
+    /// How many processes stand.
+    pub const COUNT_AT: usize = credential_at(Credential::COUNT);
+    /// The first place.
+    pub const PLACES_AT: usize = COUNT_AT + 1;
+    /// The credential, in a place.
+    pub const OWNER: usize = 0;
+    /// The type, in a place.
+    pub const TYPE: usize = 1;
+    /// The session, in a place.
+    pub const SESSION: usize = 2;
+    /// The next number, in a place.
+    pub const NEXT: usize = 3;
+    /// The name, in a place.
+    pub const NAME: usize = NEXT + 2;
+    /// How many bytes a place has.
+    pub const PLACE_LENGTH: usize = NAME + NAME_LENGTH;
+    /// How many bytes a state has.
+    pub const LENGTH: usize = place_at(PLACES);
+
+    /// Where a credential begins.
+    pub const fn credential_at(credential: usize) -> usize {
+        CREDENTIALS_AT + CREDENTIAL_LENGTH * credential
+    }
+
+    /// Where a place begins.
+    pub const fn place_at(place: usize) -> usize {
+        PLACES_AT + PLACE_LENGTH * place
+    }
+}
+
+/// An image, as docs/IMAGE.md draws it: five numbers of two bytes, the words, and a row for each saved process.
+pub mod image {
+    use super::*;
+
+    /// The mask of the provisioned credentials.
+    pub const MASK_AT: usize = 0;
+    /// The count of the words.
+    pub const WORD_COUNT_AT: usize = 2;
+    /// Where the words begin.
+    pub const WORDS_OFFSET_AT: usize = 4;
+    /// The count of the rows.
+    pub const ROW_COUNT_AT: usize = 6;
+    /// Where the rows begin.
+    pub const ROWS_OFFSET_AT: usize = 8;
+    /// The first word.
+    pub const WORDS_AT: usize = 10;
+    /// The first row, and so the bytes of an image that has none.
+    pub const ROWS_AT: usize = WORDS_AT + 4 * Credential::COUNT;
+    /// The credential, in a row.
+    pub const OWNER: usize = 0;
+    /// The next number, in a row.
+    pub const NEXT: usize = 2;
+    /// The name, in a row.
+    pub const NAME: usize = NEXT + 2;
+    /// How many bytes a row has.
+    pub const ROW_LENGTH: usize = NAME + NAME_LENGTH;
+    /// How many bytes the longest image has.
+    pub const FULL_LENGTH: usize = row_at(PLACES);
+
+    /// Where a row begins, and so the bytes of an image with so many.
+    pub const fn row_at(row: usize) -> usize {
+        ROWS_AT + ROW_LENGTH * row
+    }
+
+    /// Where the word of a credential begins.
+    pub const fn word_at(credential: usize) -> usize {
+        WORDS_AT + 4 * credential
+    }
+}
+
+/// The listing messages, as docs/WIRE.md draws them: GET_AUTH_PROCESSES, and AUTH_PROCESSES with a row for each process.
+pub mod listing {
+    use super::*;
+
+    /// How many bytes a request has.
+    pub const REQUEST_LENGTH: usize = 4;
+    /// The first row, and so the bytes of a listing that has none.
+    pub const ROWS_AT: usize = 4;
+    /// The credential, in a row.
+    pub const OWNER: usize = 0;
+    /// The type, in a row.
+    pub const TYPE: usize = 2;
+    /// The name, in a row.
+    pub const NAME: usize = 3;
+    /// How many bytes a row has.
+    pub const ROW_LENGTH: usize = NAME + NAME_LENGTH;
+    /// How many bytes the listing of all places has, the longest that a module writes.
+    pub const FULL_LENGTH: usize = row_at(PLACES);
+
+    /// Where a row begins, and so the bytes of a listing with so many.
+    pub const fn row_at(row: usize) -> usize {
+        ROWS_AT + ROW_LENGTH * row
+    }
+}
