@@ -1,4 +1,4 @@
--- A call whose claim passed is sent again while the claim's process stands: "the relay's second sending gets 9", or 13 where the process is spent by then.
+-- A call whose claim passed is sent again while the claim's process stands: the second sending gets 9, or 13 where the process is spent by then.
 -- Assumes nothing.
 use Prim.Native.Nat.{ℕ, _<_}
 use mathlib.Core.Path.{_≡_, refl, sym, ap, _∙_}

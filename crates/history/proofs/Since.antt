@@ -3,7 +3,7 @@
 use Prim.Native.Nat.{ℕ, _+_, _≤_}
 use mathlib.Core.Path.{_≡_, refl, sym, ap, _∙_}
 use mathlib.Core.Bool.{true, false, cond}
-use mathlib.Core.List.{List, [], _∷_}
+use mathlib.Core.List.{List}
 use native.Mathlib.Omega.{arith}
 use lib.Dec.{eqb}
 use borrow.Author.Tests.{not-true, not-false}
@@ -13,7 +13,7 @@ use Rattle.names.specs.declared.Credential.{Credential}
 use Rattle.names.specs.declared.Name.{Name}
 use Rattle.names.specs.declared.Session.{Session}
 use Rattle.claims.specs.declared.State.{State}
-use Rattle.history.specs.Lives.{Life, Gone, Live, isGone, passed, count, Event, withClaim, onward, follow, told}
+use Rattle.history.specs.Lives.{Life, Gone, Live, passed, count, Event, withClaim, onward, follow, told}
 use Rattle.history.specs.Steps.{onto, Step, Steps, none, then}
 use Rattle.history.specs.Since.{bare, toldSince, begins, isNew}
 use Rattle.history.proofs.Lives.{is-gone, onto-bare, isUsers, count-onto, claim-onto, claim-gone}

@@ -1,6 +1,6 @@
 -- Demand 3 from any first state, counted from what was told of each name then: "Demand 3 from then on counts from the number in the image, and its no-repeat clause holds
 -- for one run from one image".
-use Prim.Native.Nat.{ℕ, _+_, _≤_}
+use Prim.Native.Nat.{_+_, _≤_}
 use mathlib.Core.Path.{_≡_}
 use mathlib.Core.Logic.{_≢_}
 use mathlib.Core.Bool.{Bool, false, cond, not, _&&_}

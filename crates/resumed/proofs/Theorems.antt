@@ -9,7 +9,7 @@ use lib.ListN.{length, drop}
 use Rattle.lists.specs.Each.{Each, each-nil, each-cons}
 use Rattle.lists.specs.Lists.{join, select, reject}
 use Rattle.lists.proofs.Lists.{length-reject}
-use Rattle.lists.proofs.Tests.{split, clash}
+use Rattle.lists.proofs.Tests.{clash}
 use Rattle.lists.proofs.Each.{each-imp, each-imp₂, each-all, each-reject, each-left, pairs-imp, pairs-reject}
 use Rattle.rows.specs.Bytes.{Bytes, bytesOf}
 use Rattle.rows.specs.Rows.{rows}
