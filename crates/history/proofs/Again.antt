@@ -1,7 +1,7 @@
--- A call whose claim passed is sent again while the claim's process stands: "the relay's second sending gets 9", or 13 where the process is spent by then.
+-- A call whose claim passed is sent again while the claim's process stands: the second sending gets 9, or 13 where the process is spent by then.
 -- Assumes nothing.
 use Prim.Native.Nat.{ℕ, _<_}
-use mathlib.Core.Path.{_≡_, refl, sym, ap, subst, _∙_}
+use mathlib.Core.Path.{_≡_, refl, sym, ap, _∙_}
 use mathlib.Core.Logic.{_⊎_, inl, inr}
 use mathlib.Core.Bool.{true, false}
 use mathlib.Core.List.{List, _∷_}
@@ -24,20 +24,21 @@ use Rattle.claims.specs.declared.Claim.the-variants.{ByUser}
 use Rattle.claims.specs.declared.State.{State}
 use Rattle.claims.specs.declared.UserClaim.{UserClaim}
 use Rattle.claims.proofs.Laws.{pass, unless-true, when-false, clear-first, clear-rest, clear-unless}
-use Rattle.calls.specs.Calls.{Call, Open, Close, Drop, Select, Start, Continue, Elevate, End, Record, ListProcesses, Kill, SetWord, number, protection, aheadNumber, protectedNumber, passes}
+use Rattle.calls.specs.Calls.{Call, Open, Close, Drop, Select, Start, Continue, Elevate, End, Record, ListProcesses, Kill, SetWord, Under, number, protection, aheadNumber, protectedNumber, passes}
 use Rattle.calls.specs.Run.{step, run}
 use Rattle.calls.proofs.Facts.{needs}
+use Rattle.calls.proofs.Laws.{answer-number}
 use Rattle.calls.proofs.Cut.{passed-ahead, number-stop, number-stopped}
 use Rattle.facts.specs.Facts.{processes, Rules}
-use Rattle.history.specs.History.{history}
-use Rattle.history.specs.Lives.{Life, Live, told, follow}
-use Rattle.history.specs.Demand.{Carries, Stays, look, Tells}
+use Rattle.history.specs.Lives.{Life, Live, count, tellsPassed, told}
+use Rattle.history.specs.History.{event, history}
+use Rattle.history.specs.Demand.{IsPassedOf, Stays, look, Tells}
 use Rattle.history.proofs.Facts.{stands, closed-not}
-use Rattle.history.proofs.Read.{claim-passed, owner}
-use Rattle.history.proofs.Keeping.{rules-step, rules-run}
-use Rattle.history.proofs.Followed.{event, followed}
-use Rattle.history.proofs.Told.{tells-look}
-use Rattle.history.proofs.Once.{live-stands, took-two}
+use Rattle.history.proofs.Read.{claim-passed, active-passed, owner, reading}
+use Rattle.history.proofs.Keeping.{rules-step}
+use Rattle.history.proofs.Told.{live-stands, tells-look, turn-told}
+use Rattle.history.proofs.Calls.{call-step, steps}
+use Rattle.history.proofs.Along.{rules-along, told-along, larger}
 
 -- ---- what a claim that passed says of itself, whatever the state
 module _ (st : State) (s : Session) (u : UserClaim) (z : admitted st s (ByUser u) ≡ 0) where
@@ -50,7 +51,7 @@ module _ (st : State) (s : Session) (u : UserClaim) (z : admitted st s (ByUser u
   is-handle = clear-unless No.argument tt _ (clear-first _ _ (clear-first _ _ (clear-rest _ _ z)))
 
 -- the tests ahead of a claim ask nothing of the state
-ahead-same : (st last : State) (call : Call) (s : Session) (u : UserClaim) → Carries s u call → aheadNumber last call ≡ aheadNumber st call
+ahead-same : (st last : State) (call : Call) (s : Session) (u : UserClaim) → protection call ≡ Under s (ByUser u) → aheadNumber last call ≡ aheadNumber st call
 unfolding protection aheadNumber
 ahead-same st last (Open t) s u e = cc
 ahead-same st last (Close t) s u e = cc
@@ -65,7 +66,7 @@ ahead-same st last (ListProcesses t claim wanted room) s u e = refl
 ahead-same st last (Kill t claim name) s u e = refl
 ahead-same st last (SetWord t claim c word) s u e = refl
 
-claim-is : (st : State) (call : Call) (s : Session) (u : UserClaim) → Carries s u call → protectedNumber st (protection call) ≡ admitted st s (ByUser u)
+claim-is : (st : State) (call : Call) (s : Session) (u : UserClaim) → protection call ≡ Under s (ByUser u) → protectedNumber st (protection call) ≡ admitted st s (ByUser u)
 unfolding protectedNumber
 claim-is st call s u k = rw k
 
@@ -101,7 +102,7 @@ turn-of next u w h =
 
 -- ---- from any state that keeps the rules, told so: the call is made there, and its claim passes; calls follow; its process is not removed, and is active in the
 -- same session
-module _ (st : State) (v : Rules st) (tell : Name → Life) (tells : Tells tell st) (call : Call) (s : Session) (u : UserClaim) (k : Carries s u call) (p : passes st call ≡ true) (more : List Call) where
+module _ (st : State) (v : Rules st) (tell : Name → Life) (tells : Tells tell st) (call : Call) (s : Session) (u : UserClaim) (k : protection call ≡ Under s (ByUser u)) (p : passes st call ≡ true) (more : List Call) where
   abbrev next : State
   next = step st call
 
@@ -110,27 +111,35 @@ module _ (st : State) (v : Rules st) (tell : Name → Life) (tells : Tells tell 
 
   module _ (name : Name) (ns ms : List ℕ) (was : tell name ≡ Live s (u .credential) ns)
       (stays : Stays name (history st (call ∷ more)) (tell name)) (there : told tell (history st (call ∷ more)) name ≡ Live s (u .credential) ms) where
-    at-first : look name (processes st) ≡ Live s (u .credential) ns
-    at-first = sym (tells-look tell st tells name) ∙ was
-
     at-last : look name (processes last) ≡ Live s (u .credential) ms
     unfolding run
-    at-last = sym (followed name st (call ∷ more) v) ∙ ap (follow name (history st (call ∷ more))) (sym (tells-look tell st tells name)) ∙ there
+    at-last = sym (told-along name (steps st (call ∷ more)) v tell tells) ∙ there
 
     rules-last : Rules last
-    rules-last = rules-run next more (rules-step st call v)
+    rules-last = rules-along (steps next more) (rules-step st call v)
+
+    -- the claim, when it was first made
+    first-passed : IsPassedOf (tell name) (event st call)
+    first-passed =
+        record {
+          session = s;
+          claim = u;
+          carried = k;
+          told = ap tellsPassed (answer-number st call) ∙ reading st v call s u k (active-passed st call s u k p) ∙ p;
+          before = ns;
+          lives = was;
+        }
 
     not-again : passes last call ≡ false
+    unfolding history first-passed
     not-again =
         split (passes last call)
         (λ q.
-        let less : u .number < u .number =
-        took-two name st v s s u u call call more
-        (record { carried = k; told = p; before = ns; lives = at-first })
-        (subst (λ o. Stays name (event st call ∷ history next more) o) (tells-look tell st tells name) (unfold history in stays))
-        (record { carried = k; told = q; before = ms; lives = at-last })
+        let less : u .number < count (look name (processes last)) = larger name (call-step st call) (steps next more) v (tells-look tell st tells name) first-passed stays in
+        let is : u .number ≡ count (look name (processes last)) =
+        turn-told last rules-last (λ m. look m (processes last)) (λ m. refl) s u (claim-passed last call s u k q) name ms at-last
         in
-        absurd (omega arith))
+        absurd (omega (arith, less, is)))
         (λ q. q)
 
     pub sent-again : (number (run st (call ∷ more)) call ≡ 9) ⊎ (number (run st (call ∷ more)) call ≡ 13)

@@ -15,10 +15,15 @@ use Rattle.calls.specs.Run.{run}
 use Rattle.calls.specs.declared.Wanted.the-variants.{Every}
 use Rattle.calls.proofs.Orders.{twelve}
 use Rattle.calls.proofs.Sequences.{name, session, credential, class, userYes, yes′, no′, computed}
-use Rattle.history.specs.History.{Event, history}
-use Rattle.history.specs.Lives.{Life, Gone, Live, Raised, Kept, counts, ends, shuts, drops, resumes, after, charges, tellsPassed, onward, follow, told, nobody}
+use Rattle.history.specs.Lives.{Life, Gone, Live, Raised, Kept, passed, counts, charges, tellsPassed, Event, withClaim, onward, follow, told, nobody}
+use Rattle.history.specs.History.{ends, shuts, drops, resumes, after, eventOf, history}
 use Rattle.history.specs.Demand.{IsPassedOf, TwoPassed}
 use Rattle.history.proofs.Told.{live-not-gone}
+
+-- all that the examples compute with
+unfoldable pub lives : Type 1
+unfolding computed passed counts ends shuts drops resumes after charges tellsPassed withClaim onward follow history
+lives = Type 0
 
 -- two names that differ in their last byte
 abbrev P : Name
@@ -102,7 +107,7 @@ pub record Examples : Type 0 where
   pub after-continue : Told continued (Live (session 1) (credential 0) (3 ∷ 2 ∷ 1 ∷ 0 ∷ [])) Gone
   pub after-kill : Told killed Gone (Live (session 1) (credential 1) (1 ∷ 0 ∷ []))
   pub after-again : Told again (Live (session 1) (credential 0) (0 ∷ [])) (Live (session 1) (credential 1) (1 ∷ 0 ∷ []))
-  pub after-elevation : Told raised (Raised (session 1)) (Live (session 1) (credential 1) (1 ∷ 0 ∷ []))
+  pub after-elevation : Told raised (Raised (session 1) (credential 0)) (Live (session 1) (credential 1) (1 ∷ 0 ∷ []))
   pub after-drop : Told (raised ++ (Drop (session 1) ∷ [])) Gone (Live (session 1) (credential 1) (1 ∷ 0 ∷ []))
   pub after-close : Told (again ++ (Close (session 1) ∷ [])) Gone Gone
   pub refused-are : map (λ (e : Event). e .answered) (history (fresh grants) refused) ≡ 0 ∷ 0 ∷ 0 ∷ 0 ∷ 10 ∷ 9 ∷ 8 ∷ 1 ∷ 15 ∷ 6 ∷ 2 ∷ 5 ∷ 5 ∷ []
@@ -113,7 +118,7 @@ pub record Examples : Type 0 where
   pub longest-message : length (listing (rowsOf twelve Every)) ≡ 616
 
 pub examples : Examples
-unfolding computed listed history counts ends shuts drops resumes after charges tellsPassed onward follow
+unfolding lives listed
 examples =
     record {
       numbers-are = refl;
@@ -143,13 +148,13 @@ refusedAndEnded =
     ∷ []
 
 pub two-passed : TwoPassed nobody (history (fresh grants) refusedAndEnded) P
-unfolding computed history counts ends shuts drops resumes after charges tellsPassed onward follow
+unfolding lives
 two-passed =
     record {
       before = history (fresh grants) (Open (session 0) ∷ Select (session 0) 0x10 ∷ Start (session 0) (credential 0) P ∷ []);
-      first = record { call = Record (session 0) (yes′ 0 0) (class 5); answered = 10 };
+      first = eventOf (Record (session 0) (yes′ 0 0) (class 5)) 10;
       between = [];
-      second = record { call = End (session 0) (userYes 0 1) false; answered = 0 };
+      second = eventOf (End (session 0) (userYes 0 1) false) 0;
       rest = [];
       are = refl;
       one = record { session = session 0; claim = userYes 0 0; carried = refl; told = refl; before = []; lives = refl };
@@ -176,11 +181,11 @@ pub record SameNumber : Type 0 where
   pub accepted : (first .answered ≡ 0) × (second .answered ≡ 0)
 
 pub same-number : SameNumber
-unfolding computed history counts ends shuts drops resumes after charges tellsPassed onward follow
+unfolding lives
 same-number =
     record {
-      first = record { call = recorded 0 0 0; answered = 0 };
-      second = record { call = ListProcesses (session 0) (yes′ 1 0) Every 106; answered = 0 };
+      first = eventOf (recorded 0 0 0) 0;
+      second = eventOf (ListProcesses (session 0) (yes′ 1 0) Every 106) 0;
       are = refl;
       one = record { session = session 0; claim = userYes 0 0; carried = refl; told = refl; before = []; lives = refl };
       two = record { session = session 0; claim = userYes 1 0; carried = refl; told = refl; before = []; lives = refl };

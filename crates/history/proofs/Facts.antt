@@ -3,7 +3,7 @@
 use Prim.Native.Nat.{_<_}
 use mathlib.Core.Path.{_≡_, refl, sym}
 use mathlib.Core.Bool.{true, false}
-use borrow.Author.Tests.{eqb-true, eqb-false, leb-false}
+use borrow.Author.Tests.{eqb-false, leb-false}
 use Rattle.names.specs.declared.Credential.{Credential}
 use Rattle.names.specs.declared.Name.{Name}
 use Rattle.names.specs.declared.Session.{Session}
@@ -14,7 +14,7 @@ use Rattle.table.specs.declared.Among.the-variants.{All, SavedOf}
 use Rattle.claims.specs.Numbers as No
 use Rattle.claims.specs.Numbers.{_when_, _▸_}
 use Rattle.claims.specs.Module.{phaseOf, isClosed, isChosen, provisioned, hasActive, activePlace, activeProcess}
-use Rattle.claims.specs.Claim.{phaseNumber, entered, isSpent, turnNumber, userNumber, claimNumber, admitted, claimant}
+use Rattle.claims.specs.Claim.{phaseNumber, entered, isSpent, admitted, claimant}
 use Rattle.claims.specs.declared.Claim.{Claim}
 use Rattle.claims.specs.declared.Claim.the-variants.{Elevated, ByUser}
 use Rattle.claims.specs.declared.Phase.{Phase}
@@ -23,6 +23,7 @@ use Rattle.claims.specs.declared.State.{State}
 use Rattle.claims.specs.declared.UserClaim.{UserClaim}
 use Rattle.claims.proofs.Laws.{clear-first, clear-rest, clear-when, clear-unless}
 use Rattle.calls.specs.Calls.{Call, Open, Close, Drop, Select, Start, Continue, Elevate, End, Record, ListProcesses, Kill, SetWord, isFull, hasNamed, namedPlace, reach, number}
+use Rattle.calls.proofs.Facts.{ClaimNeeds, needs}
 use Rattle.lists.specs.Each.{Each}
 use Rattle.lists.proofs.Each.{Stands, found, each-fails}
 use Rattle.facts.specs.Facts.{processes}
@@ -84,16 +85,11 @@ module _ (st : State) where
   Admitted s (ByUser u) = Claimed s u
 
   pub passed : (s : Session) (claim : Claim) → admitted st s claim ≡ 0 → Admitted s claim
-  unfolding admitted claimNumber userNumber turnNumber isSpent
+  unfolding isSpent
   passed s Elevated e = tt
   passed s (ByUser u) e =
-      let user = clear-rest _ _ (clear-rest _ _ e) in
-      let turn = clear-rest _ _ (clear-rest _ _ user) in
-      record {
-        stands = stands (UserOf s (u .credential)) (clear-unless No.noProcess tt _ (clear-first _ _ (clear-rest _ _ user)));
-        unspent = eqb-false _ _ (clear-when No.spent tt _ (clear-first _ _ turn));
-        number = eqb-true _ _ (clear-unless No.outOfTurn tt _ (clear-first _ _ (clear-rest _ _ turn)));
-      }
+      let is : ClaimNeeds st s u = needs st s (ByUser u) e in
+      record { stands = stands (UserOf s (u .credential)) (is .active); unspent = eqb-false _ _ (is .unspent); number = is .turn }
 
   -- ---- a kill, by its claim, of the process of a name that it may kill
   pub record Killed (s : Session) (claim : Claim) (name : Name) : Type 0 where

@@ -3,7 +3,7 @@
 use Prim.Native.Nat.{ℕ, _+_, _<_}
 use mathlib.Core.Path.{_≡_, refl, sym, ap, _∙_}
 use mathlib.Core.Bool.{Bool, true, false, cond, _&&_, _||_}
-use mathlib.Core.List.{List, [], _∷_}
+use mathlib.Core.List.{_∷_}
 use native.Mathlib.Numerals.{add-one}
 use lib.Dec.{eqb}
 use borrow.Author.Tests.{eqb-true, eqb-false}
@@ -30,19 +30,19 @@ use Rattle.claims.specs.declared.Claim.{Claim}
 use Rattle.claims.specs.declared.Claim.the-variants.{Elevated, ByUser}
 use Rattle.claims.specs.declared.State.{State}
 use Rattle.claims.specs.declared.UserClaim.{UserClaim}
-use Rattle.calls.specs.Calls.{Call, Open, Close, Drop, Select, Start, Continue, Elevate, End, Record, ListProcesses, Kill, SetWord, number, withTable, userProcess, elevation, activated, saved, oneMore, namedPlace, reach, counted, ended, effect, Protection, Free, Under, protection, protectedNumber, passes, charged, answerNumber, outcome}
-use Rattle.calls.specs.Run.{step, run}
-use Rattle.calls.proofs.Cut.{passed-claim, left-stopped, left-passed}
+use Rattle.calls.specs.Calls.{Call, Open, Close, Drop, Select, Start, Continue, Elevate, End, Record, ListProcesses, Kill, SetWord, number, withTable, userProcess, elevation, activated, saved, oneMore, namedPlace, reach, counted, ended, effect, Protection, Free, Under, protection, protectedNumber, passes, charged}
+use Rattle.calls.specs.Run.{step}
+use Rattle.calls.proofs.Cut.{passed-claim, number-done, left-stopped, left-passed}
 use Rattle.calls.proofs.Laws.{answer-number}
 use Rattle.lists.specs.Each.{Each}
-use Rattle.history.specs.History.{Event, history}
-use Rattle.history.specs.Lives.{Life, Gone, Live, Kept, counts, ends, shuts, drops, resumes, after, charges, tellsPassed, onward, follow, down}
+use Rattle.history.specs.Lives.{Life, Gone, Live, Kept, counts, charges, tellsPassed, withClaim, onward, down}
+use Rattle.history.specs.History.{ends, shuts, drops, resumes, after, eventOf, event}
 use Rattle.history.specs.Demand.{life, lifeOf, look}
 use Rattle.facts.specs.Facts.{processes, Rules}
 use Rattle.lists.proofs.Each.{Stands, each-fails, each-imp, each-all, pairs-imp}
 use Rattle.history.proofs.Facts.{Added, Continued, ActiveStands, Admitted, Facts, facts, passed}
-use Rattle.history.proofs.Read.{active-passed, reading}
-use Rattle.history.proofs.Keeping.{active-more, named-more, unnamed, rest-apart, kept-counted, stands-counted, step-accepted, step-refused, rules-step}
+use Rattle.history.proofs.Read.{reading}
+use Rattle.history.proofs.Keeping.{active-more, named-more, unnamed, rest-apart, kept-counted, stands-counted, step-accepted, step-refused}
 use Rattle.history.proofs.Looked.{Distinct, Fixed, look-fixed, is-name, other-name, look-set, look-remove, look-reject, look-append}
 
 -- ---- what an automaton's step does to a process's life, at the process that is meant and at another
@@ -90,9 +90,6 @@ module _ (s : Session) (t : Session) (d : Credential) (i : ℕ) where
   resumes-saved k e = rw e
 
 module _ (n : Name) (st : State) (v : Rules st) where
-  abbrev Follows : Call → Type 0
-  Follows call = look n (processes (effect st call)) ≡ after n call (look n (processes st))
-
   -- ---- the others: of other names, and none the active process that is meant
   module _ (i : ℕ) (h : i < length (processes st)) where
     rest-distinct : Each (λ x. Distinct x (getD (processes st) i freePlace)) (removeAt i (processes st))
@@ -110,8 +107,8 @@ module _ (n : Name) (st : State) (v : Rules st) where
       (each-imp (λ x e q. rw (other-name n x (y .name) (unnamed (y .name) x e) q)) (f .unused)))
 
   -- ---- a close
-  follows-close : (s : Session) → Follows (Close s)
-  unfolding effect after isActiveIn shuts
+  follows-close : (s : Session) → look n (processes (effect st (Close s))) ≡ shuts s (look n (processes st))
+  unfolding effect isActiveIn shuts
   follows-close s =
       rw (standing-without-session (st .table) s)
       (look-reject n (shuts s) refl (isActiveIn s) (processes st)
@@ -131,8 +128,8 @@ module _ (n : Name) (st : State) (v : Rules st) where
         (look-remove n g z (processes st) i freePlace h k (rest-distinct i h) r)
 
   -- ---- a continue
-  follows-continue : (s : Session) (c : Credential) (name : Name) → Continued st s c name → Follows (Continue s c name)
-  unfolding effect after processAt resumes
+  follows-continue : (s : Session) (c : Credential) (name : Name) → Continued st s c name → look n (processes (effect st (Continue s c name))) ≡ cond (sameName name n) (resumes s (look n (processes st))) (look n (processes st))
+  unfolding effect processAt resumes
   follows-continue s c name f =
       let i : ℕ = namedPlace st name (SavedOf c) in
       let x : Process = getD (processes st) i freePlace in
@@ -149,8 +146,8 @@ module _ (n : Name) (st : State) (v : Rules st) where
       (each-imp (λ p d q. rw (other-name n p name (rw m at d) q)) (rest-distinct i (f .stands .inside)))
 
   -- ---- a drop
-  follows-drop : (s : Session) → ActiveStands st (ElevationIn s) → Follows (Drop s)
-  unfolding effect after isActive drops
+  follows-drop : (s : Session) → ActiveStands st (ElevationIn s) → look n (processes (effect st (Drop s))) ≡ drops s (look n (processes st))
+  unfolding effect isActive drops
   follows-drop s f =
       let i : ℕ = activePlace st (ElevationIn s) in
       let x : Process = getD (processes st) i freePlace in
@@ -217,36 +214,33 @@ module _ (n : Name) (st : State) (v : Rules st) where
       (λ q. rw (is-name n x name (ap (λ (a : Name). a .bytes) m) q))
       (each-imp (λ p d q. rw (other-name n p name (rw m at d) q)) (rest-distinct i (f .inside)))
 
--- ---- a call, with what is known of it where it is accepted
+-- ---- a call, with what is known of it where it is accepted: what becomes of a process once the claim is counted
 module _ (n : Name) (st : State) (v : Rules st) where
-  follows : (call : Call) → Facts st call → Follows n st v call
-  unfolding effect after
+  follows : (call : Call) → Facts st call → after call n (look n (processes (charged st (protection call)))) ≡ look n (processes (effect st call))
+  unfolding effect after charged protection
   follows (Open s) f = refl
-  follows (Close s) f = follows-close n st v s
+  follows (Close s) f = sym (follows-close n st v s)
   follows (Select s byte) f = refl
-  follows (Start s c name) f = follows-added n st v (UserOf s c) s c (userProcess s c name) f
-  follows (Continue s c name) f = follows-continue n st v s c name f
-  follows (Elevate s c name verdict) f = follows-added n st v (ElevationIn s) s c (elevation s c name) f
-  follows (Drop s) f = follows-drop n st v s f
+  follows (Start s c name) f = sym (follows-added n st v (UserOf s c) s c (userProcess s c name) f)
+  follows (Continue s c name) f = sym (follows-continue n st v s c name f)
+  follows (Elevate s c name verdict) f = sym (follows-added n st v (ElevationIn s) s c (elevation s c name) f)
+  follows (Drop s) f = sym (follows-drop n st v s f)
   follows (End s u keep) f =
       let which : Active = UserOf s (u .credential) in
-      follows-ended n (counted st s (ByUser u)) (kept-counted st v s (ByUser u) f) s (u .credential) (activePlace st which)
+      sym
+      (follows-ended n (counted st s (ByUser u)) (kept-counted st v s (ByUser u) f) s (u .credential) (activePlace st which)
       (stands-counted st s (ByUser u) f (isActive which) (active-more which) (activePlace st which) (f .stands))
-      keep
-      ∙ ap (ends s (u .credential) keep) (follows-counted n st v s (ByUser u) f)
-  follows (Record s claim class) f = follows-counted n st v s claim f
-  follows (ListProcesses s claim wanted room) f = follows-counted n st v s claim f
+      keep)
+  follows (Record s claim class) f = refl
+  follows (ListProcesses s claim wanted room) f = refl
   follows (Kill s claim name) f =
       let among : Among = reach st (claimant st s claim) in
-      follows-killed n (counted st s claim) (kept-counted st v s claim (f .admission)) name among (namedPlace st name among)
-      (stands-counted st s claim (f .admission) (isNamed name among) (named-more name among) (namedPlace st name among) (f .stands))
-      ∙ ap (λ o. cond (sameName name n) Gone o) (follows-counted n st v s claim (f .admission))
-  follows (SetWord s claim c word) f = follows-counted n st v s claim (f .admission)
+      sym
+      (follows-killed n (counted st s claim) (kept-counted st v s claim (f .admission)) name among (namedPlace st name among)
+      (stands-counted st s claim (f .admission) (isNamed name among) (named-more name among) (namedPlace st name among) (f .stands)))
+  follows (SetWord s claim c word) f = refl
 
--- ---- a call, refused or not
-abbrev pub event : State → Call → Event
-event st call = record { call = call; answered = answerNumber (outcome st call .answer) }
-
+-- ---- the claim of a call, by what is told of it: its number, and whether the claim passed
 module _ (n : Name) (st : State) (v : Rules st) where
   abbrev was : Life
   was = look n (processes st)
@@ -263,26 +257,35 @@ module _ (n : Name) (st : State) (v : Rules st) where
   either-way true o = refl
   either-way false o = refl
 
-  -- a claim that passed, and one that did not
-  follows-charged : (w : Protection) → protectedNumber st w ≡ 0 → charges w was ≡ look n (processes (charged st w))
+  -- one that passed is counted, and one that did not is not
+  claim-counted : (w : Protection) → protectedNumber st w ≡ 0 → charges w was ≡ look n (processes (charged st w))
   unfolding charges charged protectedNumber
-  follows-charged Free e = refl
-  follows-charged (Under s claim) e = sym (follows-counted n st v s claim (passed st s claim e))
+  claim-counted Free e = refl
+  claim-counted (Under s claim) e = sym (follows-counted n st v s claim (passed st s claim e))
 
-  follows-passed : (call : Call) → passes st call ≡ true → (w : Protection) → protection call ≡ w → cond (tellsPassed (number st call)) (charges w was) was ≡ charges w was
-  unfolding charges counts
-  follows-passed call p Free e = either-way (tellsPassed (number st call)) was
-  follows-passed call p (Under s Elevated) e = either-way (tellsPassed (number st call)) was
-  follows-passed call p (Under s (ByUser u)) e = rw (reading st v call s u e (active-passed st call s u e p), p)
+  -- where its process stands the number tells whether it passed; where none stands, there is nothing to count
+  abbrev Reads : Protection → ℕ → Bool → Type 0
+  Reads w k p = (s : Session) (u : UserClaim) → w ≡ Under s (ByUser u) → hasActive st (UserOf s (u .credential)) ≡ true → tellsPassed k ≡ p
 
-  follows-stopped : (call : Call) → passes st call ≡ false → (w : Protection) → protection call ≡ w → cond (tellsPassed (number st call)) (charges w was) was ≡ was
+  claim-told : (w : Protection) (k : ℕ) (p : Bool) → Reads w k p → cond (tellsPassed k) (charges w was) was ≡ cond p (charges w was) was
   unfolding charges counts
-  follows-stopped call p Free e = either-way (tellsPassed (number st call)) was
-  follows-stopped call p (Under s Elevated) e = either-way (tellsPassed (number st call)) was
-  follows-stopped call p (Under s (ByUser u)) e =
+  claim-told Free k p r = either-way (tellsPassed k) was ∙ sym (either-way p was)
+  claim-told (Under s Elevated) k p r = either-way (tellsPassed k) was ∙ sym (either-way p was)
+  claim-told (Under s (ByUser u)) k p r =
       split (hasActive st (UserOf s (u .credential)))
-      (λ h. rw (reading st v call s u e h, p))
-      (λ h. split (tellsPassed (number st call)) (λ t. rw t (idle-counts s u h)) (λ t. rw t))
+      (λ h. rw (r s u refl h))
+      (λ h. rw (idle-counts s u h) (either-way (tellsPassed k) was ∙ sym (either-way p was)))
+
+  pub follows-claim : (w : Protection) (k : ℕ) (p : Bool) → (p ≡ true → protectedNumber st w ≡ 0) → Reads w k p → cond (tellsPassed k) (charges w was) was ≡ look n (processes (cond p (charged st w) st))
+  follows-claim w k p clear r =
+      claim-told w k p r ∙ split p (λ e. rw e (claim-counted w (clear e))) (λ e. rw e)
+
+-- ---- a call, refused or not
+module _ (n : Name) (st : State) (v : Rules st) where
+  claim-follows : (call : Call) → withClaim (eventOf call (number st call)) (look n (processes st)) ≡ look n (processes (cond (passes st call) (charged st (protection call)) st))
+  unfolding withClaim
+  claim-follows call =
+      follows-claim n st v (protection call) (number st call) (passes st call) (passed-claim st call) (λ s u w h. reading st v call s u w h)
 
   pub follows-step : (call : Call) → onward n (event st call) (look n (processes st)) ≡ look n (processes (step st call))
   unfolding onward
@@ -290,17 +293,8 @@ module _ (n : Name) (st : State) (v : Rules st) where
       split (eqb (number st call) 0)
       (λ e.
       let z = eqb-true (number st call) 0 e in
-      rw (answer-number st call, e, step-accepted st call z) (sym (follows n st v call (facts st call z))))
+      rw (answer-number st call, e, step-accepted st call z, claim-follows call, number-done st call z) (follows n st v call (facts st call z)))
       (λ e.
       let z = eqb-false (number st call) 0 e in
-      rw (answer-number st call, e, step-refused st call z)
-      (split (passes st call)
-      (λ p. rw (left-passed st call p z) (follows-passed call p (protection call) refl ∙ follows-charged (protection call) (passed-claim st call p)))
-      (λ p. rw (left-stopped st call p) (follows-stopped call p (protection call) refl))))
-
--- any calls, from any state that keeps the rules
-pub followed : (n : Name) (st : State) (calls : List Call) → Rules st → follow n (history st calls) (look n (processes st)) ≡ look n (processes (run st calls))
-unfolding follow history run
-followed n st [] v = refl
-followed n st (call ∷ calls) v =
-    ap (follow n (history (step st call) calls)) (follows-step n st v call) ∙ followed n (step st call) calls (rules-step st call v)
+      rw (answer-number st call, e, step-refused st call z, claim-follows call)
+      (split (passes st call) (λ p. rw (p, left-passed st call p z)) (λ p. rw (p, left-stopped st call p))))

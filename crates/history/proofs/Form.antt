@@ -1,4 +1,4 @@
--- What else a call keeps: the state's form, where the call fits its parameters' types; and whom the module was made for.
+-- What else a call keeps: the state's form, where the call fits its parameters' types.
 -- Assumes nothing.
 use Prim.Native.Nat.{ℕ}
 use mathlib.Core.Path.{_≡_, refl, sym, ap, _∙_}
@@ -9,7 +9,7 @@ use lib.ListN.{length, getD, length-set, length-map, length-replicate}
 use lib.Seq.{getD-set-same}
 use Rattle.lists.specs.Each.{Each, each-nil, each-cons}
 use Rattle.lists.proofs.Tests.{split, clash}
-use Rattle.lists.proofs.Each.{same-set, each-at, each-append, each-remove, each-set, each-reject}
+use Rattle.lists.proofs.Each.{each-at, each-append, each-remove, each-set, each-reject}
 use Rattle.names.specs.declared.Credential.{Credential}
 use Rattle.names.specs.declared.Kind.the-variants.{User, Saved}
 use Rattle.names.specs.declared.Session.{Session}
@@ -21,7 +21,7 @@ use Rattle.table.specs.declared.Process.{Process}
 use Rattle.table.specs.declared.Table.{Table}
 use Rattle.table.proofs.Laws.{standing-of, whole-of, standing-appended, standing-replaced, standing-removed, standing-without-session}
 use Rattle.table.proofs.Searched.{user-of, named-among, saved-of}
-use Rattle.claims.specs.Module.{closedSession, phaseOf, isChosen, unprovisioned, provisioned, activePlace, activeProcess}
+use Rattle.claims.specs.Module.{closedSession, phaseOf, isChosen, activePlace, activeProcess}
 use Rattle.claims.specs.Claim.{claimant}
 use Rattle.claims.specs.declared.Claim.{Claim}
 use Rattle.claims.specs.declared.Claim.the-variants.{Elevated, ByUser}
@@ -33,7 +33,6 @@ use Rattle.calls.specs.Calls.{Call, Open, Close, Drop, Select, Start, Continue,
 use Rattle.calls.specs.Run.{step, run}
 use Rattle.facts.specs.Facts.{processes, Rules, FormedGrants, FormedProcess, IsState}
 use Rattle.facts.proofs.Laws.{provisioned-low, chosen-low}
-use Rattle.history.specs.Demand.{SameOwners}
 use Rattle.history.specs.Fits.{IsWord, Fits, Eight}
 use Rattle.history.proofs.Facts.{Claimed, Admitted, Facts, facts}
 use Rattle.history.proofs.Tables.{rules-fresh}
@@ -122,10 +121,10 @@ module _ (P : Process → Type 0) (st : State) where
         rw (standing-removed (counted st s claim .table) i) (each-remove i (stands .inside) (each-counted s claim (f .admission)))
     each-effect (SetWord s claim c word) f b = each-counted s claim (f .admission)
 
--- ---- around the processes: sessions and credentials as many as before, of the same owners, words of 32 bits where the call has one (F), a tidy table
-record Around (F : Type 0) (st next : State) : Type 0 where
+-- ---- around the processes: sessions and credentials as many as before, words of 32 bits where the call has one (F), a tidy table
+pub record Around (F : Type 0) (st next : State) : Type 0 where
   pub sessions : length (next .sessions) ≡ length (st .sessions)
-  pub owners : SameOwners st next
+  pub credentials : length (next .credentials) ≡ length (st .credentials)
   pub words : F → Each FormedGrants (st .credentials) → Each FormedGrants (next .credentials)
   pub tidy : st .table ≡ tableOf (processes st) → next .table ≡ tableOf (processes next)
 
@@ -134,43 +133,30 @@ tidy-of l = ap tableOf (sym (standing-of l))
 
 module _ {F : Type 0} where
   around-same : (st : State) → Around F st st
-  around-same st = record { sessions = refl; owners = record { as-many = refl; same = λ c. refl }; words = λ f e. e; tidy = λ t. t }
+  around-same st = record { sessions = refl; credentials = refl; words = λ f e. e; tidy = λ t. t }
 
   around-then : {st mid next : State} → Around F st mid → Around F mid next → Around F st next
   around-then a b =
       record {
         sessions = b .sessions ∙ a .sessions;
-        owners = record { as-many = b .owners .as-many ∙ a .owners .as-many; same = λ c. b .owners .same c ∙ a .owners .same c };
+        credentials = b .credentials ∙ a .credentials;
         words = λ f e. b .words f (a .words f e);
         tidy = λ t. b .tidy (a .tidy t);
       }
 
   around-table : (st : State) (t : Table) → t ≡ tableOf (standing t) → Around F st (withTable st t)
-  unfolding provisioned
-  around-table st t e =
-      record { sessions = refl; owners = record { as-many = refl; same = λ c. refl }; words = λ f v. v; tidy = λ h. e }
+  around-table st t e = record { sessions = refl; credentials = refl; words = λ f v. v; tidy = λ h. e }
 
   around-phase : (st : State) (s : Session) (phase : Phase) → Around F st (withPhase st s phase)
-  unfolding provisioned
   around-phase st s phase =
-      record {
-        sessions = length-set (st .sessions) (s .0) (record { phase = phase });
-        owners = record { as-many = refl; same = λ c. refl };
-        words = λ f v. v;
-        tidy = λ h. h;
-      }
+      record { sessions = length-set (st .sessions) (s .0) (record { phase = phase }); credentials = refl; words = λ f v. v; tidy = λ h. h }
 
-  around-word : (st : State) (c : Credential) (word : ℕ) → provisioned st c ≡ true → (F → IsWord word) → Around F st (withWord st c word)
-  unfolding provisioned
-  around-word st c word owner small =
+  around-word : (st : State) (c : Credential) (word : ℕ) → (F → IsWord word) → Around F st (withWord st c word)
+  around-word st c word small =
       let new : Grants = record { provisioned = true; word = word } in
       record {
         sessions = refl;
-        owners =
-            record {
-              as-many = length-set (st .credentials) (c .0) new;
-              same = λ d. same-set (λ (g : Grants). g .provisioned) (st .credentials) (c .0) (d .0) unprovisioned new (sym owner);
-            };
+        credentials = length-set (st .credentials) (c .0) new;
         words = λ f v. each-set (c .0) new v (record { word = small f; kept = λ e. clash refl e });
         tidy = λ h. h;
       }
@@ -186,7 +172,7 @@ module _ {F : Type 0} where
   around-ended st i false = around-table st _ (tidy-of _)
 
 around : (st : State) (call : Call) → Facts st call → Around (Fits call) st (effect st call)
-unfolding effect appended replaced removed withoutSession provisioned counted
+unfolding effect appended replaced removed withoutSession counted
 around st (Open s) f = around-phase st s _
 around st (Close s) f = around-then (around-table st (withoutSession (st .table) s) (tidy-of _)) (around-phase _ s _)
 around st (Select s byte) f = around-phase st s _
@@ -199,13 +185,7 @@ around st (Record s claim class) f = around-counted st s claim
 around st (ListProcesses s claim wanted room) f = around-counted st s claim
 around st (Kill s claim name) f = around-then (around-counted st s claim) (around-table (counted st s claim) _ (tidy-of _))
 around st (SetWord s claim c word) f =
-    around-then (around-counted st s claim) (around-word (counted st s claim) c word (around-counted {F = Fits (SetWord s claim c word)} st s claim .owners .same c ∙ f .owner) (λ w. w))
-
-pub owners-step : (st : State) (call : Call) → SameOwners st (step st call)
-owners-step st call =
-    step-by st call (SameOwners st) (record { as-many = refl; same = λ c. refl })
-    (λ s claim f. around-counted {F = Unit {0}} st s claim .owners)
-    (λ z. around st call (facts st call z) .owners)
+    around-then (around-counted st s claim) (around-word (counted st s claim) c word (λ w. w))
 
 -- ---- the form
 module _ (st : State) (v : IsState st) where
@@ -233,26 +213,29 @@ module _ (st : State) (v : IsState st) where
   formed-begins (Kill s claim name) f w = tt
   formed-begins (SetWord s claim c word) f w = tt
 
-  pub state-effect : (call : Call) → Facts st call → Fits call → IsState (effect st call)
-  state-effect call f w =
-      let rules : Rules (effect st call) = kept st (v .rules) call f in
-      let a = around st call f in
-      let tidy : effect st call .table ≡ tableOf (processes (effect st call)) = a .tidy (v .formed .tidy) in
+  -- by what is around the processes, and each of them
+  pub state-by : {F : Type 0} {next : State} → Rules next → Around F st next → F → Each FormedProcess (processes next) → IsState next
+  state-by {next = next} rules a w each =
+      let tidy : next .table ≡ tableOf (processes next) = a .tidy (v .formed .tidy) in
       record {
         rules = rules;
         formed =
             record {
               sessions = a .sessions ∙ v .formed .sessions;
-              credentials = a .owners .as-many ∙ v .formed .credentials;
-              places = ap (λ (t : Table). length (t .places)) tidy ∙ whole-of (processes (effect st call)) (rules .few);
+              credentials = a .credentials ∙ v .formed .credentials;
+              places = ap (λ (t : Table). length (t .places)) tidy ∙ whole-of (processes next) (rules .few);
               words = a .words w (v .formed .words);
-              each = each-effect FormedProcess st formed-lasts (v .formed .each) call f (formed-begins call f w);
+              each = each;
               tidy = tidy;
             };
       }
 
+  state-effect : (call : Call) → Facts st call → Fits call → IsState (effect st call)
+  state-effect call f w =
+      state-by (kept st (v .rules) call f) (around st call f) w (each-effect FormedProcess st formed-lasts (v .formed .each) call f (formed-begins call f w))
+
 -- a record does nothing but count its claim
-state-counted : (st : State) → IsState st → (s : Session) (claim : Claim) → Admitted st s claim → IsState (counted st s claim)
+pub state-counted : (st : State) → IsState st → (s : Session) (claim : Claim) → Admitted st s claim → IsState (counted st s claim)
 unfolding effect
 state-counted st v s claim f = state-effect st v (Record s claim (record { 0 = 4 })) f tt
 

@@ -1,9 +1,8 @@
--- Each accepted call keeps demand 3's rules; so does each call, and each list of calls.
+-- Each accepted call keeps demand 3's rules; so does each call.
 -- Assumes nothing.
 use Prim.Native.Nat.{ℕ, _<_}
 use mathlib.Core.Path.{_≡_, refl, sym, ap, subst, _∙_}
 use mathlib.Core.Bool.{Bool, true, false}
-use mathlib.Core.List.{List, [], _∷_}
 use lib.Dec.{eqb}
 use borrow.Author.Tests.{eqb-true, eqb-false, lt-ltb}
 use lib.ListN.{length, getD, set}
@@ -22,7 +21,7 @@ use Rattle.table.specs.declared.Among.{Among}
 use Rattle.table.specs.declared.Process.{Process}
 use Rattle.table.proofs.Laws.{standing-of}
 use Rattle.table.proofs.Searched.{user-of, elevation-in, named-among, saved-of}
-use Rattle.claims.specs.Module.{provisioned, activePlace, activeProcess}
+use Rattle.claims.specs.Module.{activePlace, activeProcess}
 use Rattle.claims.specs.Claim.{claimant}
 use Rattle.claims.specs.declared.Claim.{Claim}
 use Rattle.claims.specs.declared.Claim.the-variants.{Elevated, ByUser}
@@ -30,7 +29,7 @@ use Rattle.claims.specs.declared.Phase.the-variants.{Closed, Opened}
 use Rattle.claims.specs.declared.State.{State}
 use Rattle.calls.specs.Calls.{Call, Open, Close, Drop, Select, Start, Continue, Elevate, End, Record, ListProcesses, Kill, SetWord, withTable, userProcess, elevation, activated, saved, oneMore, namedPlace, counted, ended, effect, number, reach, Protection, Free, Under, protection, protectedNumber, refusedAfter, charged, left}
 use Rattle.calls.specs.declared.Outcome.{Outcome}
-use Rattle.calls.specs.Run.{step, run}
+use Rattle.calls.specs.Run.{step}
 use Rattle.calls.proofs.Cut.{after-passed}
 use Rattle.calls.proofs.Laws.{outcome-done, refusal-leaves}
 use Rattle.lists.specs.Each.{Each}
@@ -172,11 +171,6 @@ module _ (st : State) (s : Session) where
       let x : Process = getD (processes st) i freePlace in
       rw (standing-of (set (processes st) i (oneMore x))) (stands-set f (processes st) freePlace i j (oneMore x) (same x) h)
 
-provisioned-counted : (st : State) (s : Session) (claim : Claim) (c : Credential) → provisioned (counted st s claim) c ≡ provisioned st c
-unfolding counted provisioned
-provisioned-counted st s Elevated c = refl
-provisioned-counted st s (ByUser u) c = refl
-
 -- ---- a call, with what is known of it where it is accepted
 module _ (st : State) (v : Rules st) where
   pub kept : (call : Call) → Facts st call → Rules (effect st call)
@@ -202,7 +196,7 @@ module _ (st : State) (v : Rules st) where
       kept-removed (counted st s claim) (kept-counted st v s claim (f .admission)) (namedPlace st name among)
       (stands-counted st s claim (f .admission) (isNamed name among) (named-more name among) (namedPlace st name among) (f .stands) .inside)
   kept (SetWord s claim c word) f =
-      rules-word (counted st s claim) (kept-counted st v s claim (f .admission)) c word (provisioned-counted st s claim c ∙ f .owner)
+      rules-word (counted st s claim) (kept-counted st v s claim (f .admission)) c word
 
 -- ---- a call, refused or not: by what it does where it is accepted, and by the claim counted where it is refused after it
 module _ (st : State) (call : Call) where
@@ -232,8 +226,3 @@ module _ (st : State) (call : Call) where
 
 pub rules-step : (st : State) (call : Call) → Rules st → Rules (step st call)
 rules-step st call v = step-by st call Rules v (kept-counted st v) (λ z. kept st v call (facts st call z))
-
-pub rules-run : (st : State) (calls : List Call) → Rules st → Rules (run st calls)
-unfolding run
-rules-run st [] v = v
-rules-run st (call ∷ calls) v = rules-run (step st call) calls (rules-step st call v)

@@ -19,11 +19,10 @@ use Rattle.claims.specs.declared.Claim.the-variants.{ByUser}
 use Rattle.claims.specs.declared.State.{State}
 use Rattle.claims.specs.declared.UserClaim.{UserClaim}
 use Rattle.claims.proofs.Laws.{unless-true, by-when, by-unless, by-then, claim-stands}
-use Rattle.calls.specs.Calls.{Call, number, aheadNumber, protectedNumber, passes}
+use Rattle.calls.specs.Calls.{Call, Under, number, protection, aheadNumber, protectedNumber, passes}
 use Rattle.calls.proofs.Cut.{upTo, passed-claim, passed-number-by, number-stop, ahead-one}
 use Rattle.facts.specs.Facts.{processes, Rules}
 use Rattle.history.specs.Lives.{tellsPassed}
-use Rattle.history.specs.Demand.{Carries}
 use Rattle.history.proofs.Facts.{stands}
 
 -- a number that is no refusal, or one that tells of a claim that did not pass
@@ -63,7 +62,7 @@ module _ (st : State) (s : Session) (u : UserClaim) (owner : provisioned st (u .
       (early-then _ _ early-entered (early-then _ _ (early-held 5 owner) (early-then _ _ (early-held 6 active) (early-turn _))))
 
   -- and what a call under it answers up to the claim
-  early-up-to : (call : Call) → Carries s u call → Early (upTo st call)
+  early-up-to : (call : Call) → protection call ≡ Under s (ByUser u) → Early (upTo st call)
   unfolding protectedNumber tellsPassed
   early-up-to call w =
       early-then (aheadNumber st call) _
@@ -71,7 +70,7 @@ module _ (st : State) (s : Session) (u : UserClaim) (owner : provisioned st (u .
       (rw w early-admitted)
 
 -- a user claim that passed is one of a process that stands
-module _ (st : State) (call : Call) (s : Session) (u : UserClaim) (w : Carries s u call) (p : passes st call ≡ true) where
+module _ (st : State) (call : Call) (s : Session) (u : UserClaim) (w : protection call ≡ Under s (ByUser u)) (p : passes st call ≡ true) where
   pub claim-passed : admitted st s (ByUser u) ≡ 0
   unfolding protectedNumber
   claim-passed = rw w at (passed-claim st call p)
@@ -89,7 +88,7 @@ module _ (st : State) (v : Rules st) where
       rw (user-of x s (u .credential) (f .passes) .credential) at (each-at _ freePlace (f .inside) (v .each) .owner)
 
   -- where a user claim's process stands, a call under the claim is answered 1, 2, 3, 13, 9 or 8 exactly where the claim did not pass
-  pub reading : (call : Call) (s : Session) (u : UserClaim) → Carries s u call → hasActive st (UserOf s (u .credential)) ≡ true → tellsPassed (number st call) ≡ passes st call
+  pub reading : (call : Call) (s : Session) (u : UserClaim) → protection call ≡ Under s (ByUser u) → hasActive st (UserOf s (u .credential)) ≡ true → tellsPassed (number st call) ≡ passes st call
   unfolding tellsPassed
   reading call s u w h =
       split (passes st call)

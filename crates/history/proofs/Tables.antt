@@ -1,7 +1,7 @@
 -- Each operation on what the module holds keeps demand 3's rules.
 -- Assumes nothing.
 use Prim.Native.Nat.{ℕ, _≤_, _<_}
-use mathlib.Core.Path.{_≡_, refl, sym, ap, _∙_}
+use mathlib.Core.Path.{_≡_, refl, ap, _∙_}
 use mathlib.Core.Bool.{Bool, true, false}
 use mathlib.Core.List.{List, [], _∷_, _++_}
 use native.Mathlib.Omega.{arith}
@@ -13,7 +13,7 @@ use Rattle.lists.specs.Each.{Each, each-nil, Pairs, pairs-nil}
 use Rattle.lists.specs.Lists.{reject, removeAt}
 use Rattle.lists.proofs.Tests.{split, clash}
 use Rattle.lists.proofs.Lists.{length-remove, length-reject}
-use Rattle.lists.proofs.Each.{passes-set, same-set, each-imp, each-imp₂, each-append, each-remove, each-set, each-reject, pairs-append, pairs-remove, pairs-reject, pairs-set}
+use Rattle.lists.proofs.Each.{passes-set, each-imp, each-imp₂, each-append, each-remove, each-set, each-reject, pairs-append, pairs-remove, pairs-reject, pairs-set}
 use Rattle.names.specs.declared.Credential.{Credential}
 use Rattle.names.specs.declared.Session.{Session}
 use Rattle.table.specs.Table.{places, tableOf, isActiveIn}
@@ -85,15 +85,15 @@ module _ (st : State) (v : Rules st) where
             seated = λ k. passes-set (λ (x : SessionState). isChosen (x .phase)) (st .sessions) (s .0) (p .session .0) closedSession (record { phase = Chosen }) refl (o .seated k);
           }
 
-  -- the word of a provisioned credential
-  pub rules-word : (c : Credential) (word : ℕ) → provisioned st c ≡ true → Rules (withWord st c word)
+  -- a credential's word
+  pub rules-word : (c : Credential) (word : ℕ) → Rules (withWord st c word)
   unfolding provisioned phaseOf
-  rules-word c word owner = record { few = v .few; each = each-imp stays (v .each); pairs = v .pairs }
+  rules-word c word = record { few = v .few; each = each-imp stays (v .each); pairs = v .pairs }
     where
       stays : (p : Process) → Owned st p → Owned (withWord st c word) p
       stays p o =
           record {
-            owner = same-set (λ (g : Grants). g .provisioned) (st .credentials) (c .0) (p .credential .0) unprovisioned (record { provisioned = true; word = word }) (sym owner) ∙ o .owner;
+            owner = passes-set (λ (g : Grants). g .provisioned) (st .credentials) (c .0) (p .credential .0) unprovisioned (record { provisioned = true; word = word }) refl (o .owner);
             seated = o .seated;
           }
 

@@ -23,18 +23,17 @@ use Rattle.table.specs.Table.{freePlace, processAt, isUser, isElevation, isActi
 use Rattle.table.specs.declared.Active.the-variants.{UserOf}
 use Rattle.table.specs.declared.Process.{Process}
 use Rattle.table.proofs.Searched.{user-of}
-use Rattle.claims.specs.Module.{activePlace, activeProcess}
+use Rattle.claims.specs.Module.{hasActive, activePlace, activeProcess}
+use Rattle.claims.specs.Claim.{admitted}
 use Rattle.claims.specs.declared.State.{State}
 use Rattle.claims.specs.declared.UserClaim.{UserClaim}
 use Rattle.claims.specs.declared.Claim.the-variants.{ByUser}
-use Rattle.calls.specs.Calls.{Call, passes}
 use Rattle.facts.specs.Facts.{processes, Rules}
 use Rattle.facts.proofs.Laws.{apart-turn}
 use Rattle.history.specs.Lives.{Life, Gone, Live, passed, count, down}
-use Rattle.history.specs.Demand.{Carries, life, lifeOf, look, Tells, IsClaimOf}
+use Rattle.history.specs.Demand.{life, lifeOf, look, Tells, IsClaimOf}
 use Rattle.history.proofs.Facts as Facts
 use Rattle.history.proofs.Facts.{Claimed}
-use Rattle.history.proofs.Read.{claim-passed}
 use Rattle.history.proofs.Looked.{Distinct, look-none}
 
 pub live-not-gone : {s : Session} {c : Credential} {ns : List ℕ} → Live s c ns ≡ Gone → ⊥
@@ -113,6 +112,13 @@ look-live n (p ∷ l) s c ns e =
     let r = look-live n l s c ns (rw q at e) in
     record { place = suc (r .place); within = omega (arith, r .within); named = r .named; active = r .active })
 
+pub live-stands : (n : Name) (st : State) (s : Session) (c : Credential) (ns : List ℕ) → look n (processes st) ≡ Live s c ns → hasActive st (UserOf s c) ≡ true
+unfolding hasActive
+live-stands n st s c ns h =
+    let r = look-live n (processes st) s c ns h in
+    split (hasActive st (UserOf s c)) (λ e. e)
+    (λ e. clash (r .active) (each-at (r .place) freePlace (r .within) (each-fails (isActive (UserOf s c)) (processes st) e)))
+
 -- ---- a state is told where the table says the same of every name
 pub tells-look : (tell : Name → Life) (st : State) → Tells tell st → (n : Name) → tell n ≡ look n (processes st)
 tells-look tell st t n = split (any (λ p. sameName (p .name) n) (processes st)) hit miss
@@ -144,8 +150,8 @@ module _ (st : State) (v : Rules st) (tell : Name → Life) (is : (n : Name) →
   pub in-turn : (n : Name) → passed (tell n) ≡ down (count (tell n))
   in-turn n = rw (is n) (look-down n (processes st))
 
-  -- ---- a call under a user claim that passed
-  module _ (s : Session) (u : UserClaim) (call : Call) (k : Carries s u call) (e : passes st call ≡ true) where
+  -- ---- a user claim that passes its check
+  module _ (s : Session) (u : UserClaim) (z : admitted st s (ByUser u) ≡ 0) where
     -- is one of the process that the search finds, by what is told alone, and its number is the count so far
     pub claim-told : IsClaimOf tell s u (activeProcess st (UserOf s (u .credential)) .name)
     unfolding activeProcess processAt
@@ -159,7 +165,7 @@ module _ (st : State) (v : Rules st) (tell : Name → Life) (is : (n : Name) →
         }
       where
         f : Claimed st s u
-        f = Facts.passed st s (ByUser u) (claim-passed st call s u k e)
+        f = Facts.passed st s (ByUser u) z
 
         only : (other : Name) → LiveAt other (processes st) s (u .credential) → other .bytes ≡ getD (processes st) (activePlace st (UserOf s (u .credential))) freePlace .name .bytes
         only other r =

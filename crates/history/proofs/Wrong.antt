@@ -20,11 +20,12 @@ use Rattle.claims.specs.declared.Class.{Class}
 use Rattle.claims.specs.declared.State.{State}
 use Rattle.calls.specs.Calls.{Call, Open, Close, Drop, Select, Start, Continue, Elevate, End, Record, ListProcesses, Kill, SetWord, number, withTable, effect, protection, fresh}
 use Rattle.calls.specs.Run.{step}
-use Rattle.calls.proofs.Sequences.{P, pairs, session, credential, class, userYes, yes′, computed}
-use Rattle.history.specs.History.{Event}
-use Rattle.history.specs.Lives.{Gone, Live, told, nobody, passed, counts, ends, shuts, drops, resumes, after, charges, tellsPassed, onward, follow}
+use Rattle.calls.proofs.Sequences.{P, pairs, session, credential, class, userYes, yes′}
+use Rattle.history.specs.Lives.{Gone, Live, Event, told, nobody, tellsPassed, onward}
+use Rattle.history.specs.History.{eventOf}
 use Rattle.history.specs.Demand.{TwoPassed, Demand3}
 use Rattle.history.proofs.Told.{live-not-gone}
+use Rattle.history.proofs.Examples.{lives}
 
 -- a build: what it answers, and the state that it leaves
 record Build : Type 0 where
@@ -34,7 +35,7 @@ record Build : Type 0 where
 -- what calls have with it
 abbrev said : Build → State → List Call → List Event
 said build st [] = []
-said build st (call ∷ calls) = record { call = call; answered = build .answers st call } ∷ said build (build .leaves st call) calls
+said build st (call ∷ calls) = eventOf call (build .answers st call) ∷ said build (build .leaves st call) calls
 
 abbrev left : Build → State → List Call → State
 left build st [] = st
@@ -71,7 +72,7 @@ module _ (build : Build) (calls : List Call) (n : ℕ) (ns : List ℕ) where
   events = said build (fresh pairs) (started calls)
 
   abbrev sent : Event
-  sent = record { call = recorded n; answered = 0 }
+  sent = eventOf (recorded n) 0
 
   sent-twice : said build (fresh pairs) (started (calls ++ (recorded n ∷ recorded n ∷ []))) ≡ events ++ (sent ∷ sent ∷ [])
       → told nobody events P ≡ Live (session 0) (credential 1) ns
@@ -79,7 +80,7 @@ module _ (build : Build) (calls : List Call) (n : ℕ) (ns : List ℕ) where
       → (onward P sent (told nobody events P) ≡ Gone → ⊥)
       → TwoPassed nobody (said build (fresh pairs) (started (calls ++ (recorded n ∷ recorded n ∷ [])))) P
   unfolding protection tellsPassed
-  sent-twice are lives again stays =
+  sent-twice are live again stays =
       record {
         before = events;
         first = sent;
@@ -87,7 +88,7 @@ module _ (build : Build) (calls : List Call) (n : ℕ) (ns : List ℕ) where
         second = sent;
         rest = [];
         are = are;
-        one = record { session = session 0; claim = userYes 1 n; carried = refl; told = refl; before = ns; lives = lives };
+        one = record { session = session 0; claim = userYes 1 n; carried = refl; told = refl; before = ns; lives = live };
         stays = (stays, tt);
         two = record { session = session 0; claim = userYes 1 n; carried = refl; told = refl; before = n ∷ ns; lives = again };
       }
@@ -101,12 +102,12 @@ firstOnly = record { answers = number; leaves = λ st call. cond (isServed st) s
 
 -- after two records the next number is 1, and the history counts 2
 pub first-only-fails : Fails firstOnly (started (recorded 0 ∷ recorded 1 ∷ []))
-unfolding computed passed counts ends shuts drops resumes after charges tellsPassed onward follow
+unfolding lives
 first-only-fails d = let z : _≡_ {A = ℕ} 1 2 = each-at 0 freePlace (omega arith) (d .numbers) refl in absurd (omega arith)
 
 -- and the second may be sent again
 pub first-only-twice : Fails firstOnly (started (recorded 0 ∷ recorded 1 ∷ recorded 1 ∷ []))
-unfolding computed passed counts ends shuts drops resumes after charges tellsPassed onward follow sent-twice
+unfolding lives sent-twice
 first-only-twice d = d .once P (sent-twice firstOnly (recorded 0 ∷ []) 1 (0 ∷ []) refl refl refl live-not-gone) refl
 
 -- ---- it does not ask for the number
@@ -118,7 +119,7 @@ untested = record { answers = answersUntested; leaves = λ st call. cond (eqb (a
 
 -- a record may be sent again
 pub untested-fails : Fails untested (started (recorded 7 ∷ recorded 7 ∷ []))
-unfolding computed passed counts ends shuts drops resumes after charges tellsPassed onward follow sent-twice
+unfolding lives sent-twice
 untested-fails d = d .once P (sent-twice untested [] 7 [] refl refl refl live-not-gone) refl
 
 -- ---- it invents the next number: 8 after each record
@@ -138,7 +139,7 @@ invented =
 
 -- after one record the next number is 8, and the history counts 1
 pub invented-fails : Fails invented (started (recorded 0 ∷ []))
-unfolding computed passed counts ends shuts drops resumes after charges tellsPassed onward follow
+unfolding lives
 invented-fails d = let z : _≡_ {A = ℕ} 8 1 = each-at 0 freePlace (omega arith) (d .numbers) refl in absurd (omega arith)
 
 -- ---- it leaves the state as it was on every refusal
@@ -147,5 +148,5 @@ unspent = record { answers = number; leaves = λ st call. cond (eqb (number st c
 
 -- credential 1 lacks class 5: after a record that got 10 the next number is 0, and the history counts 1
 pub unspent-fails : Fails unspent (started (Record (session 0) (yes′ 1 0) (class 5) ∷ []))
-unfolding computed passed counts ends shuts drops resumes after charges tellsPassed onward follow
+unfolding lives
 unspent-fails d = let z : _≡_ {A = ℕ} 0 1 = each-at 0 freePlace (omega arith) (d .numbers) refl in absurd (omega arith)

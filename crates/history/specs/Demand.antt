@@ -1,11 +1,10 @@
--- Demand 3: what is to hold of every history of calls, `events`, and of the state that it comes to, `st`. What was told of each name before the
--- first of them is `tell`: of a fresh module, that nobody has it.
+-- Demand 3: what is to hold of every history, `events`, and of the state that it comes to, `st`. What was told of each name before the first of them is
+-- `tell`: of a fresh module, that nobody has it. Which calls there are it does not say: history/History has document 01's.
 use Prim.Native.Nat.{ℕ, _≤_}
 use mathlib.Core.Path.{_≡_}
 use mathlib.Core.Logic.{_≢_}
 use mathlib.Core.Bool.{true, false, cond}
 use mathlib.Core.List.{List, [], _∷_, _++_}
-use lib.ListN.{length}
 use Rattle.lists.specs.Each.{Each}
 use Rattle.names.specs.Names.{sameName}
 use Rattle.names.specs.declared.Credential.{Credential}
@@ -15,29 +14,27 @@ use Rattle.names.specs.declared.Name.{Name}
 use Rattle.names.specs.declared.Session.{Session}
 use Rattle.table.specs.Table.{isElevation}
 use Rattle.table.specs.declared.Process.{Process}
-use Rattle.claims.specs.Module.{provisioned}
 use Rattle.claims.specs.declared.Claim.{Claim}
 use Rattle.claims.specs.declared.Claim.the-variants.{ByUser}
 use Rattle.claims.specs.declared.State.{State}
 use Rattle.claims.specs.declared.UserClaim.{UserClaim}
-use Rattle.calls.specs.Calls.{Call, Under, protection, listed}
+use Rattle.calls.specs.Calls.{Under, listed}
 use Rattle.calls.specs.declared.Wanted.{Wanted}
 use Rattle.facts.specs.Facts.{processes, Rules, IsTaken, at, RulesByPlaces}
-use Rattle.history.specs.History.{Event}
-use Rattle.history.specs.Lives.{Life, Gone, Live, Raised, Kept, count, tellsPassed, onward, told, down}
+use Rattle.history.specs.Lives.{Life, Gone, Live, Raised, Kept, count, tellsPassed, Event, onward, told, down}
 
 -- ---- claims that passed
 
 -- a call under a user claim in a session
-abbrev pub Carries : Session → UserClaim → Call → Type 0
-Carries s u call = protection call ≡ Under s (ByUser u)
+abbrev pub Carries : Session → UserClaim → Event → Type 0
+Carries s u e = e .claim ≡ Under s (ByUser u)
 
 -- "accepted claims plus these": the claim of the event passed its check, and is one of the process that has this life, which is the active one of the claim's
 -- session and credential
 pub record IsPassedOf (life : Life) (e : Event) : Type 0 where
   pub session : Session
   pub claim : UserClaim
-  pub carried : Carries session claim (e .call)
+  pub carried : Carries session claim e
   pub told : tellsPassed (e .answered) ≡ true
   pub before : List ℕ
   pub lives : life ≡ Live session (claim .credential) before
@@ -85,7 +82,7 @@ pub record ByPlaces (tell : Name → Life) (events : List Event) (st : State) : 
 -- what a process that stands is, in the words of a life: its session, its credential, and every number below its next passed once, in order
 abbrev pub life : Kind → Session → Credential → ℕ → Life
 life User s c next = Live s c (down next)
-life Elevation s c next = Raised s
+life Elevation s c next = Raised s c
 life Saved s c next = Kept c (down next)
 
 abbrev pub lifeOf : Process → Life
@@ -106,8 +103,3 @@ pub record Tells (tell : Name → Life) (st : State) : Type 0 where
 pub record IsClaimOf (tell : Name → Life) (s : Session) (u : UserClaim) (name : Name) : Type 0 where
   pub is : tell name ≡ Live s (u .credential) (down (u .number))
   pub only : (other : Name) (ns : List ℕ) → tell other ≡ Live s (u .credential) ns → other .bytes ≡ name .bytes
-
--- ---- no call provisions a credential, or takes one away
-pub record SameOwners (before after : State) : Type 0 where
-  pub as-many : length (after .credentials) ≡ length (before .credentials)
-  pub same : (c : Credential) → provisioned after c ≡ provisioned before c

@@ -27,8 +27,8 @@ use Rattle.layout.specs.Layout.{stateLength, stateBytes}
 use Rattle.state_record.specs.Entry.{entryNumber, entryBytes}
 use Rattle.arguments.specs.Arguments.{pairsOf}
 use Rattle.entries_unprotected.specs.Fresh.{canFresh}
-use Rattle.history.specs.History.{Event}
 use Rattle.history.specs.Lives.{Life, Live, Gone, told, nobody}
+use Rattle.history.specs.History.{eventOf}
 use Rattle.history.specs.Fits.{IsWord, Fits}
 use Rattle.history.proofs.Form.{state-step, state-fresh}
 use Rattle.image.specs.Image as Image
@@ -38,10 +38,18 @@ use Rattle.resumed.specs.Resumed.{toldBy}
 use Rattle.resumed.specs.Changes.{hasSaved, touchesImage, changesImage, newest}
 use Rattle.resumed.proofs.Examples.{opened, image, examples, grants, saving, others, resuming, kept-between}
 use Rattle.entries_image.specs.Entries.{imageNumber, ImageEntry, restoreNumber, RestoreEntry}
-use Rattle.lent.specs.Lent.{Response, Made, Called, Listed, Renewed, Restored, Entered, called, renewed, restored, Chain, none, then, Since, begun, since}
+use Rattle.lent.specs.Lent.{Slices, Response, Made, Called, Listed, Renewed, Restored, Entered, called, renewed, restored, Chain, none, then, Since, begun, since}
 use Rattle.lent.specs.Hosted.{Happening, Enters, PowerCycle, Hosted, none, kept, written, cycled, sinceAll}
 use Rattle.lent.proofs.Images.{image-written}
 use Rattle.lent.proofs.Theorems.{held, back, fine-number, fine-bytes}
+
+-- the slices that a host lends whose state's is this one
+abbrev lends : List ℕ → Slices
+lends slice = record { state = slice }
+
+-- and the slices with a state in its form
+abbrev lent : State → Slices
+lent st = lends (stateBytes st)
 
 abbrev opening : Call
 opening = Open (record { 0 = 0 })
@@ -55,9 +63,6 @@ starting = Start (record { 0 = 0 }) (record { 0 = 0 }) zeroName
 abbrev response : Response
 response = record { old = 7 ∷ 7 ∷ []; new = 7 ∷ 7 ∷ []; length = 0 }
 
-abbrev answered : Call → ℕ → Event
-answered call n = record { call = call; answered = n }
-
 -- an open; an elevation whose verdict is no flag; a fresh module whose flags are too few; a module from bytes that are no image; a start; a listing
 abbrev refusedInTheMiddle : List Made
 refusedInTheMiddle =
@@ -70,17 +75,17 @@ refusedInTheMiddle =
     ∷ []
 
 -- three calls were made, with the numbers that their entries answered
-three-calls : (w : Since) → since (begun (w .first) (w .tell)) refusedInTheMiddle .events ≡ answered opening 0 ∷ answered starting 3 ∷ answered (ListProcesses (record { 0 = 0 }) Elevated Every 2) 3 ∷ []
+three-calls : (w : Since) → since (begun (w .first) (w .tell)) refusedInTheMiddle .events ≡ eventOf opening 0 ∷ eventOf starting 3 ∷ eventOf (ListProcesses (record { 0 = 0 }) Elevated Every 2) 3 ∷ []
 unfolding since
 three-calls w = refl
 
 -- a fresh module in the middle: what was before it is no more told
-begins-anew : (w : Since) (flags words : List ℕ) → since w (Called true opening 0 ∷ Renewed flags words 0 ∷ Called true starting 2 ∷ []) ≡ record { first = fresh (pairsOf flags words); tell = nobody; events = answered starting 2 ∷ [] }
+begins-anew : (w : Since) (flags words : List ℕ) → since w (Called true opening 0 ∷ Renewed flags words 0 ∷ Called true starting 2 ∷ []) ≡ record { first = fresh (pairsOf flags words); tell = nobody; calls = starting ∷ []; events = eventOf starting 2 ∷ [] }
 unfolding since
 begins-anew w flags words = refl
 
 -- a module from an image: what the image tells is told
-begins-from : (w : Since) (image : List ℕ) → since w (Called true opening 0 ∷ Restored image 0 ∷ Called true starting 2 ∷ []) ≡ record { first = Image.restored image; tell = toldBy image; events = answered starting 2 ∷ [] }
+begins-from : (w : Since) (image : List ℕ) → since w (Called true opening 0 ∷ Restored image 0 ∷ Called true starting 2 ∷ []) ≡ record { first = Image.restored image; tell = toldBy image; calls = starting ∷ []; events = eventOf starting 2 ∷ [] }
 unfolding since
 begins-from w image = refl
 
@@ -99,9 +104,9 @@ word-small i = small i 8
     small zero (suc n) = omega arith
     small (suc i) (suc n) = small i n
 
-chain : (slice : List ℕ) → Chain slice (Renewed flags words (1 unless canFresh slice flags words) ∷ Called true opening (entryNumber true (cond (canFresh slice flags words) (stateBytes (fresh (pairsOf flags words))) slice) opening) ∷ []) (entryBytes true (cond (canFresh slice flags words) (stateBytes (fresh (pairsOf flags words))) slice) opening)
+chain : (slice : List ℕ) → Chain (lends slice) (Renewed flags words (1 unless canFresh slice flags words) ∷ Called true opening (entryNumber true (cond (canFresh slice flags words) (stateBytes (fresh (pairsOf flags words))) slice) opening) ∷ []) (lends (entryBytes true (cond (canFresh slice flags words) (stateBytes (fresh (pairsOf flags words))) slice) opening))
 chain slice =
-    then (renewed word-small (record { number-is = refl; bytes-are = refl }))
+    then {after = lends (cond (canFresh slice flags words) (stateBytes (fresh (pairsOf flags words))) slice)} (renewed word-small (record { number-is = refl; bytes-are = refl }))
     (then (called (λ e. tt) (record { number-is = refl; bytes-are = refl })) none)
 
 -- and a module from an image, one without credentials and rows, in whatever slice, and an open
@@ -121,9 +126,9 @@ empty-bytes = bytes-by empty refl
 abbrev left : List ℕ → List ℕ
 left slice = cond (eqb (restoreNumber slice empty) 0) (stateBytes (Image.restored empty)) slice
 
-chain-restored : (slice : List ℕ) → Chain slice (Restored empty (restoreNumber slice empty) ∷ Called true opening (entryNumber true (left slice) opening) ∷ []) (entryBytes true (left slice) opening)
+chain-restored : (slice : List ℕ) → Chain (lends slice) (Restored empty (restoreNumber slice empty) ∷ Called true opening (entryNumber true (left slice) opening) ∷ []) (lends (entryBytes true (left slice) opening))
 chain-restored slice =
-    then (restored empty-bytes (record { number-is = refl; bytes-are = refl }))
+    then {after = lends (left slice)} (restored empty-bytes (record { number-is = refl; bytes-are = refl }))
     (then (called (λ e. tt) (record { number-is = refl; bytes-are = refl })) none)
 
 -- ---- a host that writes an image after each call that changes it, in a buffer that is long enough for every one
@@ -131,7 +136,7 @@ abbrev buffer : List ℕ
 buffer = replicate 666 0
 
 module _ (st : State) (v : IsState st) where
-  called-on : {call : Call} {n : ℕ} → Fits call → number st call ≡ n → Entered (stateBytes st) (Called true call n) (stateBytes (step st call))
+  called-on : {call : Call} {n : ℕ} → Fits call → number st call ≡ n → Entered (lent st) (Called true call n) (lent (step st call))
   called-on {call} fits e = called (λ q. fits) (record { number-is = sym (fine-number st v call ∙ e); bytes-are = sym (fine-bytes st v call) })
 
   room-enough : lacksRoom st (length buffer) ≡ false
@@ -151,20 +156,20 @@ module _ (st : State) (v : IsState st) where
 abbrev entering : Step → Happening
 entering s = Enters (Called true (s .call) (s .answer))
 
-host : (st : State) → IsState st → (steps : List Step) → Each (λ s. Fits (s .call)) steps → Answered st steps → {image last end : List ℕ} {rest : List Happening} → Hosted (stateBytes (after st steps)) (newest image st (callsOf steps)) rest last end → Hosted (stateBytes st) image (map entering steps ++ rest) last end
+host : (st : State) → IsState st → (steps : List Step) → Each (λ s. Fits (s .call)) steps → Answered st steps → {image end : List ℕ} {last : Slices} {rest : List Happening} → Hosted (lent (after st steps)) (newest image st (callsOf steps)) rest last end → Hosted (lent st) image (map entering steps ++ rest) last end
 unfolding run numbers newest
 host st v [] fits e k = k
-host st v (s ∷ steps) (each-cons f fits) e {image} {last} {end} {rest} k =
+host st v (s ∷ steps) (each-cons f fits) e {image} {end} {last} {rest} k =
     let number-is : number st (s .call) ≡ s .answer = cc in
     let more : Answered (step st (s .call)) steps = cc in
     let next : State = step st (s .call) in
     let is : IsState next = state-step st (s .call) f v in
-    let entered : Entered (stateBytes st) (Called true (s .call) (s .answer)) (stateBytes next) = called-on st v f number-is in
-    let go : (b : Bool) → changesImage st (s .call) (number st (s .call)) ≡ b → Hosted (stateBytes next) (cond b (imageBytes next) image) (map entering steps ++ rest) last end =
-    λ b c. host next is steps fits more (subst (λ x. Hosted (stateBytes (after next steps)) (newest (cond x (imageBytes next) image) next (callsOf steps)) rest last end) c k)
+    let entered : Entered (lent st) (Called true (s .call) (s .answer)) (lent next) = called-on st v f number-is in
+    let go : (b : Bool) → changesImage st (s .call) (number st (s .call)) ≡ b → Hosted (lent next) (cond b (imageBytes next) image) (map entering steps ++ rest) last end =
+    λ b c. host next is steps fits more (subst (λ x. Hosted (lent (after next steps)) (newest (cond x (imageBytes next) image) next (callsOf steps)) rest last end) c k)
     in
     split (changesImage st (s .call) (number st (s .call)))
-    (λ c. written entered (image-on next is) (subst (λ l. Hosted (stateBytes next) l (map entering steps ++ rest) last end) (sym (image-there next is)) (go true c)))
+    (λ c. written entered (image-on next is) (subst (λ l. Hosted (lent next) l (map entering steps ++ rest) last end) (sym (image-there next is)) (go true c)))
     (λ c. kept entered (rw (back st v, ← number-is) c) (go false c))
 
 -- P is started, counts a record and one that is refused after its claim, and is saved, which is written. Other calls change nothing of that; the power goes; a module is
@@ -199,17 +204,17 @@ restore-on slice e =
 abbrev rowless : List ℕ
 rowless = (1 ∷ 0 ∷ 8 ∷ 0 ∷ 10 ∷ 0 ∷ 0 ∷ 0 ∷ 42 ∷ 0 ∷ []) ++ ((31 ∷ 0 ∷ 0 ∷ 0 ∷ []) ++ replicate 28 0)
 
-abbrev end : List ℕ
-end = stateBytes (after (Image.restored image) resuming)
+abbrev end : Slices
+end = lent (after (Image.restored image) resuming)
 
-resumed-hosted : Hosted (stateBytes (Image.restored image)) image (map entering resuming ++ []) end rowless
+resumed-hosted : Hosted (lent (Image.restored image)) image (map entering resuming ++ []) end rowless
 unfolding opened hasSaved touchesImage newest
 resumed-hosted = host (Image.restored image) (image-state image image-bytes (examples .accepted-is)) resuming again-fit (kept-between .goes-on) none
 
-pub lived-hosted : (slice : List ℕ) → length slice ≡ stateLength → Hosted (stateBytes (fresh grants)) (imageBytes (fresh grants)) lived end rowless
+pub lived-hosted : (slice : List ℕ) → length slice ≡ stateLength → Hosted (lent (fresh grants)) (imageBytes (fresh grants)) lived end rowless
 lived-hosted slice e =
     host (fresh grants) grants-state (saving ++ others) before-fit (kept-between .numbers-are)
-    (rw (kept-between .newest-is) (cycled {slice = slice} image-bytes (restore-on slice e) resumed-hosted))
+    (rw (kept-between .newest-is) (cycled {slices = lends slice} image-bytes (restore-on slice e) resumed-hosted))
 
 -- what is then told: of P every number since its start, of Q nothing
 abbrev toldThen : Name → Life

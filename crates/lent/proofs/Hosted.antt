@@ -12,7 +12,7 @@ use Rattle.rows.specs.Bytes.{Bytes}
 use Rattle.claims.specs.Numbers.{_unless_}
 use Rattle.claims.specs.declared.State.{State}
 use Rattle.calls.specs.Calls.{Call, ListProcesses, fresh}
-use Rattle.calls.specs.Run.{step, run}
+use Rattle.calls.specs.Run.{step}
 use Rattle.layout.specs.Layout.{stateOf}
 use Rattle.layout.proofs.Laws.{state-back}
 use Rattle.state_record.specs.Entry.{Entry}
@@ -27,19 +27,19 @@ use Rattle.resumed.specs.Resumed.{toldBy}
 use Rattle.resumed.specs.Changes.{changesImage}
 use Rattle.resumed.proofs.Changes.{image-kept}
 use Rattle.entries_image.specs.Entries.{ImageEntry, RestoreEntry}
-use Rattle.lent.specs.Lent.{Made, Entered, called, list-called, renewed, restored, Since, begun, noting, Holds, cycledSince}
+use Rattle.lent.specs.Lent.{Slices, Made, Entered, called, list-called, renewed, restored, Since, begun, reached, noting, Holds, cycledSince}
 use Rattle.lent.specs.Hosted.{entryChanges, Happening, Hosted, none, kept, written, cycled, sinceAll, IsNewest}
 use Rattle.lent.proofs.Images.{restore-refused, image-written, image-of, restored-image}
 use Rattle.lent.proofs.Theorems.{not-fine-bytes, Goes, goes-is, goes-state, made-number, made-bytes, goes-holds, goes-restored-done, goes-on, goes-fresh, goes-again}
 
 -- ---- an entry that is not on the list leaves the image
-module _ (w : Since) (b : List ℕ) (g : Goes w b) where
-  call-keeps : (fine : Bool) (call : Call) (n : ℕ) (after : List ℕ) → (fine ≡ true → Fits call) → Entry fine b call n after → changesImage (stateOf b) call n ≡ false → imageBytes (stateOf after) ≡ imageBytes (stateOf b)
+module _ (w : Since) (b : Slices) (g : Goes w b) where
+  call-keeps : (fine : Bool) (call : Call) (n : ℕ) (after : List ℕ) → (fine ≡ true → Fits call) → Entry fine (b .state) call n after → changesImage (stateOf (b .state)) call n ≡ false → imageBytes (stateOf after) ≡ imageBytes (stateOf (b .state))
   call-keeps true call n after fits e h =
-      let st : State = run (w .first) (g .calls) in
+      let st : State = reached w in
       let left : stateOf after ≡ step st call = ap stateOf (made-bytes w b g e) ∙ state-back (state-step st call (fits refl) (g .is) .formed) in
       rw (left, goes-is w b g) (image-kept st call (rw (goes-is w b g, made-number w b g e) at h))
-  call-keeps false call n after fits e h = ap (λ x. imageBytes (stateOf x)) (e .bytes-are ∙ not-fine-bytes b call)
+  call-keeps false call n after fits e h = ap (λ x. imageBytes (stateOf x)) (e .bytes-are ∙ not-fine-bytes (b .state) call)
 
 fresh-refused : {before flags words after : List ℕ} {n : ℕ} → FreshEntry before flags words n after → eqb n 0 ≡ false → after ≡ before
 unfolding _unless_
@@ -48,34 +48,34 @@ fresh-refused {before} {flags} {words} {n = n} e h =
     (λ can. let z : n ≡ 0 = e .number-is ∙ rw can in clash (rw z) h)
     (λ can. e .bytes-are ∙ rw can)
 
-entry-keeps : {b after : List ℕ} {entry : Made} (w : Since) → Goes w b → Entered b entry after → entryChanges b entry ≡ false → imageBytes (stateOf after) ≡ imageBytes (stateOf b)
-entry-keeps {b} {after} w g (called {fine} {call} {n} fits e) h = call-keeps w b g fine call n after fits e h
-entry-keeps {b} {after} w g (list-called {fine} {s} {claim} {wanted} {n} {r} e) h = call-keeps w b g fine (ListProcesses s claim wanted (length (r .old))) n after (λ q. tt) (e .entry) h
+entry-keeps : {b after : Slices} {entry : Made} (w : Since) → Goes w b → Entered b entry after → entryChanges b entry ≡ false → imageBytes (stateOf (after .state)) ≡ imageBytes (stateOf (b .state))
+entry-keeps {b} {after} w g (called {fine} {call} {n} fits e) h = call-keeps w b g fine call n (after .state) fits e h
+entry-keeps {b} {after} w g (list-called {fine} {s} {claim} {wanted} {n} {r} e) h = call-keeps w b g fine (ListProcesses s claim wanted (length (r .old))) n (after .state) (λ q. tt) (e .entry) h
 entry-keeps w g (renewed fits e) h = ap (λ x. imageBytes (stateOf x)) (fresh-refused e h)
 entry-keeps w g (restored {n = n} bytes e) h = ap (λ x. imageBytes (stateOf x)) (restore-refused e (eqb-false n 0 h))
 
 -- ---- so the image that was written last is that of the state now, through power cycles too
-newest-by : {b image last newest : List ℕ} {happenings : List Happening} (w : Since) → Goes w b → image ≡ imageBytes (stateOf b) → Hosted b image happenings last newest → IsNewest (sinceAll w happenings) last newest
+newest-by : {b last : Slices} {image newest : List ℕ} {happenings : List Happening} (w : Since) → Goes w b → image ≡ imageBytes (stateOf (b .state)) → Hosted b image happenings last newest → IsNewest (sinceAll w happenings) last newest
 unfolding sinceAll
 newest-by {b} w g is none =
     let h : Holds w b = goes-holds w b g in
-    record { holds = h; bytes = is; image = image-of w (goes-state w b g) h is }
+    record { holds = h; bytes = is; image = image-of w {last = b} (goes-state w b g) h is }
 newest-by w g is (kept {entry = entry} e h k) = newest-by (noting entry w) (goes-on w g e) (is ∙ sym (entry-keeps w g e h)) k
 newest-by w g is (written {after = after} {entry = entry} e i k) =
     let on : Goes (noting entry w) after = goes-on w g e in
     newest-by (noting entry w) on (image-written i (goes-state (noting entry w) after on)) k
-newest-by {b} w g is (cycled {after = after} bytes r k) =
-    let on : Goes (cycledSince w) after = goes-again w (goes-state w b g) (goes-holds w b g) bytes is r in
+newest-by {b} w g is (cycled {slices = slices} {after = after} bytes r k) =
+    let on : Goes (cycledSince w) after = goes-again w {last = b} {slices = slices} {after = after} (goes-state w b g) (goes-holds w b g) bytes is r in
     newest-by (cycledSince w) on (sym (restored-image bytes r)) k
 
 -- from a fresh module on, whose image is written
-pub hosted-made : {before flags words slice old new : List ℕ} {long : ℕ} → ((i : ℕ) → IsWord (getD words i 0)) → FreshEntry before flags words 0 slice → ImageEntry slice old 0 new long → {happenings : List Happening} {last newest : List ℕ} → Hosted slice (take long new) happenings last newest → IsNewest (sinceAll (begun (fresh (pairsOf flags words)) nobody) happenings) last newest
-hosted-made {flags = flags} {words = words} {slice = slice} h e i k =
+pub hosted-made : {before slices : Slices} {flags words old new : List ℕ} {long : ℕ} → ((i : ℕ) → IsWord (getD words i 0)) → FreshEntry (before .state) flags words 0 (slices .state) → ImageEntry (slices .state) old 0 new long → {happenings : List Happening} {last : Slices} {newest : List ℕ} → Hosted slices (take long new) happenings last newest → IsNewest (sinceAll (begun (fresh (pairsOf flags words)) nobody) happenings) last newest
+hosted-made {before} {slices} {flags} {words} h e i k =
     let w : Since = begun (fresh (pairsOf flags words)) nobody in
-    let g : Goes w slice = goes-fresh h e in
-    newest-by w g (image-written i (goes-state w slice g)) k
+    let g : Goes w slices = goes-fresh {before = before} {after = slices} h e in
+    newest-by w g (image-written i (goes-state w slices g)) k
 
 -- and from a module that was restored on
-pub hosted-restored : {before image slice : List ℕ} → Bytes image → RestoreEntry before image 0 slice → {happenings : List Happening} {last newest : List ℕ} → Hosted slice image happenings last newest → IsNewest (sinceAll (begun (Image.restored image) (toldBy image)) happenings) last newest
-hosted-restored {before} {image} h r k =
-    newest-by (begun (Image.restored image) (toldBy image)) (goes-restored-done before image h r) (sym (restored-image h r)) k
+pub hosted-restored : {before slices : Slices} {image : List ℕ} → Bytes image → RestoreEntry (before .state) image 0 (slices .state) → {happenings : List Happening} {last : Slices} {newest : List ℕ} → Hosted slices image happenings last newest → IsNewest (sinceAll (begun (Image.restored image) (toldBy image)) happenings) last newest
+hosted-restored {before} {slices} {image} h r k =
+    newest-by (begun (Image.restored image) (toldBy image)) (goes-restored-done before slices image h r) (sym (restored-image h r)) k

@@ -24,7 +24,7 @@ use Rattle.image.specs.Image.{imageBytes, isImage, restored, cycled, imageRoom,
 use Rattle.image.proofs.Laws.{long-is, image-state, one-image, state-image, state-restored}
 use Rattle.entries_image.specs.Entries.{imageNumber, ImageEntry, restoreNumber, RestoreEntry}
 use Rattle.resumed.proofs.Theorems.{told-cut}
-use Rattle.lent.specs.Lent.{Since, Holds, IsImageOf, Imaged}
+use Rattle.lent.specs.Lent.{Slices, Since, Holds, IsImageOf, Imaged}
 
 -- ---- a restore
 restore-number : (before image : List ℕ) → 0 ≡ restoreNumber before image → isImage image ≡ true
@@ -80,19 +80,19 @@ module _ {state old new : List ℕ} {long : ℕ} (e : ImageEntry state old 0 new
   pub image-later : drop long new ≡ drop long old
   image-later = rw (long-answered, new-is) (rw zero-add at (later-kept 0 (imageRoom st) (imageBytes st) old whole room))
 
--- ---- of a slice in which entries ended: it makes the module that the calls come to, after a power cycle, and tells of each name what was told
-pub image-of : (w : Since) {last image : List ℕ} → IsState (stateOf last) → Holds w last → image ≡ imageBytes (stateOf last) → IsImageOf w image
+-- ---- of slices in which entries ended: it makes the module that the calls come to, after a power cycle, and tells of each name what was told
+pub image-of : (w : Since) {last : Slices} {image : List ℕ} → IsState (stateOf (last .state)) → Holds w last → image ≡ imageBytes (stateOf (last .state)) → IsImageOf w image
 image-of w {last} v h is =
     record {
       accepted = rw is (state-image v);
       restored = rw is (state-restored v ∙ ap cycled (h .state));
-      tells = λ name. rw is (told-cut (stateOf last) v (told (w .tell) (w .events)) (h .tells) name);
+      tells = λ name. rw is (told-cut (stateOf (last .state)) v (told (w .tell) (w .events)) (h .tells) name);
     }
 
-pub lent-imaged : (w : Since) {last old new : List ℕ} {long : ℕ} → Bytes last → Holds w last → ImageEntry last old 0 new long → Imaged w old new long
+pub lent-imaged : (w : Since) {last : Slices} {old new : List ℕ} {long : ℕ} → Bytes (last .state) → Holds w last → ImageEntry (last .state) old 0 new long → Imaged w old new long
 lent-imaged w {last} g h e =
-    let v : IsState (stateOf last) = holds-is last (h .holds) g in
-    record { image = image-of w v h (image-written e v); later-kept = image-later e v }
+    let v : IsState (stateOf (last .state)) = holds-is (last .state) (h .holds) g in
+    record { image = image-of w {last = last} v h (image-written e v); later-kept = image-later e v }
 
 -- ---- a module from an image: its image is that one; so an image that is read and written again is the same bytes
 module _ {before image after : List ℕ} (h : Bytes image) (r : RestoreEntry before image 0 after) where

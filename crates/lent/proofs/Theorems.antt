@@ -39,21 +39,22 @@ use Rattle.arguments.specs.Arguments.{pairsOf, arePairs}
 use Rattle.entries_unprotected.specs.Fresh.{canFresh, FreshEntry}
 use Rattle.entries_protected.specs.Listing.{entryResponse, entryLength, ListEntry}
 use Rattle.entries_unprotected.proofs.Rules.{pairs-length, flags-long, words-long}
-use Rattle.history.specs.History.{history, callsIn}
-use Rattle.history.specs.Lives.{Life, told, nobody}
+use Rattle.history.specs.Lives.{Life, nobody}
+use Rattle.history.specs.History.{eventOf, history}
 use Rattle.history.specs.Demand.{look, Tells}
+use Rattle.history.specs.Steps.{Steps}
 use Rattle.history.specs.Fits.{IsWhole, IsWord, Fits, Eight}
-use Rattle.history.proofs.Followed.{event}
 use Rattle.history.proofs.Told.{look-tells}
 use Rattle.history.proofs.Form.{state-step, state-fresh}
-use Rattle.history.proofs.Theorems.{listing-fits, tells-from, tells-fresh, run-last, history-last, calls-of}
+use Rattle.history.proofs.Calls.{steps}
+use Rattle.history.proofs.Theorems.{listing-fits, tells-from, demand3-told, tells-fresh, run-last, history-last}
 use Rattle.image.specs.Image as Image
 use Rattle.image.specs.Image.{isImage, imageBytes}
 use Rattle.image.proofs.Laws.{stands-is, image-state}
-use Rattle.resumed.specs.Resumed.{toldBy, cut}
-use Rattle.resumed.proofs.Theorems.{demand3-told, image-tells}
+use Rattle.resumed.specs.Resumed.{toldBy}
+use Rattle.resumed.proofs.Theorems.{image-tells}
 use Rattle.entries_image.specs.Entries.{ImageEntry, restoreNumber, RestoreEntry}
-use Rattle.lent.specs.Lent.{Response, Made, Renewed, Restored, Entered, called, list-called, renewed, restored, Chain, none, then, Since, begun, noted, noting, since, Small, IsSmall, Holds, Lent, cycledSince, IsImageOf}
+use Rattle.lent.specs.Lent.{Slices, Response, Made, Renewed, Restored, Entered, called, list-called, renewed, restored, Chain, none, then, Since, begun, reached, noted, noting, since, Small, IsSmall, Holds, Lent, cycledSince, IsImageOf}
 use Rattle.lent.proofs.Images.{restore-image, restore-done, image-written, image-of}
 
 -- ---- an entry that makes no call
@@ -78,51 +79,52 @@ module _ (st : State) (v : IsState st) where
   fine-bytes call = rw (held, back)
 
 -- ---- what is kept from entry to entry
-pub record Goes (w : Since) (b : List ℕ) : Type 0 where
-  pub calls : List Call
+pub record Goes (w : Since) (b : Slices) : Type 0 where
   pub rules : Rules (w .first)
   pub tells : Tells (w .tell) (w .first)
-  pub is : IsState (run (w .first) calls)
-  pub bytes : b ≡ stateBytes (run (w .first) calls)
-  pub events : w .events ≡ history (w .first) calls
+  pub is : IsState (reached w)
+  pub bytes : b .state ≡ stateBytes (reached w)
+  pub events : w .events ≡ history (w .first) (w .calls)
 
-goes-begin : (first : State) → IsState first → (tell : Name → Life) → Tells tell first → Goes (begun first tell) (stateBytes first)
+-- where a module begins; and where an entry leaves the slices as they were
+goes-begin : (first : State) → IsState first → (tell : Name → Life) → Tells tell first → {b : Slices} → b .state ≡ stateBytes first → Goes (begun first tell) b
 unfolding run history
-goes-begin first v tell t = record { calls = []; rules = v .rules; tells = t; is = v; bytes = refl; events = refl }
+goes-begin first v tell t e = record { rules = v .rules; tells = t; is = v; bytes = e; events = refl }
 
-module _ (w : Since) (b : List ℕ) (g : Goes w b) where
+goes-same : {w : Since} {b after : Slices} → Goes w b → after .state ≡ b .state → Goes w after
+goes-same g e = record { rules = g .rules; tells = g .tells; is = g .is; bytes = e ∙ g .bytes; events = g .events }
+
+module _ (w : Since) (b : Slices) (g : Goes w b) where
   abbrev st : State
-  st = run (w .first) (g .calls)
+  st = reached w
 
-  pub goes-is : stateOf b ≡ run (w .first) (g .calls)
+  pub goes-is : stateOf (b .state) ≡ reached w
   goes-is = ap stateOf (g .bytes) ∙ back st (g .is)
 
-  pub goes-state : IsState (stateOf b)
+  pub goes-state : IsState (stateOf (b .state))
   goes-state = subst IsState (sym goes-is) (g .is)
 
   -- what a call that is made answers and leaves
-  module _ {call : Call} {n : ℕ} {after : List ℕ} (e : Entry true b call n after) where
-    pub made-number : n ≡ number (run (w .first) (g .calls)) call
+  module _ {call : Call} {n : ℕ} {after : List ℕ} (e : Entry true (b .state) call n after) where
+    pub made-number : n ≡ number (reached w) call
     made-number = e .number-is ∙ ap (λ x. entryNumber true x call) (g .bytes) ∙ fine-number st (g .is) call
 
-    pub made-bytes : after ≡ stateBytes (step (run (w .first) (g .calls)) call)
+    pub made-bytes : after ≡ stateBytes (step (reached w) call)
     made-bytes = e .bytes-are ∙ ap (λ x. entryBytes true x call) (g .bytes) ∙ fine-bytes st (g .is) call
 
-  goes-called : (fine : Bool) (call : Call) (n : ℕ) (after : List ℕ) → (fine ≡ true → Fits call) → Entry fine b call n after → Goes (noted fine call n w) after
+  goes-called : (fine : Bool) (call : Call) (n : ℕ) (after : Slices) → (fine ≡ true → Fits call) → Entry fine (b .state) call n (after .state) → Goes (noted fine call n w) after
   goes-called true call n after fits e =
-      let event-is : record { call = call; answered = n } ≡ event st call = ap (λ m. record { call = call; answered = m }) (made-number e ∙ sym (answer-number st call)) in
       record {
-        calls = g .calls ++ (call ∷ []);
         rules = g .rules;
         tells = g .tells;
-        is = rw (run-last (w .first) (g .calls) call) (state-step st call (fits refl) (g .is));
-        bytes = rw (run-last (w .first) (g .calls) call) (made-bytes e);
+        is = rw (run-last (w .first) (w .calls) call) (state-step st call (fits refl) (g .is));
+        bytes = rw (run-last (w .first) (w .calls) call) (made-bytes e);
         events =
-            ap (λ l. l ++ (record { call = call; answered = n } ∷ [])) (g .events)
-            ∙ ap (λ x. history (w .first) (g .calls) ++ (x ∷ [])) event-is
-            ∙ sym (history-last (w .first) (g .calls) call);
+            ap (λ l. l ++ (eventOf call n ∷ [])) (g .events)
+            ∙ ap (λ m. history (w .first) (w .calls) ++ (eventOf call m ∷ [])) (made-number e ∙ sym (answer-number st call))
+            ∙ sym (history-last (w .first) (w .calls) call);
       }
-  goes-called false call n after fits e = subst (Goes w) (sym (e .bytes-are ∙ not-fine-bytes b call)) g
+  goes-called false call n after fits e = goes-same g (e .bytes-are ∙ not-fine-bytes (b .state) call)
 
   -- a listing's length and message
   rows-whole : (wanted : Wanted) → Each RowFits (rowsAmong wanted (processes st))
@@ -137,11 +139,11 @@ module _ (w : Since) (b : List ℕ) (g : Goes w b) where
       (λ e. rw e (drop-at (listing rows) (drop (messageLength (length rows)) old) (messageLength (length rows)) (length-listing rows (rows-whole wanted))))
       (λ e. rw e)
 
-  listing-small : (fine : Bool) (s : Session) (claim : Claim) (wanted : Wanted) (n : ℕ) (after : List ℕ) (r : Response) → ListEntry fine b s claim wanted (r .old) n after (r .new) (r .length) → Small r
+  listing-small : (fine : Bool) (s : Session) (claim : Claim) (wanted : Wanted) (n : ℕ) (after : List ℕ) (r : Response) → ListEntry fine (b .state) s claim wanted (r .old) n after (r .new) (r .length) → Small r
   unfolding entryResponse entryLength
   listing-small fine s claim wanted n after r e =
-      let is : stateOf b ≡ st = goes-is in
-      split (isMade fine b)
+      let is : stateOf (b .state) ≡ st = goes-is in
+      split (isMade fine (b .state))
       (λ q.
       let long : r .length ≡ listed st s claim wanted (length (r .old)) .length = e .length-is ∙ rw (q, is) in
       let new : r .new ≡ listedBytes st s claim wanted (r .old) = e .response-is ∙ rw (q, is) in
@@ -154,15 +156,15 @@ module _ (w : Since) (b : List ℕ) (g : Goes w b) where
   -- what is kept at the end is what is asked
   pub goes-holds : Holds w b
   goes-holds =
-      let calls-are : callsIn (w .events) ≡ g .calls = ap callsIn (g .events) ∙ calls-of (w .first) (g .calls) in
-      let is : stateOf b ≡ st = goes-is in
+      let is : stateOf (b .state) ≡ st = goes-is in
+      let k : Steps (w .first) (history (w .first) (w .calls)) st = steps (w .first) (w .calls) in
       record {
         holds = rw (g .bytes) (held st (g .is));
-        state = rw calls-are is;
+        state = is;
         bytes = rw is (g .bytes);
-        answered = rw calls-are (g .events);
-        tells = rw (g .events, is) (tells-from (w .first) (g .rules) (w .tell) (g .tells) (g .calls));
-        demand3 = rw (g .events, is) (demand3-told (w .first) (g .rules) (w .tell) (g .tells) (g .calls));
+        answered = g .events;
+        tells = rw (g .events, is) (tells-from k (g .rules) (w .tell) (g .tells));
+        demand3 = rw (g .events, is) (demand3-told k (g .rules) (w .tell) (g .tells));
       }
 
 -- ---- the names that the entries hand on are whole, read or not
@@ -182,54 +184,53 @@ pairs-eight flags words e h =
     let many : length flags ≡ 8 = flags-long flags words e in
     record { many = pairs-length flags words (many ∙ sym (words-long flags words e)) ∙ many; words = words-fit flags words h }
 
-module _ (before flags words : List ℕ) (h : (i : ℕ) → IsWord (getD words i 0)) where
-  fresh-is : canFresh before flags words ≡ true → IsState (fresh (pairsOf flags words))
+module _ (before after : Slices) (flags words : List ℕ) (h : (i : ℕ) → IsWord (getD words i 0)) where
+  fresh-is : canFresh (before .state) flags words ≡ true → IsState (fresh (pairsOf flags words))
   unfolding canFresh
-  fresh-is can = state-fresh (pairsOf flags words) (pairs-eight flags words (and-right (eqb (length before) stateLength) (arePairs flags words) can) h)
+  fresh-is can = state-fresh (pairsOf flags words) (pairs-eight flags words (and-right (eqb (length (before .state)) stateLength) (arePairs flags words) can) h)
 
   -- a fresh module that was made, and one that was not
-  goes-made : canFresh before flags words ≡ true → {after : List ℕ} {n : ℕ} → FreshEntry before flags words n after → Goes (begun (fresh (pairsOf flags words)) nobody) after
-  goes-made can e =
-      subst (Goes _) (sym (e .bytes-are ∙ rw can)) (goes-begin (fresh (pairsOf flags words)) (fresh-is can) nobody (tells-fresh (pairsOf flags words)))
+  goes-made : canFresh (before .state) flags words ≡ true → {n : ℕ} → FreshEntry (before .state) flags words n (after .state) → Goes (begun (fresh (pairsOf flags words)) nobody) after
+  goes-made can e = goes-begin (fresh (pairsOf flags words)) (fresh-is can) nobody (tells-fresh (pairsOf flags words)) (e .bytes-are ∙ rw can)
 
-  goes-renewed : (w : Since) → Goes w before → (n : ℕ) (after : List ℕ) → FreshEntry before flags words n after → Goes (noting (Renewed flags words n) w) after
+  goes-renewed : (w : Since) → Goes w before → (n : ℕ) → FreshEntry (before .state) flags words n (after .state) → Goes (noting (Renewed flags words n) w) after
   unfolding _unless_
-  goes-renewed w g n after e =
-      split (canFresh before flags words)
+  goes-renewed w g n e =
+      split (canFresh (before .state) flags words)
       (λ can. let z : n ≡ 0 = e .number-is ∙ rw can in rw z (goes-made can e))
-      (λ can. let z : n ≡ 1 = e .number-is ∙ rw can in rw z (subst (Goes w) (sym (e .bytes-are ∙ rw can)) g))
+      (λ can. let z : n ≡ 1 = e .number-is ∙ rw can in rw z (goes-same g (e .bytes-are ∙ rw can)))
 
 -- ---- a module from an image: one that was made, and one that was not
-module _ (before image : List ℕ) (h : Bytes image) where
-  pub goes-restored-done : {after : List ℕ} → RestoreEntry before image 0 after → Goes (begun (Image.restored image) (toldBy image)) after
+module _ (before after : Slices) (image : List ℕ) (h : Bytes image) where
+  pub goes-restored-done : RestoreEntry (before .state) image 0 (after .state) → Goes (begun (Image.restored image) (toldBy image)) after
   goes-restored-done e =
       let is : isImage image ≡ true = restore-image e in
-      subst (Goes _) (sym (restore-done e)) (goes-begin (Image.restored image) (image-state image h is) (toldBy image) (image-tells image h is))
+      goes-begin (Image.restored image) (image-state image h is) (toldBy image) (image-tells image h is) (restore-done e)
 
-  goes-restored : (w : Since) → Goes w before → (n : ℕ) (after : List ℕ) → RestoreEntry before image n after → Goes (noting (Restored image n) w) after
+  goes-restored : (w : Since) → Goes w before → (n : ℕ) → RestoreEntry (before .state) image n (after .state) → Goes (noting (Restored image n) w) after
   unfolding restoreNumber _unless_ _▸_
-  goes-restored w g n after e =
-      split (eqb (length before) stateLength)
+  goes-restored w g n e =
+      split (eqb (length (before .state)) stateLength)
       (λ l. split (isImage image)
-      (λ i. let z : n ≡ 0 = e .number-is ∙ rw (l, i) in rw z (goes-restored-done (subst (λ m. RestoreEntry before image m after) z e)))
-      (λ i. let z : n ≡ 14 = e .number-is ∙ rw (l, i) in rw z (subst (Goes w) (sym (e .bytes-are ∙ rw (l, i))) g)))
-      (λ l. let z : n ≡ 1 = e .number-is ∙ rw l in rw z (subst (Goes w) (sym (e .bytes-are ∙ rw l)) g))
+      (λ i. let z : n ≡ 0 = e .number-is ∙ rw (l, i) in rw z (goes-restored-done (subst (λ m. RestoreEntry (before .state) image m (after .state)) z e)))
+      (λ i. let z : n ≡ 14 = e .number-is ∙ rw (l, i) in rw z (goes-same g (e .bytes-are ∙ rw (l, i)))))
+      (λ l. let z : n ≡ 1 = e .number-is ∙ rw l in rw z (goes-same g (e .bytes-are ∙ rw l)))
 
 -- ---- an entry
-pub goes-on : {b after : List ℕ} {entry : Made} (w : Since) → Goes w b → Entered b entry after → Goes (noting entry w) after
+pub goes-on : {b after : Slices} {entry : Made} (w : Since) → Goes w b → Entered b entry after → Goes (noting entry w) after
 goes-on {b} {after} w g (called {fine} {call} {n} fits e) = goes-called w b g fine call n after fits e
 goes-on {b} {after} w g (list-called {fine} {s} {claim} {wanted} {n} {r} e) = goes-called w b g fine (ListProcesses s claim wanted (length (r .old))) n after (λ q. tt) (e .entry)
-goes-on {b} {after} w g (renewed {flags} {words} {n} h e) = goes-renewed b flags words h w g n after e
-goes-on {b} {after} w g (restored {image} {n} h e) = goes-restored b image h w g n after e
+goes-on {b} {after} w g (renewed {flags} {words} {n} h e) = goes-renewed b after flags words h w g n e
+goes-on {b} {after} w g (restored {image} {n} h e) = goes-restored b after image h w g n e
 
-small-on : {b after : List ℕ} {entry : Made} (w : Since) → Goes w b → Entered b entry after → IsSmall entry
+small-on : {b after : Slices} {entry : Made} (w : Since) → Goes w b → Entered b entry after → IsSmall entry
 small-on w g (called fits e) = tt
-small-on {b} {after} w g (list-called {fine} {s} {claim} {wanted} {n} {r} e) = listing-small w b g fine s claim wanted n after r e
+small-on {b} {after} w g (list-called {fine} {s} {claim} {wanted} {n} {r} e) = listing-small w b g fine s claim wanted n (after .state) r e
 small-on w g (renewed h e) = tt
 small-on w g (restored h e) = tt
 
 -- entries one after another
-lent-by : {b last : List ℕ} {entries : List Made} (w : Since) → Goes w b → Chain b entries last → Lent w entries last
+lent-by : {b last : Slices} {entries : List Made} (w : Since) → Goes w b → Chain b entries last → Lent w entries last
 unfolding since
 lent-by {b} w g none = record { holds = goes-holds w b g; listings = each-nil }
 lent-by w g (then {entry = entry} e k) =
@@ -237,38 +238,37 @@ lent-by w g (then {entry = entry} e k) =
     record { holds = rest .holds; listings = each-cons (small-on w g e) (rest .listings) }
 
 -- from any slice that holds a state, whoever wrote it, and whatever was told of that state
-pub lent-held : (b : List ℕ) → Bytes b → holdsState b ≡ true → (tell : Name → Life) → Tells tell (stateOf b) → {entries : List Made} {last : List ℕ} → Chain b entries last → Lent (begun (stateOf b) tell) entries last
+pub lent-held : (b : Slices) → Bytes (b .state) → holdsState (b .state) ≡ true → (tell : Name → Life) → Tells tell (stateOf (b .state)) → {entries : List Made} {last : Slices} → Chain b entries last → Lent (begun (stateOf (b .state)) tell) entries last
 lent-held b g h tell t k =
-    lent-by (begun (stateOf b) tell) (subst (Goes _) (one-form b h g) (goes-begin (stateOf b) (holds-is b h g) tell t)) k
+    lent-by (begun (stateOf (b .state)) tell) (goes-begin (stateOf (b .state)) (holds-is (b .state) h g) tell t (sym (one-form (b .state) h g))) k
 
 -- from a fresh module on
-pub goes-fresh : {before flags words after : List ℕ} → ((i : ℕ) → IsWord (getD words i 0)) → FreshEntry before flags words 0 after → Goes (begun (fresh (pairsOf flags words)) nobody) after
+pub goes-fresh : {before after : Slices} {flags words : List ℕ} → ((i : ℕ) → IsWord (getD words i 0)) → FreshEntry (before .state) flags words 0 (after .state) → Goes (begun (fresh (pairsOf flags words)) nobody) after
 unfolding _unless_
-goes-fresh {before} {flags} {words} h e =
-    split (canFresh before flags words)
-    (λ can. goes-made before flags words h can e)
+goes-fresh {before} {after} {flags} {words} h e =
+    split (canFresh (before .state) flags words)
+    (λ can. goes-made before after flags words h can e)
     (λ can. let z : 0 ≡ 1 = e .number-is ∙ rw can in absurd (omega arith))
 
-pub lent-made : {before flags words after : List ℕ} → ((i : ℕ) → IsWord (getD words i 0)) → FreshEntry before flags words 0 after → {entries : List Made} {last : List ℕ} → Chain after entries last → Lent (begun (fresh (pairsOf flags words)) nobody) entries last
-lent-made {flags = flags} {words = words} h e k = lent-by (begun (fresh (pairsOf flags words)) nobody) (goes-fresh h e) k
+pub lent-made : {before after : Slices} {flags words : List ℕ} → ((i : ℕ) → IsWord (getD words i 0)) → FreshEntry (before .state) flags words 0 (after .state) → {entries : List Made} {last : Slices} → Chain after entries last → Lent (begun (fresh (pairsOf flags words)) nobody) entries last
+lent-made {before} {after} {flags} {words} h e k = lent-by (begun (fresh (pairsOf flags words)) nobody) (goes-fresh {before = before} {after = after} h e) k
 
 -- from a module that was restored on: "Demand 3 from then on counts from the number in the image"
-pub lent-restored : {before image after : List ℕ} → Bytes image → RestoreEntry before image 0 after → {entries : List Made} {last : List ℕ} → Chain after entries last → Lent (begun (Image.restored image) (toldBy image)) entries last
-lent-restored {before} {image} h e k = lent-by (begun (Image.restored image) (toldBy image)) (goes-restored-done before image h e) k
+pub lent-restored : {before after : Slices} {image : List ℕ} → Bytes image → RestoreEntry (before .state) image 0 (after .state) → {entries : List Made} {last : Slices} → Chain after entries last → Lent (begun (Image.restored image) (toldBy image)) entries last
+lent-restored {before} {after} {image} h e k = lent-by (begun (Image.restored image) (toldBy image)) (goes-restored-done before after image h e) k
 
 -- ---- a module from the image of what entries left, in whatever slice
-pub goes-again : (w : Since) {last image slice after : List ℕ} → IsState (stateOf last) → Holds w last → Bytes image → image ≡ imageBytes (stateOf last) → RestoreEntry slice image 0 after → Goes (cycledSince w) after
-goes-again w {image = image} {after = after} v h g is r =
-    let i : IsImageOf w image = image-of w v h is in
+pub goes-again : (w : Since) {last slices after : Slices} {image : List ℕ} → IsState (stateOf (last .state)) → Holds w last → Bytes image → image ≡ imageBytes (stateOf (last .state)) → RestoreEntry (slices .state) image 0 (after .state) → Goes (cycledSince w) after
+goes-again w {last} {slices} {after} {image} v h g is r =
+    let i : IsImageOf w image = image-of w {last = last} v h is in
     let made : IsState (Image.restored image) = image-state image g (i .accepted) in
     let tell : Name → Life = cycledSince w .tell in
     let tells : Tells tell (Image.restored image) = look-tells (Image.restored image) (made .rules) tell (λ n. sym (i .tells n) ∙ ap (look n) (sym (stands-is image))) in
-    subst (λ first. Goes (begun first tell) after) (i .restored)
-    (subst (Goes _) (sym (restore-done r)) (goes-begin (Image.restored image) made tell tells))
+    subst (λ first. Goes (begun first tell) after) (i .restored) (goes-begin (Image.restored image) made tell tells (restore-done r))
 
 -- through a power cycle: entries, the image of what they left, a module from it in whatever slice, and entries again. They go on from what was told, cut there:
 -- of a process that was saved, none of the numbers that were accepted before is accepted again
-pub lent-through : (w : Since) {last old new before after : List ℕ} {long : ℕ} → Bytes last → Holds w last → Bytes new → ImageEntry last old 0 new long → RestoreEntry before (take long new) 0 after → {entries : List Made} {end : List ℕ} → Chain after entries end → Lent (cycledSince w) entries end
-lent-through w {last = last} {new = new} {long = long} g h b e r k =
-    let v : IsState (stateOf last) = holds-is last (h .holds) g in
-    lent-by (cycledSince w) (goes-again w v h (bytes-take long new b) (image-written e v) r) k
+pub lent-through : (w : Since) {last before after : Slices} {old new : List ℕ} {long : ℕ} → Bytes (last .state) → Holds w last → Bytes new → ImageEntry (last .state) old 0 new long → RestoreEntry (before .state) (take long new) 0 (after .state) → {entries : List Made} {end : Slices} → Chain after entries end → Lent (cycledSince w) entries end
+lent-through w {last} {before} {after} {old} {new} {long} g h b e r k =
+    let v : IsState (stateOf (last .state)) = holds-is (last .state) (h .holds) g in
+    lent-by (cycledSince w) (goes-again w {last = last} {slices = before} {after = after} v h (bytes-take long new b) (image-written e v) r) k

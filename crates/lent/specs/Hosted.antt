@@ -13,12 +13,12 @@ use Rattle.layout.specs.Layout.{stateOf}
 use Rattle.image.specs.Image.{imageBytes}
 use Rattle.resumed.specs.Changes.{changesImage}
 use Rattle.entries_image.specs.Entries.{ImageEntry, RestoreEntry}
-use Rattle.lent.specs.Lent.{Made, Called, Listed, Renewed, Restored, Entered, Since, noting, Holds, cycledSince, IsImageOf}
+use Rattle.lent.specs.Lent.{Slices, Made, Called, Listed, Renewed, Restored, Entered, Since, noting, Holds, cycledSince, IsImageOf}
 
--- the entries that change an image, on the slice before them: such a call, a fresh module, and a restored one
-abbrev pub entryChanges : List ℕ → Made → Bool
-entryChanges before (Called fine call n) = changesImage (stateOf before) call n
-entryChanges before (Listed fine s claim wanted n r) = changesImage (stateOf before) (ListProcesses s claim wanted (length (r .old))) n
+-- the entries that change an image, on the slices before them: such a call, a fresh module, and a restored one
+abbrev pub entryChanges : Slices → Made → Bool
+entryChanges before (Called fine call n) = changesImage (stateOf (before .state)) call n
+entryChanges before (Listed fine s claim wanted n r) = changesImage (stateOf (before .state)) (ListProcesses s claim wanted (length (r .old))) n
 entryChanges before (Renewed flags words n) = eqb n No.done
 entryChanges before (Restored image n) = eqb n No.done
 
@@ -27,23 +27,23 @@ pub data Happening : Type 0 where
   Enters : Made → Happening
   PowerCycle : Happening
 
--- from a slice and the image that the flash has to a slice and an image
-pub data Hosted : List ℕ → List ℕ → List Happening → List ℕ → List ℕ → Type 0 where
-  none : {slice image : List ℕ} → Hosted slice image [] slice image
+-- from slices and the image that the flash has to slices and an image
+pub data Hosted : Slices → List ℕ → List Happening → Slices → List ℕ → Type 0 where
+  none : {slices : Slices} {image : List ℕ} → Hosted slices image [] slices image
   -- an entry that leaves the image as it was: none is written
-  kept : {before image after last newest : List ℕ} {entry : Made} {happenings : List Happening}
+  kept : {before after last : Slices} {image newest : List ℕ} {entry : Made} {happenings : List Happening}
       → Entered before entry after → entryChanges before entry ≡ false
       → Hosted after image happenings last newest
       → Hosted before image (Enters entry ∷ happenings) last newest
   -- after every other entry one is written, and after any one may be
-  written : {before image after old new last newest : List ℕ} {long : ℕ} {entry : Made} {happenings : List Happening}
-      → Entered before entry after → ImageEntry after old 0 new long
+  written : {before after last : Slices} {image old new newest : List ℕ} {long : ℕ} {entry : Made} {happenings : List Happening}
+      → Entered before entry after → ImageEntry (after .state) old 0 new long
       → Hosted after (take long new) happenings last newest
       → Hosted before image (Enters entry ∷ happenings) last newest
-  -- the power goes, and the slice with it; a module is made from the flash's image, in whatever slice. An entry after which the power went before its image was
+  -- the power goes, and the slices with it; a module is made from the flash's image, in whatever slice. An entry after which the power went before its image was
   -- written is none of these: its answer was told to nobody
-  cycled : {before image slice after last newest : List ℕ} {happenings : List Happening}
-      → Bytes image → RestoreEntry slice image 0 after
+  cycled : {before slices after last : Slices} {image newest : List ℕ} {happenings : List Happening}
+      → Bytes image → RestoreEntry (slices .state) image 0 (after .state)
       → Hosted after image happenings last newest
       → Hosted before image (PowerCycle ∷ happenings) last newest
 
@@ -56,10 +56,10 @@ unfoldable pub sinceAll : Since → List Happening → Since
 sinceAll w [] = w
 sinceAll w (one ∷ happenings) = sinceAll (afterwards one w) happenings
 
--- ---- what is to hold of the slice and the image in which they ended
-pub record IsNewest (w : Since) (last newest : List ℕ) : Type 0 where
+-- ---- what is to hold of the slices and the image in which they ended
+pub record IsNewest (w : Since) (last : Slices) (newest : List ℕ) : Type 0 where
   pub holds : Holds w last
   -- the image that was written last is byte for byte that of the state now
-  pub bytes : newest ≡ imageBytes (stateOf last)
+  pub bytes : newest ≡ imageBytes (stateOf (last .state))
   -- so it makes the module that the calls come to, after a power cycle
   pub image : IsImageOf w newest

@@ -1,4 +1,4 @@
--- What an entry that refuses leaves, in bytes: demand 1, "the state and the lent buffer hold what they held", and order 3's one exception, "that one number".
+-- What an entry that refuses leaves, in bytes: demand 1, that the state and the lent buffer hold what they held before, and order 3's one exception, "that one number".
 use Prim.Native.Nat.{ℕ, _+_}
 use mathlib.Core.Path.{_≡_}
 use mathlib.Core.Logic.{_≢_}

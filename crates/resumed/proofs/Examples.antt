@@ -13,17 +13,18 @@ use Rattle.claims.specs.declared.Grants.{Grants}
 use Rattle.claims.specs.declared.State.{State}
 use Rattle.calls.specs.Calls.{Call, Open, Close, Drop, Select, Start, Continue, Elevate, End, Record, Kill, number, fresh}
 use Rattle.calls.specs.Run.{step, run}
-use Rattle.calls.proofs.Sequences.{P, Q, R, session, credential, class, userYes, yes′, Step, _⇒_, callsOf, Answered, after, computed}
-use Rattle.history.specs.History.{Event, history}
-use Rattle.history.specs.Lives as Lives
-use Rattle.history.specs.Lives.{Life, Gone, Live, Kept, passed, count, told, counts, ends, shuts, drops, resumes, charges, tellsPassed, onward, follow}
+use Rattle.calls.proofs.Sequences.{P, Q, R, session, credential, class, userYes, yes′, Step, _⇒_, callsOf, Answered, after}
+use Rattle.history.specs.Lives.{Life, Gone, Live, Kept, count, Event, told}
+use Rattle.history.specs.History.{history}
+use Rattle.history.specs.Since.{toldSince, isNew}
+use Rattle.history.proofs.Examples.{lives}
 use Rattle.image.specs.Image.{numbersIn, maskIn, rowCountIn, grantsSaid, grantsIn, savedFrom, keptIn, restored, imageLong, headFits, wordFits, isKeepable, differ, isImage, imageBytes, imageOf, numbersBytes, maskOf, wordIn, savedOf, savedBytes}
-use Rattle.resumed.specs.Resumed.{toldSince, starts, isNew, toldBy}
+use Rattle.resumed.specs.Resumed.{toldBy}
 use Rattle.resumed.specs.Changes.{hasSaved, touchesImage, changesImage, newest}
 
 -- all that the examples compute with
 unfoldable pub opened : Type 1
-unfolding computed history counts ends shuts drops resumes Lives.after charges tellsPassed onward follow passed starts isNew numberOf numberAt rows every pairwise numbersIn maskIn rowCountIn grantsSaid grantsIn savedFrom keptIn restored imageLong headFits wordFits isKeepable differ isImage imageBytes imageOf numbersBytes maskOf wordIn savedOf savedBytes
+unfolding lives isNew numberOf numberAt rows every pairwise numbersIn maskIn rowCountIn grantsSaid grantsIn savedFrom keptIn restored imageLong headFits wordFits isKeepable differ isImage imageBytes imageOf numbersBytes maskOf wordIn savedOf savedBytes
 opened = Type 0
 
 -- credential 0 has the classes 0 to 4, no other is provisioned; P is saved, with next number 3

@@ -1,4 +1,3 @@
-pub mod Lives
 pub mod Theorems
 pub mod Examples
 pub mod Wrong

@@ -1,6 +1,6 @@
--- Demand 3 from any state that keeps the rules, counted from what was told of it; from an image; and through a power cycle.
+-- Demand 3 from an image, and through a power cycle.
 -- Assumes nothing.
-use Prim.Native.Nat.{ℕ, zero, suc, _+_, _/_, _%_, _≤_, _<_}
+use Prim.Native.Nat.{ℕ, zero, suc, _/_, _%_, _≤_, _<_}
 use mathlib.Core.Path.{_≡_, refl, sym, ap, subst, _∙_}
 use mathlib.Core.Bool.{Bool, true, false, cond, not}
 use mathlib.Core.List.{List, [], _∷_, map}
@@ -9,7 +9,7 @@ use lib.ListN.{length, drop}
 use Rattle.lists.specs.Each.{Each, each-nil, each-cons}
 use Rattle.lists.specs.Lists.{join, select, reject}
 use Rattle.lists.proofs.Lists.{length-reject}
-use Rattle.lists.proofs.Tests.{split, clash}
+use Rattle.lists.proofs.Tests.{clash}
 use Rattle.lists.proofs.Each.{each-imp, each-imp₂, each-all, each-reject, each-left, pairs-imp, pairs-reject}
 use Rattle.rows.specs.Bytes.{Bytes, bytesOf}
 use Rattle.rows.specs.Rows.{rows}
@@ -19,90 +19,34 @@ use Rattle.names.specs.declared.Kind.{Kind}
 use Rattle.names.specs.declared.Kind.the-variants.{User, Elevation, Saved}
 use Rattle.names.specs.declared.Name.{Name}
 use Rattle.names.specs.declared.Session.{Session}
-use Rattle.table.specs.Table.{isElevation, isSaved}
+use Rattle.table.specs.Table.{isSaved}
 use Rattle.table.specs.declared.Active.the-variants.{UserOf}
 use Rattle.table.specs.declared.Process.{Process}
 use Rattle.table.proofs.Laws.{standing-of}
 use Rattle.claims.specs.Module.{provisioned, activeProcess}
+use Rattle.claims.specs.Claim.{admitted}
+use Rattle.claims.specs.declared.Claim.the-variants.{ByUser}
 use Rattle.claims.specs.declared.Grants.{Grants}
 use Rattle.claims.specs.declared.State.{State}
 use Rattle.claims.specs.declared.UserClaim.{UserClaim}
-use Rattle.calls.specs.Calls.{Call, passes, fresh}
+use Rattle.calls.specs.Calls.{Call, fresh}
 use Rattle.calls.specs.Run.{run}
 use Rattle.facts.specs.Facts.{processes, isRunning, Owned, Rules, IsState}
-use Rattle.history.specs.History.{Event, history}
 use Rattle.history.specs.Lives.{Life, Gone, Live, Raised, Kept, passed, count, follow, told, nobody, down}
-use Rattle.history.specs.Demand.{life, lifeOf, look, Carries, Tells, IsClaimOf, Demand3}
+use Rattle.history.specs.History.{history}
+use Rattle.history.specs.Demand.{life, lifeOf, look, Tells}
+use Rattle.history.specs.Since.{isNew, Demand3From, IsClaimFrom}
 use Rattle.history.specs.Fits.{Fits, Eight}
 use Rattle.history.proofs.Looked.{look-reject}
 use Rattle.history.proofs.Form.{state-run, state-fresh}
 use Rattle.history.proofs.Told.{live-not-gone, length-down, down-below, tells-look, look-tells}
-use Rattle.history.proofs.Once.{passed-number}
-use Rattle.history.proofs.Theorems.{demand3-from, tells-from, in-turn-from, claim-from, new-from}
+use Rattle.history.proofs.Calls.{steps}
+use Rattle.history.proofs.Since.{follow-gone}
+use Rattle.history.proofs.Theorems.{tells-from, in-turn-from, demand3-told, claim-told-from}
 use Rattle.image.specs.Image.{savedAt, savedSize, isKept, savedOf, rowCountIn, savedFrom, keptIn, isImage, restored, cycled, numbersBytes, wordSize, imageOf, imageBytes}
 use Rattle.image.proofs.Rows.{select-reject}
 use Rattle.image.proofs.Laws.{stands-is, image-state, state-image, state-restored}
-use Rattle.resumed.specs.Resumed.{bare, toldSince, isNew, Demand3From, IsClaimFrom, toldBy, FromImage, cut}
-use Rattle.resumed.proofs.Lives.{onto, onto-bare, isUsers, count-onto, follow-onto, follow-new, follow-gone}
-
-users : (k : Kind) (s : Session) (c : Credential) (n : ℕ) → isElevation k ≡ false → isUsers (life k s c n) ≡ true
-users User s c n e = refl
-users Elevation s c n e = clash refl e
-users Saved s c n e = refl
-
--- what passed since, above what was before
-count-since : (tell : Name → Life) (events : List Event) (n : Name) → isUsers (told tell events n) ≡ true → count (told tell events n) ≡ cond (isNew events n) 0 (count (tell n)) + count (toldSince tell events n)
-count-since tell events n h =
-    split
-    (isNew events n)
-    (λ e. rw (e, follow-new n events e (tell n) (bare (tell n))) (omega arith))
-    (λ e.
-    let both : told tell events n ≡ onto (passed (tell n)) (toldSince tell events n) =
-    ap (follow n events) (sym (onto-bare (tell n))) ∙ follow-onto (passed (tell n)) n events e (bare (tell n))
-    in
-    rw e (ap count both ∙ count-onto (passed (tell n)) (toldSince tell events n) (rw both at h)))
-
--- a process that is live and was not started since has all of them
-not-below : (tell : Name → Life) (events : List Event) (n : Name) (s : Session) (c : Credential) (ns : List ℕ) → told tell events n ≡ Live s c ns → isNew events n ≡ false → count (tell n) ≤ count (told tell events n)
-not-below tell events n s c ns lives old =
-    let d : count (told tell events n) ≡ count (tell n) + count (toldSince tell events n) = rw old at (count-since tell events n (rw lives)) in
-    omega (arith, d)
-
--- ---- from any state that keeps the rules, told so
-module _ (first : State) (rules : Rules first) (tell : Name → Life) (tells : Tells tell first) (calls : List Call) where
-  pub demand3-told : Demand3From tell (history first calls) (run first calls)
-  demand3-told =
-      let d : Demand3 tell (history first calls) (run first calls) = demand3-from first rules tell tells calls in
-      record {
-        demand3 = d;
-        numbers =
-            each-imp₂
-            (λ p e is h. is h ∙ count-since tell (history first calls) (p .name) (rw e (users (p .kind) (p .session) (p .credential) (p .next) h)))
-            (tells-from first rules tell tells calls .stands)
-            (d .numbers);
-        not-below =
-            λ n v old.
-            let is = passed-number first rules tell tells calls n (v .before) (v .rest) (v .event) (v .are) (v .one) in
-            let low = not-below tell (v .before) n (v .one .session) (v .one .claim .credential) (v .one .before) (v .one .lives) old in
-            omega (arith, is, low);
-      }
-
-  -- the next call under a user claim, if that passes
-  pub claim-told-from : (s : Session) (u : UserClaim) (call : Call) → Carries s u call → passes (run first calls) call ≡ true → IsClaimFrom tell (history first calls) s u (activeProcess (run first calls) (UserOf s (u .credential)) .name)
-  unfolding passed
-  claim-told-from s u call k e =
-      let name : Name = activeProcess (run first calls) (UserOf s (u .credential)) .name in
-      let claim : IsClaimOf (told tell (history first calls)) s u name = claim-from first rules tell tells calls s u call k e in
-      let is : u .number ≡ count (told tell (history first calls) name) = rw (claim .is) (sym (length-down (u .number))) in
-      record {
-        claim = claim;
-        number = is;
-        new = new-from first rules tell tells calls s u call k e;
-        not-below =
-            λ old.
-            let low = not-below tell (history first calls) name s (u .credential) (down (u .number)) (claim .is) old in
-            omega (arith, is, low);
-      }
+use Rattle.resumed.specs.Resumed.{toldBy, FromImage, cut}
 
 -- ---- "It is shown that no history comes to such a state (a save has counted one)"
 pub counted-from : (first : State) → IsState first → (calls : List Call) → Each Fits calls → Each (λ p. p .kind ≡ Saved → 1 ≤ p .next) (processes (run first calls))
@@ -146,10 +90,10 @@ module _ (b : List ℕ) (g : Bytes b) (e : isImage b ≡ true) where
 
   -- any calls on the module that it makes
   pub image-demand3 : (calls : List Call) → Demand3From (toldBy b) (history (restored b) calls) (run (restored b) calls)
-  image-demand3 = demand3-told (restored b) (image-state b g e .rules) (toldBy b) image-tells
+  image-demand3 calls = demand3-told (steps (restored b) calls) (image-state b g e .rules) (toldBy b) image-tells
 
-  pub image-claim : (calls : List Call) (s : Session) (u : UserClaim) (call : Call) → Carries s u call → passes (run (restored b) calls) call ≡ true → IsClaimFrom (toldBy b) (history (restored b) calls) s u (activeProcess (run (restored b) calls) (UserOf s (u .credential)) .name)
-  image-claim = claim-told-from (restored b) (image-state b g e .rules) (toldBy b) image-tells
+  pub image-claim : (calls : List Call) (s : Session) (u : UserClaim) → admitted (run (restored b) calls) s (ByUser u) ≡ 0 → IsClaimFrom (toldBy b) (history (restored b) calls) s u (activeProcess (run (restored b) calls) (UserOf s (u .credential)) .name)
+  image-claim calls = claim-told-from (steps (restored b) calls) (image-state b g e .rules) (toldBy b) image-tells
 
 -- ---- a power cycle
 cut-life : (k : Kind) (s : Session) (c : Credential) (n : ℕ) → cut (life k s c n) ≡ cond (not (isSaved k)) Gone (life k s c n)
@@ -205,7 +149,7 @@ module _ (first : State) (v : IsState first) (tell : Name → Life) (tells : Tel
   image = imageBytes (run first calls)
 
   pub told-through : (name : Name) → toldBy (imageBytes (run first calls)) name ≡ cut (told tell (history first calls) name)
-  told-through = told-cut (run first calls) last (told tell (history first calls)) (tells-from first (v .rules) tell tells calls)
+  told-through = told-cut (run first calls) last (told tell (history first calls)) (tells-from (steps first calls) (v .rules) tell tells)
 
   abbrev again : State
   again = restored image
@@ -213,24 +157,24 @@ module _ (first : State) (v : IsState first) (tell : Name → Life) (tells : Tel
   rules-again : Rules again
   rules-again = rw (state-restored last) (rules-cycled (run first calls) (last .rules))
 
-  module _ (more : List Call) (s : Session) (u : UserClaim) (call : Call) (k : Carries s u call) (e : passes (run again more) call ≡ true) where
+  module _ (more : List Call) (s : Session) (u : UserClaim) (e : admitted (run again more) s (ByUser u) ≡ 0) where
     abbrev name : Name
     name = activeProcess (run again more) (UserOf s (u .credential)) .name
 
     after : IsClaimFrom (toldBy image) (history again more) s u name
-    after = claim-told-from again rules-again (toldBy image) (tells-by image rules-again) more s u call k e
+    after = claim-told-from (steps again more) rules-again (toldBy image) (tells-by image rules-again) s u e
 
     module _ (old : isNew (history again more) name ≡ false) where
       not-gone : cut (told tell (history first calls) name) ≡ Gone → ⊥
       not-gone z =
           live-not-gone
-          (sym (after .claim .is) ∙ ap (follow name (history again more)) (told-through name ∙ z) ∙ follow-gone name (history again more) old)
+          (sym (after .claim .is) ∙ ap (follow name (history again more)) (told-through name ∙ z) ∙ follow-gone name (steps again more) old)
 
       above : (is : Life) → told tell (history first calls) name ≡ is → passed is ≡ down (count is) → Each (λ n. n < u .number) (passed is)
       unfolding passed
       above Gone is turn = each-nil
       above (Live t d ns) is turn = absurd (not-gone (rw is))
-      above (Raised t) is turn = each-nil
+      above (Raised t d) is turn = each-nil
       above (Kept d ns) is turn =
           let low : count (toldBy image name) ≤ u .number = after .not-below old in
           let kept : toldBy image name ≡ Kept d ns = told-through name ∙ rw is in
@@ -238,7 +182,7 @@ module _ (first : State) (v : IsState first) (tell : Name → Life) (tells : Tel
 
       -- so of a process that was saved then, no number that passed before passes after
       pub claim-through : Each (λ n. n < u .number) (passed (told tell (history first calls) name))
-      claim-through = above (told tell (history first calls) name) refl (in-turn-from first (v .rules) tell tells calls name)
+      claim-through = above (told tell (history first calls) name) refl (in-turn-from (steps first calls) (v .rules) tell tells name)
 
 -- ---- "the fresh module being the case of an image without rows"
 each-bytes : {l : List ℕ} → Each (λ a. a < 256) l → Bytes l

@@ -12,9 +12,10 @@ use Rattle.claims.specs.declared.State.{State}
 use Rattle.calls.specs.Calls.{Call, Open, Select, Continue}
 use Rattle.calls.specs.Run.{run}
 use Rattle.calls.proofs.Sequences.{P, session, credential, class, userYes}
-use Rattle.history.specs.History.{history}
+use Rattle.history.specs.History.{eventOf, history}
+use Rattle.history.specs.Since.{OnePassed, Demand3From}
 use Rattle.image.specs.Image.{grantsIn, keptIn, moduleOf}
-use Rattle.resumed.specs.Resumed.{OnePassed, Demand3From, toldBy}
+use Rattle.resumed.specs.Resumed.{toldBy}
 use Rattle.resumed.proofs.Examples.{opened, image, recorded}
 
 abbrev numbered : ℕ → Process → Process
@@ -39,7 +40,7 @@ unfolding opened
 old =
     record {
       before = history (goneOnFrom 0) (continued []);
-      event = record { call = recorded 0; answered = 0 };
+      event = eventOf (recorded 0) 0;
       rest = [];
       are = refl;
       one = record { session = session 0; claim = userYes 0 0; carried = refl; told = refl; before = 2 ∷ 1 ∷ 0 ∷ []; lives = refl };
