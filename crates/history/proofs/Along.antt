@@ -1,4 +1,4 @@
--- Steps one after another: what single ones keep and tell, rows of them do. The count of a process grows with each claim of it that passes, and falls with nothing less
+-- Steps one after another: what single ones keep and tell, they do. The count of a process grows with each claim of it that passes, and falls with nothing less
 -- than its removal: so no number passes twice.
 -- Assumes nothing.
 use Prim.Native.Nat.{suc, _≤_, _<_}
@@ -33,7 +33,7 @@ followed n (then {events = events} s k) v = ap (follow n events) (s .follows v n
 pub told-along : (n : Name) {first last : State} {events : List Event} → Steps first events last → Rules first → (tell : Name → Life) → Tells tell first → told tell events n ≡ look n (processes last)
 told-along n {first} {last} {events} k v tell tells = ap (follow n events) (tells-look tell first tells n) ∙ followed n k v
 
--- ---- rows of steps, joined and cut
+-- ---- steps joined to steps, and cut
 pub join : {first mid last : State} {before rest : List Event} → Steps first before mid → Steps mid rest last → Steps first (before ++ rest) last
 join none k = k
 join (then s b) k = then s (join b k)

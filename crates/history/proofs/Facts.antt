@@ -22,7 +22,8 @@ use Rattle.claims.specs.declared.Phase.the-variants.{Closed, Opened, Chosen}
 use Rattle.claims.specs.declared.State.{State}
 use Rattle.claims.specs.declared.UserClaim.{UserClaim}
 use Rattle.claims.proofs.Laws.{clear-first, clear-rest, clear-when, clear-unless}
-use Rattle.calls.specs.Calls.{Call, Open, Close, Drop, Select, Start, Continue, Elevate, End, Record, ListProcesses, Kill, SetWord, isFull, hasNamed, namedPlace, reach, number}
+use Rattle.calls.specs.Calls.{Call, Open, Close, Drop, Select, Start, Continue, Elevate, End, Record, ListProcesses, Kill, SetWord, isFull, hasNamed, namedPlace, reach, number, Under, protection, protectedNumber}
+use Rattle.calls.proofs.Cut.{number-done, passed-claim}
 use Rattle.calls.proofs.Facts.{ClaimNeeds, needs}
 use Rattle.lists.specs.Each.{Each}
 use Rattle.lists.proofs.Each.{Stands, found, each-fails}
@@ -91,6 +92,11 @@ module _ (st : State) where
       let is : ClaimNeeds st s u = needs st s (ByUser u) e in
       record { stands = stands (UserOf s (u .credential)) (is .active); unspent = eqb-false _ _ (is .unspent); number = is .turn }
 
+  -- an accepted call's claim
+  accepted : (call : Call) {s : Session} {claim : Claim} → protection call ≡ Under s claim → number st call ≡ 0 → Admitted s claim
+  unfolding protectedNumber
+  accepted call {s} {claim} w e = passed s claim (rw w at (passed-claim st call (number-done st call e)))
+
   -- ---- a kill, by its claim, of the process of a name that it may kill
   pub record Killed (s : Session) (claim : Claim) (name : Name) : Type 0 where
     pub admission : Admitted s claim
@@ -117,7 +123,7 @@ module _ (st : State) where
   Facts (SetWord s claim c word) = Set s claim c
 
   pub facts : (call : Call) → number st call ≡ 0 → Facts call
-  unfolding number hasNamed namedPlace hasActive
+  unfolding number protection hasNamed namedPlace hasActive
   facts (Open s) e = closed-not (phaseOf st s) (clear-unless No.session tt _ (clear-rest _ _ e))
   facts (Close s) e = tt
   facts (Select s byte) e = tt
@@ -141,16 +147,16 @@ module _ (st : State) where
       (clear-unless No.credential tt _ (clear-first _ _ rest))
       (clear-rest _ _ (clear-rest _ _ rest))
   facts (Drop s) e = stands (ElevationIn s) (clear-unless No.noProcess tt _ (clear-rest _ _ e))
-  facts (End s u keep) e = passed s (ByUser u) (clear-first _ _ e)
-  facts (Record s claim class) e = passed s claim (clear-first _ _ (clear-rest _ _ e))
-  facts (ListProcesses s claim wanted room) e = passed s claim (clear-first _ _ (clear-rest _ _ e))
+  facts (End s u keep) e = accepted (End s u keep) refl e
+  facts (Record s claim class) e = accepted (Record s claim class) refl e
+  facts (ListProcesses s claim wanted room) e = accepted (ListProcesses s claim wanted room) refl e
   facts (Kill s claim name) e =
       record {
-        admission = passed s claim (clear-first _ _ e);
+        admission = accepted (Kill s claim name) refl e;
         stands = found (isNamed name (reach st (claimant st s claim))) (processes st) freePlace (clear-unless No.noProcess tt _ (clear-rest _ _ e));
       }
   facts (SetWord s claim c word) e =
       record {
-        admission = passed s claim (clear-first _ _ (clear-rest _ _ e));
+        admission = accepted (SetWord s claim c word) refl e;
         owner = clear-unless No.credential tt _ (clear-rest _ _ (clear-rest _ _ (clear-rest _ _ e)));
       }

@@ -132,10 +132,10 @@ tidy-of : (l : List Process) → tableOf l ≡ tableOf (standing (tableOf l))
 tidy-of l = ap tableOf (sym (standing-of l))
 
 module _ {F : Type 0} where
-  around-same : (st : State) → Around F st st
+  pub around-same : (st : State) → Around F st st
   around-same st = record { sessions = refl; credentials = refl; words = λ f e. e; tidy = λ t. t }
 
-  around-then : {st mid next : State} → Around F st mid → Around F mid next → Around F st next
+  pub around-then : {st mid next : State} → Around F st mid → Around F mid next → Around F st next
   around-then a b =
       record {
         sessions = b .sessions ∙ a .sessions;
@@ -144,14 +144,14 @@ module _ {F : Type 0} where
         tidy = λ t. b .tidy (a .tidy t);
       }
 
-  around-table : (st : State) (t : Table) → t ≡ tableOf (standing t) → Around F st (withTable st t)
+  pub around-table : (st : State) (t : Table) → t ≡ tableOf (standing t) → Around F st (withTable st t)
   around-table st t e = record { sessions = refl; credentials = refl; words = λ f v. v; tidy = λ h. e }
 
   around-phase : (st : State) (s : Session) (phase : Phase) → Around F st (withPhase st s phase)
   around-phase st s phase =
       record { sessions = length-set (st .sessions) (s .0) (record { phase = phase }); credentials = refl; words = λ f v. v; tidy = λ h. h }
 
-  around-word : (st : State) (c : Credential) (word : ℕ) → (F → IsWord word) → Around F st (withWord st c word)
+  pub around-word : (st : State) (c : Credential) (word : ℕ) → (F → IsWord word) → Around F st (withWord st c word)
   around-word st c word small =
       let new : Grants = record { provisioned = true; word = word } in
       record {

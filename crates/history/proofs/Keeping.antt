@@ -40,7 +40,7 @@ use Rattle.history.proofs.Facts.{Added, Continued, Admitted, Facts, fac
 use Rattle.history.proofs.Tables.{rules-append, rules-set, rules-remove, rules-reject, rules-idle, rules-chosen, rules-word, idle}
 
 -- ---- of which process a process can be the active one
-pub only-user : (s : Session) (c : Credential) (p : Process) → p .kind ≡ User → p .session ≡ s → p .credential ≡ c → (which : Active) → isActive which p ≡ true → which ≡ UserOf s c
+only-user : (s : Session) (c : Credential) (p : Process) → p .kind ≡ User → p .session ≡ s → p .credential ≡ c → (which : Active) → isActive which p ≡ true → which ≡ UserOf s c
 only-user s c p k i o (UserOf t d) h =
     let v = user-of p t d h in
     let et : t ≡ s = sym (v .session) ∙ i in
@@ -48,7 +48,7 @@ only-user s c p k i o (UserOf t d) h =
     cc
 only-user s c p k i o (ElevationIn t) h = let e : p .kind ≡ Elevation = elevation-in p t h .kind in cc
 
-pub only-elevation : (s : Session) (p : Process) → p .kind ≡ Elevation → p .session ≡ s → (which : Active) → isActive which p ≡ true → which ≡ ElevationIn s
+only-elevation : (s : Session) (p : Process) → p .kind ≡ Elevation → p .session ≡ s → (which : Active) → isActive which p ≡ true → which ≡ ElevationIn s
 only-elevation s p k i (UserOf t d) h = let e : p .kind ≡ User = user-of p t d h .kind in cc
 only-elevation s p k i (ElevationIn t) h = let e : t ≡ s = sym (elevation-in p t h .session) ∙ i in cc
 

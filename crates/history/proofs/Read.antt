@@ -1,7 +1,7 @@
 -- From the number that a call was answered, whether its claim passed: the reading that the history makes, and that it is right.
 -- Assumes nothing.
 use Prim.Native.Nat.{ℕ}
-use mathlib.Core.Path.{_≡_, refl}
+use mathlib.Core.Path.{_≡_, refl, _∙_}
 use mathlib.Core.Bool.{Bool, true, false, not}
 use lib.ListN.{getD}
 use borrow.Author.Tests.{eqb-false}
@@ -61,14 +61,6 @@ module _ (st : State) (s : Session) (u : UserClaim) (owner : provisioned st (u .
       early-then _ _ (early-unless 1 _ refl)
       (early-then _ _ early-entered (early-then _ _ (early-held 5 owner) (early-then _ _ (early-held 6 active) (early-turn _))))
 
-  -- and what a call under it answers up to the claim
-  early-up-to : (call : Call) → protection call ≡ Under s (ByUser u) → Early (upTo st call)
-  unfolding protectedNumber tellsPassed
-  early-up-to call w =
-      early-then (aheadNumber st call) _
-      (λ h. rw (ahead-one st call w h))
-      (rw w early-admitted)
-
 -- a user claim that passed is one of a process that stands
 module _ (st : State) (call : Call) (s : Session) (u : UserClaim) (w : protection call ≡ Under s (ByUser u)) (p : passes st call ≡ true) where
   pub claim-passed : admitted st s (ByUser u) ≡ 0
@@ -87,10 +79,18 @@ module _ (st : State) (v : Rules st) where
       let x : Process = getD (processes st) (activePlace st (UserOf s (u .credential))) freePlace in
       rw (user-of x s (u .credential) (f .passes) .credential) at (each-at _ freePlace (f .inside) (v .each) .owner)
 
+  -- up to the claim, where its process stands and 1 alone comes ahead of it: a call that is refused there tells so
+  pub stops : (ahead : ℕ) (s : Session) (u : UserClaim) → hasActive st (UserOf s (u .credential)) ≡ true → ((ahead ≡ 0 → ⊥) → ahead ≡ 1) → (ahead ▸ admitted st s (ByUser u) ≡ 0 → ⊥) → tellsPassed (ahead ▸ admitted st s (ByUser u)) ≡ false
+  unfolding tellsPassed
+  stops ahead s u h one = early-then ahead _ (λ k. rw (one k)) (early-admitted st s u (owner s u h) h)
+
   -- where a user claim's process stands, a call under the claim is answered 1, 2, 3, 13, 9 or 8 exactly where the claim did not pass
   pub reading : (call : Call) (s : Session) (u : UserClaim) → protection call ≡ Under s (ByUser u) → hasActive st (UserOf s (u .credential)) ≡ true → tellsPassed (number st call) ≡ passes st call
   unfolding tellsPassed
   reading call s u w h =
       split (passes st call)
       (λ p. rw p (passed-number-by (λ n. tellsPassed n ≡ true) refl refl refl refl refl st call p))
-      (λ p. rw (p, number-stop st call p) (early-up-to st s u (owner s u h) h call w (unfold passes in eqb-false (upTo st call) 0 p)))
+      (λ p.
+      let is : upTo st call ≡ aheadNumber st call ▸ admitted st s (ByUser u) = unfold protectedNumber in rw w in
+      let some : upTo st call ≡ 0 → ⊥ = unfold passes in eqb-false (upTo st call) 0 p in
+      rw (p, number-stop st call p, is) (stops (aheadNumber st call) s u h (ahead-one st call w) (λ z. some (is ∙ z))))

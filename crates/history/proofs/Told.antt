@@ -81,7 +81,7 @@ next-is Elevation s c n e = clash refl e
 next-is Saved s c n e = sym (length-down n)
 
 -- a name that it says is live in a session under a credential is that of the active process there
-pub record LiveAt (n : Name) (l : List Process) (s : Session) (c : Credential) : Type 0 where
+record LiveAt (n : Name) (l : List Process) (s : Session) (c : Credential) : Type 0 where
   pub place : ℕ
   pub within : place < length l
   pub named : getD l place freePlace .name .bytes ≡ n .bytes
@@ -95,7 +95,7 @@ live-active User t d i s c ns e =
 live-active Elevation t d i s c ns e = cc
 live-active Saved t d i s c ns e = cc
 
-pub look-live : (n : Name) (l : List Process) (s : Session) (c : Credential) (ns : List ℕ) → look n l ≡ Live s c ns → LiveAt n l s c
+look-live : (n : Name) (l : List Process) (s : Session) (c : Credential) (ns : List ℕ) → look n l ≡ Live s c ns → LiveAt n l s c
 unfolding isActive
 look-live n [] s c ns e = absurd (live-not-gone (sym e))
 look-live n (p ∷ l) s c ns e =

@@ -1,5 +1,5 @@
--- Steps from state to state, each with its event: what a single one has to keep and to tell for demand 3 to hold of all rows of them. It says nothing of which calls
--- there are. Document 01's are such steps (proofs/Calls); what a later order adds has to be shown such, and demand 3 of it follows.
+-- Steps from state to state, each with its event: what a single one has to keep and to tell, for demand 3 to hold however many follow each other. It says nothing of which
+-- calls there are. Document 01's are such steps (proofs/Calls); what a later order adds has to be shown such, and demand 3 of it follows.
 use Prim.Native.Nat.{ℕ}
 use mathlib.Core.Path.{_≡_}
 use mathlib.Core.Logic.{_≢_}
