@@ -1,4 +1,4 @@
-.PHONY: help inspect inspect-test run lib own install figures test edits soak faults bench trace tools clean
+.PHONY: help inspect inspect-test run lib own install figures test edits scaffold soak faults bench trace tools clean
 
 # `rt` can't run beside another one
 .NOTPARALLEL:
@@ -44,6 +44,7 @@ help:
 	@echo "make figures  proves the program that prints the figures of a drawer of images, and puts it into build/figures"
 	@echo "make test     the proofs, the wrong builds and the hosts' tests; its last line is 'N passed, 0 failed'"
 	@echo "make edits    how long each wrong build took to refuse in the last run; make edits CRATE=NAME tries those of a crate first"
+	@echo "make scaffold CRATE=NAME FUNCTIONS='F ..'  writes the frames of these functions' proofs, and keeps the answers that stand in them"
 	@echo "make soak     the compiled module against the model, until it is stopped; make soak TIME=600 for so many seconds"
 	@echo "make faults   breaks the model in some hundred ways and asks that the comparison tells"
 	@echo "make bench    the record entry against ordinary Rust, what the other entries cost, and the figures against cksum"
@@ -105,6 +106,9 @@ test: tools
 
 edits:
 	@tests/edits $(CRATE)
+
+scaffold:
+	@$(CARGO) slavotuk-scaffold -- write $(CRATE) $(FUNCTIONS)
 
 soak: own
 	@$(CARGO) slavotuk-compare -- soak $(if $(TIME),--seconds $(TIME),--forever)
