@@ -7,8 +7,10 @@ use native.Mathlib.Omega.{arith}
 use Rattle.lists.proofs.Tests.{split}
 use Rattle.rows.specs.Bytes.{byteOf}
 use Rattle.calls.proofs.Facts.{small-unless, small-when, small-then}
+use Rattle.fields_write.specs.Bodies.{numberFor}
 use Rattle.message_codes.specs.Codes.{pieceOf}
-use Rattle.messages.specs.Messages.{isMessage, readMessage, writeNumber, writePieceNumber}
+use Rattle.messages_write.specs.Written.{writeNumber, writePieceNumber}
+use Rattle.messages.specs.Messages.{isMessage, readMessage}
 use Rattle.entries_wire.specs.Entries.{readMessageNumber, writeMessageNumber, readPieceNumber, putPieceNumber}
 
 message-small : (message : List ℕ) → readMessage message .number ≤ 15
@@ -20,7 +22,7 @@ unfolding readMessageNumber
 read-message-small message values = small-then _ _ (small-unless 1 _ tt) (message-small message)
 
 pub write-message-small : (code : ℕ) (values rest old : List ℕ) → writeMessageNumber code values rest old ≤ 15
-unfolding writeMessageNumber writeNumber
+unfolding writeMessageNumber writeNumber numberFor
 write-message-small code values rest old = small-then _ _ (small-unless 1 _ tt) (small-then _ _ (small-when 15 _ tt) (small-unless 14 _ tt))
 
 pub read-piece-small : (kind : ℕ) (bytes values : List ℕ) → readPieceNumber kind bytes values ≤ 15
@@ -28,5 +30,5 @@ unfolding readPieceNumber
 read-piece-small kind bytes values = small-then _ _ (small-unless 1 _ tt) (small-unless 14 _ tt)
 
 pub write-piece-small : (kind : ℕ) (values rest old : List ℕ) → putPieceNumber kind values rest old ≤ 15
-unfolding putPieceNumber writePieceNumber
+unfolding putPieceNumber writePieceNumber numberFor
 write-piece-small kind values rest old = small-then _ _ (small-unless 1 _ tt) (small-then _ _ (small-when 15 _ tt) (small-unless 14 _ tt))

@@ -13,16 +13,18 @@ use Rattle.lists.proofs.Loops.{Copied, copied-none, copied-more, copied-all}
 use Rattle.rows.specs.Bytes.{byteOf}
 use Rattle.claims.specs.Numbers.{_unless_, _▸_}
 use Rattle.claims.proofs.Laws.{stop, pass, unless-true, unless-false}
-use Rattle.formats.specs.declared.Layout.{Layout}
-use Rattle.pieces.specs.Pieces.{headLong, valuesOf, pieceLong, isPiece, pieceIn}
+use Rattle.formats.specs.declared.Shape.{Shape}
+use Rattle.fields.specs.Fields.{headLong, valuesOf}
+use Rattle.pieces.specs.Pieces.{pieceLong, isPiece, pieceIn}
 use Rattle.pieces.specs.declared.Piece.{Piece}
 use Rattle.pieces.proofs.Laws.{piece-taken, piece-fits}
 use Rattle.message_codes.specs.Codes.{pieceOf}
-use Rattle.messages.specs.Messages.{readMessage, writeNumber, writePieceNumber, messageBytes, messageLong, bodyBytes, bodyLong, writtenOver}
+use Rattle.fields_write.specs.Bodies.{bodyBytes, bodyLong, written, given}
+use Rattle.messages.specs.Messages.{readMessage}
 use Rattle.messages.specs.declared.MessageRead.{MessageRead}
-use Rattle.messages_write.specs.Written.{written}
-use Rattle.messages_write.specs.declared.Written.{Written}
-use Rattle.entries_wire.specs.Entries.{areSeven, kinds, isPieceArgument, readMessageNumber, writeMessageNumber, readPieceNumber, putPieceNumber, given, ReadEntry, PieceEntry, WriteEntry}
+use Rattle.messages_write.specs.Written.{writeNumber, writePieceNumber, messageBytes, messageLong, writtenOver}
+use Rattle.fields_write.specs.declared.Written.{Written}
+use Rattle.entries_wire.specs.Entries.{areSeven, kinds, isPieceArgument, readMessageNumber, writeMessageNumber, readPieceNumber, putPieceNumber, ReadEntry, PieceEntry, WriteEntry}
 
 -- ---- seven values, copied
 pub copy : (s d : List ℕ) → length s ≡ 7 → length d ≡ 7 → Copied s d d 0
@@ -95,7 +97,7 @@ module _ {number : ℕ} (said : List ℕ) (at long : ℕ) (values : List ℕ) (r
 
 module _ {number : ℕ} (long : ℕ) (bytes old : List ℕ) (before : ℕ) where
   write-kept : {answer : ℕ} → answer ≡ number → (answer ≡ 0 → ⊥) → WriteEntry number long bytes old before answer old before
-  unfolding writtenOver
+  unfolding writtenOver given
   write-kept {answer} e h = record { number-is = e; bytes-are = rw (← e, ne-eqb answer 0 h); written-is = kept long before e h }
 
   module _ {m : ℕ} {done : Written} {new : List ℕ} (e : m ≡ number) (d : done ≡ written m long) (b : new ≡ writtenOver m long bytes old) where
@@ -105,11 +107,10 @@ module _ {number : ℕ} (long : ℕ) (bytes old : List ℕ) (before : ℕ) where
 
     write-refused : (done .number ≡ 0 → ⊥) → WriteEntry number long bytes old before (done .number) new before
     write-refused h =
-        let z : eqb m 0 ≡ false = rw (e, ← done-number) (ne-eqb (done .number) 0 h) in
         record { number-is = done-number; bytes-are = b ∙ rw e; written-is = kept long before done-number h }
 
     write-handed : done .number ≡ 0 → WriteEntry number long bytes old before 0 new (done .long)
-    unfolding written
+    unfolding written given
     write-handed z =
         let q : 0 ≡ number = sym z ∙ done-number in
         let l : done .long ≡ long = rw (d, e, ← q) in
@@ -152,9 +153,9 @@ module _ (kind : ℕ) (bytes values : List ℕ) (rest next : ℕ) where
     unfolding readPieceNumber
     piece-values h = piece-stays (asked-first (isPieceArgument kind values) (14 unless isPiece (pieceOf kind) bytes) (values-not kind values k h)) one-is-not
 
-    module _ (h : length values ≡ 7) {layout : Layout} {piece : Piece} (l : layout ≡ pieceOf kind) (e : piece ≡ pieceIn layout bytes) where
+    module _ (h : length values ≡ 7) {shape : Shape} {piece : Piece} (l : shape ≡ pieceOf kind) (e : piece ≡ pieceIn shape bytes) where
       told : piece ≡ pieceIn (pieceOf kind) bytes
-      told = e ∙ ap (λ (x : Layout). pieceIn x bytes) l
+      told = e ∙ ap (λ (x : Shape). pieceIn x bytes) l
 
       found : piece .fits ≡ isPiece (pieceOf kind) bytes
       found = ap (λ (p : Piece). p .fits) told ∙ piece-fits (pieceOf kind) bytes
@@ -220,8 +221,8 @@ module _ (kind : ℕ) (values rest old : List ℕ) (before : ℕ) where
     unfolding putPieceNumber
     put-argument h = put-stays (asked-first (isPieceArgument kind values) (writePieceNumber (pieceOf kind) values rest old) (values-not kind values k h))
 
-    module _ (h : length values ≡ 7) {taken : List ℕ} {layout : Layout} (t : taken ≡ values) (l : layout ≡ pieceOf kind) {done : Written} {new : List ℕ}
-        (d : (done ≡ written (writePieceNumber layout taken rest old) (bodyLong layout rest)) × (new ≡ writtenOver (writePieceNumber layout taken rest old) (bodyLong layout rest) (bodyBytes layout taken rest) old)) where
+    module _ (h : length values ≡ 7) {taken : List ℕ} {shape : Shape} (t : taken ≡ values) (l : shape ≡ pieceOf kind) {done : Written} {new : List ℕ}
+        (d : (done ≡ written (writePieceNumber shape taken rest old) (bodyLong shape rest)) × (new ≡ writtenOver (writePieceNumber shape taken rest old) (bodyLong shape rest) (bodyBytes shape taken rest) old)) where
       put-asked : writePieceNumber (pieceOf kind) values rest old ≡ putPieceNumber kind values rest old
       unfolding putPieceNumber
       put-asked = asked-then (isPieceArgument kind values) (writePieceNumber (pieceOf kind) values rest old) (both-are kind values k h)

@@ -1,7 +1,7 @@
 -- The entries that read and write the messages of 004 clause 9.2 and the pieces of their lists: what they answer, and what they hand out.
 use Prim.Native.Nat.{ℕ}
 use mathlib.Core.Path.{_≡_}
-use mathlib.Core.Bool.{Bool, cond, _&&_}
+use mathlib.Core.Bool.{Bool, _&&_}
 use mathlib.Core.List.{List}
 use lib.Dec.{eqb, ltb}
 use lib.ListN.{length}
@@ -9,9 +9,11 @@ use Rattle.rows.specs.Bytes.{byteOf}
 use Rattle.claims.specs.Numbers as No
 use Rattle.claims.specs.Numbers.{_unless_, _▸_}
 use Rattle.fields.specs.Fields.{valueCount}
+use Rattle.fields_write.specs.Bodies.{given}
 use Rattle.pieces.specs.Pieces.{isPiece}
 use Rattle.message_codes.specs.Codes.{pieceOf}
-use Rattle.messages.specs.Messages.{readMessage, writeNumber, writePieceNumber, writtenOver}
+use Rattle.messages_write.specs.Written.{writeNumber, writePieceNumber, writtenOver}
+use Rattle.messages.specs.Messages.{readMessage}
 
 -- ---- what is lent and handed in: seven values, and the kind of a piece
 unfoldable pub areSeven : List ℕ → Bool
@@ -44,9 +46,7 @@ putPieceNumber kind values rest old =
     No.argument unless isPieceArgument kind values
     ▸ writePieceNumber (pieceOf kind) values rest old
 
--- ---- what is handed out: where the number is another than 0, everything stays as it was
-unfoldable pub given : {A : Type 0} → ℕ → A → A → A
-given number value before = cond (eqb number No.done) value before
+-- ---- what is handed out
 
 pub record ReadEntry (number : ℕ) (said : List ℕ) (at : ℕ) (values : List ℕ) (rest answer : ℕ) (values₁ : List ℕ) (rest₁ : ℕ) : Type 0 where
   pub number-is : answer ≡ number

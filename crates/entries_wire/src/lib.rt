@@ -2,10 +2,12 @@
 ghost use mathlib.Core.Path.{_≡_};
 ghost use lib.ListN.{length};
 ghost use Rattle.rows.specs.Bytes.{byteOf};
-ghost use Rattle.fields.specs.Fields.{valueCount};
-ghost use Rattle.pieces.specs.Pieces.{headLong, valuesOf, pieceLong};
+ghost use Rattle.fields.specs.Fields.{valueCount, headLong, valuesOf};
+ghost use Rattle.pieces.specs.Pieces.{pieceLong};
 ghost use Rattle.message_codes.specs.Codes.{pieceOf};
-ghost use Rattle.messages.specs.Messages.{readMessage, messageBytes, messageLong, bodyBytes, bodyLong};
+ghost use Rattle.fields_write.specs.Bodies.{bodyBytes, bodyLong};
+ghost use Rattle.messages_write.specs.Written.{messageBytes, messageLong};
+ghost use Rattle.messages.specs.Messages.{readMessage};
 ghost use Rattle.entries_wire.specs.Entries.{readMessageNumber, writeMessageNumber, readPieceNumber, putPieceNumber, ReadEntry, PieceEntry, WriteEntry};
 use claims::ARGUMENT;
 use claims::DONE;
@@ -127,9 +129,9 @@ pub extern "C" fn slavotuk_write_piece(
     if values.len() != VALUES {
         return ARGUMENT as u32;
     }
-    let layout = message_codes::piece_of(kind);
+    let shape = message_codes::piece_of(kind);
     let given = seven(values);
-    let done = messages_write::write_piece(buffer, layout, given, rest);
+    let done = messages_write::write_piece(buffer, shape, given, rest);
     if done.number != DONE {
         return done.number as u32;
     }

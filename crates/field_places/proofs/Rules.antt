@@ -8,11 +8,11 @@ use native.Mathlib.Omega.{arith}
 use lib.ListN.{getD, List·getD-eq-default}
 use Rattle.formats.specs.declared.Field.{Field}
 use Rattle.formats.specs.declared.Field.the-variants.{Unused}
-use Rattle.formats.specs.declared.Layout.{Layout}
+use Rattle.formats.specs.declared.Shape.{Shape}
 use Rattle.formats.specs.Formats.{fieldsOf}
 
 -- ---- what a variant has, for the local that is it
-pub field-told : (at : ℕ) {r : Field} {x k : Layout} → x ≡ k → r ≡ getD (fieldsOf k) at Unused → r ≡ getD (fieldsOf x) at Unused
+pub field-told : (at : ℕ) {r : Field} {x k : Shape} → x ≡ k → r ≡ getD (fieldsOf k) at Unused → r ≡ getD (fieldsOf x) at Unused
 field-told at e q = q ∙ rw e
 
 -- ---- the field at a place

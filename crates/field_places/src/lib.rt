@@ -3,10 +3,10 @@ ghost use mathlib.Core.Path.{_≡_};
 ghost use mathlib.Core.List.{[], _∷_};
 ghost use lib.ListN.{getD};
 ghost use Rattle.formats.specs.declared.Field.the-variants.{Unused};
-ghost use Rattle.formats.specs.declared.Layout.the-variants.{Capabilities};
+ghost use Rattle.formats.specs.declared.Shape.the-variants.{Capabilities};
 ghost use Rattle.formats.specs.Formats.{credentialStructure, fieldsOf};
 use formats::Field;
-use formats::Layout;
+use formats::Shape;
 
 // The field at a place of one, two or three.
 fn one(at: usize, a: Field) -> Field
@@ -67,57 +67,57 @@ fn capability(at: usize) -> Field
     }
 }
 
-// The field at a place of a layout.
-pub fn field_of(layout: Layout, at: usize) -> Field
-    ensures { λ r. ⌜ r ≡ getD (fieldsOf layout) at Unused ⌝ }
+// The field at a place of a shape.
+pub fn field_of(shape: Shape, at: usize) -> Field
+    ensures { λ r. ⌜ r ≡ getD (fieldsOf shape) at Unused ⌝ }
 {
-    match layout {
-        Layout::NoMessage => Field::Unused,
-        Layout::Plain => Field::Unused,
-        Layout::VersionNumber => one(at, Field::AuthVersion),
-        Layout::OneCredential => one(at, Field::CredentialID),
-        Layout::ChangeCredential => before_credential(at, Field::Change),
-        Layout::ChangePolicies => three(at, Field::Change, Field::CredentialID, Field::NumPolicies),
-        Layout::LockOrUnlocking => two(at, Field::LockOrUnlock, Field::CredentialID),
-        Layout::StartAuth => three(
+    match shape {
+        Shape::NoMessage => Field::Unused,
+        Shape::Plain => Field::Unused,
+        Shape::VersionNumber => one(at, Field::AuthVersion),
+        Shape::OneCredential => one(at, Field::CredentialID),
+        Shape::ChangeCredential => before_credential(at, Field::Change),
+        Shape::ChangePolicies => three(at, Field::Change, Field::CredentialID, Field::NumPolicies),
+        Shape::LockOrUnlocking => two(at, Field::LockOrUnlock, Field::CredentialID),
+        Shape::StartAuth => three(
             at,
             Field::CredentialID,
             Field::StartAttributes,
             Field::NonceLen,
         ),
-        Layout::EndAuth => two(at, Field::CredentialID, Field::EndAttributes),
-        Layout::Reset => three(
+        Shape::EndAuth => two(at, Field::CredentialID, Field::EndAttributes),
+        Shape::Reset => three(
             at,
             Field::DataType,
             Field::CredentialID,
             Field::SVResetDataTypeCount,
         ),
-        Layout::CredentialAndName => one(at, Field::CredentialID),
-        Layout::VersionList => one(at, Field::VersionNumberEntryCount),
-        Layout::CredentialParameters => before_credential(at, Field::CredAttributes),
-        Layout::PolicyAnswer => three(
+        Shape::CredentialAndName => one(at, Field::CredentialID),
+        Shape::VersionList => one(at, Field::VersionNumberEntryCount),
+        Shape::CredentialParameters => before_credential(at, Field::CredAttributes),
+        Shape::PolicyAnswer => three(
             at,
             Field::CredAttributes,
             Field::CredentialID,
             Field::NumPolicies,
         ),
-        Layout::StartAuthResponse => two(at, Field::CredentialID, Field::NonceLen),
-        Layout::Capabilities => capability(at),
-        Layout::ProcessList => one(at, Field::AuthProcInfoCount),
-        Layout::NameAlone => Field::Unused,
-        Layout::PlainError => two(at, Field::ErrorCode, Field::NoErrorData),
-        Layout::UnsupportedRequest => two(at, Field::ErrorCode, Field::ErrorData),
-        Layout::Terminated => three(
+        Shape::StartAuthResponse => two(at, Field::CredentialID, Field::NonceLen),
+        Shape::Capabilities => capability(at),
+        Shape::ProcessList => one(at, Field::AuthProcInfoCount),
+        Shape::NameAlone => Field::Unused,
+        Shape::PlainError => two(at, Field::ErrorCode, Field::NoErrorData),
+        Shape::UnsupportedRequest => two(at, Field::ErrorCode, Field::ErrorData),
+        Shape::Terminated => three(
             at,
             Field::ErrorCode,
             Field::NoErrorData,
             Field::CredentialID,
         ),
-        Layout::VendorError => three(at, Field::ErrorCode, Field::ErrorData, Field::VendorIDLen),
-        Layout::VersionPiece => one(at, Field::VersionNumberEntry),
-        Layout::ProcessPiece => two(at, Field::CredentialID, Field::AuthProcessType),
-        Layout::OwnerPiece => two(at, Field::RegistryID, Field::VendorIDLen),
-        Layout::PolicyPiece => two(at, Field::PolicyVersion, Field::PolicyLen),
-        Layout::ResetPiece => one(at, Field::SVResetDataTypeLen),
+        Shape::VendorError => three(at, Field::ErrorCode, Field::ErrorData, Field::VendorIDLen),
+        Shape::VersionPiece => one(at, Field::VersionNumberEntry),
+        Shape::ProcessPiece => two(at, Field::CredentialID, Field::AuthProcessType),
+        Shape::OwnerPiece => two(at, Field::RegistryID, Field::VendorIDLen),
+        Shape::PolicyPiece => two(at, Field::PolicyVersion, Field::PolicyLen),
+        Shape::ResetPiece => one(at, Field::SVResetDataTypeLen),
     }
 }

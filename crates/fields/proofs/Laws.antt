@@ -12,7 +12,7 @@ use Rattle.lists.proofs.Lists.{length-padded}
 use Rattle.rows.proofs.Bytes.{length-bytes}
 use Rattle.formats.specs.declared.Field.{Field}
 use Rattle.formats.specs.declared.Field.the-variants.{Unused}
-use Rattle.formats.specs.declared.Layout.{Layout}
+use Rattle.formats.specs.declared.Shape.{Shape}
 use Rattle.formats.specs.Formats.{formOf, fieldsOf}
 use Rattle.formats.proofs.Laws.{width-most, few-fields}
 use Rattle.fields.specs.Fields.{fields, longOf, valuesIn, fieldBytes}
@@ -25,7 +25,7 @@ getD-padded z [] (suc k) (suc i) = getD-padded z [] k i
 getD-padded z (x ∷ l) k zero = refl
 getD-padded z (x ∷ l) k (suc i) = getD-padded z l k i
 
-module _ (l : Layout) where
+module _ (l : Shape) where
   pub length-fields : length (fields l) ≡ 7
   unfolding fields
   length-fields = length-padded 7 Unused (fieldsOf l) (few-fields l)
@@ -53,5 +53,5 @@ unfolding longOf
 long-fields [] = omega arith
 long-fields (f ∷ fs) = omega (arith, width-most f, long-fields fs)
 
-pub long-most : (l : Layout) → longOf (fields l) ≤ 56
+pub long-most : (l : Shape) → longOf (fields l) ≤ 56
 long-most l = omega (arith, long-fields (fields l), length-fields l)

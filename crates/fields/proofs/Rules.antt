@@ -1,103 +1,31 @@
 -- The laws that close the needs of this crate's functions by `search rules`: each premise is as a place's record has it.
 -- Assumes nothing.
-use Prim.Native.Nat.{ℕ, suc, _+_, _-_, _*_, _%_, _^_, _<_, _≤_}
+use Prim.Native.Nat.{ℕ, _+_, _*_, _%_, _<_, _≤_}
 use mathlib.Core.Path.{_≡_, refl, sym, _∙_}
-use mathlib.Core.Bool.{Bool, true, false, not, _&&_}
+use mathlib.Core.Bool.{Bool, true, _&&_}
 use mathlib.Core.List.{List, [], _∷_, _++_, append-nil}
-use native.Mathlib.Nat.{pow-suc, one-le-pow, pow-le-pow-right}
 use native.Mathlib.Numerals.{add-one}
 use native.Mathlib.Omega.{arith}
 use borrow.Author.Needs.{needs}
-use borrow.Author.Tests.{eq-eqb, ne-eqb, le-leb, lt-leb, not-true, not-false}
+use borrow.Author.Tests.{eq-eqb, ne-eqb, le-leb, lt-leb}
 use lib.Dec.{leb}
-use lib.Arith.{digits-lt}
 use lib.ListN.{length, getD, take, drop, set, length-set, drop-of-length-le}
 use lib.Seq.{drop-drop, getD-drop, take-all, take-suc-set, append-snoc}
 use mir.Val.{Fits}
 use mir.Syntax.{w64}
-use Rattle.rows.specs.Bytes.{numberOf, numberAt, Widened}
-use Rattle.rows.proofs.Bytes.{number-join, number-one, number-past}
+use Rattle.rows.specs.Bytes.{numberAt, widthOf}
+use Rattle.rows.proofs.Bytes.{width-is}
+use Rattle.rows.proofs.Loops.{and-true, and-assoc}
 use Rattle.formats.specs.declared.Field.{Field}
 use Rattle.formats.specs.declared.Field.the-variants.{Unused}
 use Rattle.formats.specs.declared.Form.{Form}
-use Rattle.formats.specs.declared.Layout.{Layout}
+use Rattle.formats.specs.declared.Shape.{Shape}
 use Rattle.formats.specs.Formats.{formOf, meant, isAllowed, fieldsOf}
 use Rattle.formats.proofs.Laws.{width-most}
-use Rattle.fields.specs.Fields.{fields, longOf, valuesIn, areAllowed}
+use Rattle.fields.specs.Fields.{fields, longOf, valuesIn, areAllowed, headLong, valuesOf, fieldsRead, fieldsTested}
+use Rattle.fields.specs.declared.FieldsRead.{FieldsRead}
+use Rattle.fields.specs.declared.FieldsTested.{FieldsTested}
 use Rattle.fields.proofs.Laws.{length-fields, fields-from}
-
--- ---- a number, read from its highest byte down: what the last `done` of its bytes say. Of the width, `size` bytes are there
-pub record Said (b : List ℕ) (at width size done number : ℕ) : Type 0 where
-  pub short : width ≤ 8
-  pub low : done ≤ size
-  pub some : size ≤ width
-  pub inside : at + size ≤ length b
-  pub is : number ≡ numberAt (width - size + done) (at + (size - done)) b
-  pub small : number < 256 ^ (width - size + done)
-
-pub number-none : (b : List ℕ) (at width : ℕ) → length b ≤ at → 0 ≡ numberAt width at b
-number-none b at width h = sym (number-past width at b h)
-
-module _ (b : List ℕ) (at width : ℕ) (w : width ≤ 8) (i : at < length b) where
-  pub said-all : {size : ℕ} → width < length b - at → size ≡ width → Said b at width size 0 0
-  unfolding numberAt numberOf
-  said-all {size} h e =
-      let z : width - size + 0 ≡ 0 = omega arith in
-      record { short = w; low = omega arith; some = omega arith; inside = omega arith; is = rw z; small = rw z (omega arith) }
-
-  pub said-there : {size : ℕ} → length b - at ≤ width → size ≡ length b - at → Said b at width size 0 0
-  said-there {size} h e =
-      let p : length b ≤ at + (size - 0) = omega arith in
-      record {
-        short = w;
-        low = omega arith;
-        some = omega arith;
-        inside = omega arith;
-        is = sym (number-past (width - size + 0) (at + (size - 0)) b p);
-        small = one-le-pow (width - size + 0) 256 (omega arith);
-      }
-
-module _ {b : List ℕ} {at width size done number : ℕ} (v : Said b at width size done number) where
-  pub said-end : size ≤ done → number ≡ numberAt width at b
-  said-end h =
-      let z : width - size + done ≡ width = omega arith in
-      let e : at + (size - done) ≡ at = omega arith in
-      rw (z, e) at (v .is)
-
-  module _ (h : done < size) where
-    one-more : width - size + (done + 1) ≡ suc (width - size + done)
-    one-more = omega arith
-
-    next-small : (x : ℕ) → x < 256 → number * 256 + x < 256 ^ (width - size + (done + 1))
-    next-small x k = rw (one-more, pow-suc) (digits-lt (v .small) k)
-
-    room : 256 ^ (width - size + (done + 1)) ≤ 256 ^ 8
-    room =
-        let z : 0 < 256 = omega arith in
-        let k : width - size + (done + 1) ≤ 8 = omega arith in
-        pow-le-pow-right z k
-
-    pub said-times : Fits w64 (number * 256)
-    said-times = record { fits = omega (arith, next-small 0 (omega arith), room) }
-
-    pub said-sum : {y x : ℕ} → Widened y x → Fits w64 (number * 256 + x)
-    said-sum {y} {x} k = record { fits = omega (arith, next-small x (k .small), room) }
-
-    pub said-on : {x : ℕ} → Widened (getD b (at + (size - (done + 1))) 0) x → Said b at width size (done + 1) (number * 256 + x)
-    said-on {x} k =
-        let s : width - size + (done + 1) ≡ 1 + (width - size + done) = omega arith in
-        let p : at + (size - (done + 1)) + 1 ≡ at + (size - done) = omega arith in
-        record {
-          short = v .short;
-          low = omega arith;
-          some = v .some;
-          inside = v .inside;
-          is =
-              sym
-              (rw s
-              (number-join 1 (width - size + done) (at + (size - (done + 1))) b ∙ rw (number-one (at + (size - (done + 1))) b, p, v .is, k .is)));
-          small = next-small x (k .small);
-        }
 
 -- ---- one field
 module _ (form : Form) (number : ℕ) where
@@ -108,11 +36,6 @@ module _ (form : Form) (number : ℕ) where
   pub meant-bits : (form .values ≡ 0 → ⊥) → number % form .values ≡ meant form number
   unfolding meant
   meant-bits h = rw (ne-eqb (form .values) 0 h)
-
--- what a field says that begins at a place
-pub value-is : (b : List ℕ) (at : ℕ) (f : Field) {form : Form} {n r : ℕ}
-    → form ≡ formOf f → n ≡ numberAt (form .width) at b → r ≡ meant form n → r ≡ meant (formOf f) (numberAt (formOf f .width) at b)
-value-is b at f p q e = e ∙ rw (q, p)
 
 pub width-few : (f : Field) {form : Form} → form ≡ formOf f → form .width ≤ 8
 width-few f e = rw e (width-most f)
@@ -126,89 +49,95 @@ module _ (form : Form) (value : ℕ) where
   unfolding isAllowed
   allowed-not h = rw (lt-leb (form .least) value h)
 
--- ---- the fields of a layout, one after the other: what is done of the first `at`
-pub record Measured (l : Layout) (long at : ℕ) : Type 0 where
+-- ---- the fields of a shape, one after the other: what is done of the first `at`
+pub record Measured (l : Shape) (long at : ℕ) : Type 0 where
   pub low : long ≤ 8 * at
   pub is : longOf (fields l) ≡ long + longOf (drop at (fields l))
 
-pub record Read (l : Layout) (b out : List ℕ) (place at : ℕ) : Type 0 where
-  pub low : place ≤ 8 * at
+pub record Read (l : Shape) (b out : List ℕ) (ok : Bool) (place at : ℕ) : Type 0 where
+  pub measured : Measured l place at
   pub long : length out ≡ 7
   pub is : valuesIn (fields l) b ≡ take at out ++ valuesIn (drop at (fields l)) (drop place b)
+  pub may : areAllowed (fields l) (valuesIn (fields l) b) ≡ (ok && areAllowed (drop at (fields l)) (valuesIn (drop at (fields l)) (drop place b)))
 
-pub record Allowed (l : Layout) (values : List ℕ) (at : ℕ) : Type 0 where
-  pub is : areAllowed (fields l) values ≡ areAllowed (drop at (fields l)) (drop at values)
+pub record Tested (l : Shape) (values : List ℕ) (ok : Bool) (place at : ℕ) : Type 0 where
+  pub measured : Measured l place at
+  pub may : areAllowed (fields l) values ≡ (ok && areAllowed (drop at (fields l)) (drop at values))
 
-module _ (l : Layout) {at : ℕ} {f : Field} {form : Form} (h : at < 7) (p : f ≡ getD (fieldsOf l) at Unused) (q : form ≡ formOf f) where
+measured-none : (l : Shape) → Measured l 0 0
+measured-none l = record { low = omega arith; is = omega arith }
+
+module _ (l : Shape) where
+  pub read-begin : (b out : List ℕ) → length out ≡ 7 → Read l b out true 0 0
+  read-begin b out e = record { measured = measured-none l; long = e; is = refl; may = refl }
+
+  pub tested-begin : (values : List ℕ) → Tested l values true 0 0
+  tested-begin values = record { measured = measured-none l; may = refl }
+
+module _ (l : Shape) {at : ℕ} {f : Field} {form : Form} (h : at < 7) (p : f ≡ getD (fieldsOf l) at Unused) (q : form ≡ formOf f) where
   next : drop at (fields l) ≡ f ∷ drop (at + 1) (fields l)
   next = fields-from l at h ∙ rw p
 
-  -- ---- their bytes
-  module _ {long : ℕ} (v : Measured l long at) where
-    pub long-fits : Fits w64 (long + form .width)
-    long-fits = record { fits = omega (arith, v .low, width-few f q) }
+  module _ {place : ℕ} (v : Measured l place at) where
+    measured-fits : Fits w64 (place + form .width)
+    measured-fits = record { fits = omega (arith, v .low, width-few f q) }
 
-    pub long-on : Measured l (long + form .width) (at + 1)
+    measured-on : Measured l (place + form .width) (at + 1)
     unfolding longOf
-    long-on =
-        record {
-          low = omega (arith, v .low, width-few f q);
-          is = v .is ∙ rw (next, q) (omega arith);
-        }
+    measured-on = record { low = omega (arith, v .low, width-few f q); is = v .is ∙ rw (next, q) (omega arith) }
 
-  -- ---- what they say
-  module _ {b out : List ℕ} {place : ℕ} (v : Read l b out place at) where
-    pub place-fits : Fits w64 (place + form .width)
-    place-fits = record { fits = omega (arith, v .low, width-few f q) }
+  module _ {b out : List ℕ} {ok : Bool} {place : ℕ} (v : Read l b out ok place at) where
+    pub read-fits : Fits w64 (place + form .width)
+    read-fits = measured-fits (v .measured)
 
-    pub read-on : {r : ℕ} → r ≡ meant (formOf f) (numberAt (formOf f .width) place b) → Read l b (set out at r) (place + form .width) (at + 1)
-    unfolding valuesIn numberAt
-    read-on {r} e =
-        let inside : at < length out = omega (arith, v .long) in
-        record {
-          low = omega (arith, v .low, width-few f q);
-          long = length-set out at r ∙ v .long;
-          is = v .is ∙ rw (next, add-one, take-suc-set out at r inside, append-snoc, e, q, drop-drop);
-        }
+    module _ {n r : ℕ} (i : n ≡ numberAt (widthOf (form .width)) place b) (e : r ≡ meant form n) where
+      value-is : r ≡ meant (formOf f) (numberAt (formOf f .width) place b)
+      value-is = e ∙ rw (i, width-is (form .width) (width-few f q), q)
 
-  -- ---- whether they may
-  module _ {values : List ℕ} {ok : Bool} (v : Allowed l values at) (e : ok ≡ isAllowed form (getD values at 0)) where
-    here : areAllowed (fields l) values ≡ (ok && areAllowed (drop (at + 1) (fields l)) (drop (at + 1) values))
+      pub read-on : {a : Bool} → a ≡ isAllowed form r → Read l b (set out at r) (ok && a) (place + form .width) (at + 1)
+      unfolding valuesIn numberAt areAllowed
+      read-on {a} t =
+          let inside : at < length out = omega (arith, v .long) in
+          record {
+            measured = measured-on (v .measured);
+            long = length-set out at r ∙ v .long;
+            is = v .is ∙ rw (next, add-one, take-suc-set out at r inside, append-snoc, value-is, q, drop-drop);
+            may = v .may ∙ rw (next, ← and-assoc, t, value-is, q, drop-drop);
+          }
+
+  module _ {values : List ℕ} {ok : Bool} {place : ℕ} (v : Tested l values ok place at) where
+    pub tested-fits : Fits w64 (place + form .width)
+    tested-fits = measured-fits (v .measured)
+
+    pub tested-on : {a : Bool} → a ≡ isAllowed form (getD values at 0) → Tested l values (ok && a) (place + form .width) (at + 1)
     unfolding areAllowed
-    here = let z : at + 0 ≡ at = omega arith in v .is ∙ rw (next, e, q, getD-drop, z, drop-drop)
+    tested-on {a} t =
+        let z : at + 0 ≡ at = omega arith in
+        record { measured = measured-on (v .measured); may = v .may ∙ rw (next, ← and-assoc, t, q, getD-drop, z, drop-drop) }
 
-    pub allowed-on : not ok ≡ false → Allowed l values (at + 1)
-    allowed-on t = record { is = here ∙ rw (not-false ok t) }
-
-    pub allowed-fail : not ok ≡ true → false ≡ areAllowed (fields l) values
-    allowed-fail t = sym (here ∙ rw (not-true ok t))
-
-module _ (l : Layout) where
-  pub long-begin : Measured l 0 0
-  long-begin = record { low = omega arith; is = omega arith }
-
-  pub read-begin : (b out : List ℕ) → length out ≡ 7 → Read l b out 0 0
-  read-begin b out e = record { low = omega arith; long = e; is = refl }
-
-  pub allowed-begin : (values : List ℕ) → Allowed l values 0
-  allowed-begin values = record { is = refl }
-
-module _ (l : Layout) {at : ℕ} (h : 7 ≤ at) where
+module _ (l : Shape) {at : ℕ} (h : 7 ≤ at) where
   past : drop at (fields l) ≡ []
   past = let k : length (fields l) ≤ at = rw (length-fields l) h in drop-of-length-le (fields l) k
 
-  pub long-end : {long : ℕ} → Measured l long at → long ≡ longOf (fields l)
+  measured-end : {place : ℕ} → Measured l place at → place ≡ longOf (fields l)
   unfolding longOf
-  long-end v = sym (v .is ∙ rw past (omega arith))
+  measured-end v = sym (v .is ∙ rw past (omega arith))
 
-  pub read-end : {b out : List ℕ} {place : ℕ} → Read l b out place at → out ≡ valuesIn (fields l) b
-  unfolding valuesIn
-  read-end {b} {out} v =
-      let k : length out ≤ at = omega (arith, v .long) in
-      sym (v .is ∙ rw (past, append-nil, take-all at out k))
+  module _ {b out : List ℕ} {ok : Bool} {place : ℕ} (v : Read l b out ok place at) where
+    said : valuesIn (fields l) b ≡ out
+    unfolding valuesIn
+    said = let k : length out ≤ at = omega (arith, v .long) in v .is ∙ rw (past, append-nil, take-all at out k)
 
-  pub allowed-end : {values : List ℕ} → Allowed l values at → true ≡ areAllowed (fields l) values
-  unfolding areAllowed
-  allowed-end v = sym (v .is ∙ rw past)
+    may : areAllowed (fields l) (valuesIn (fields l) b) ≡ ok
+    unfolding areAllowed
+    may = v .may ∙ rw past (and-true ok)
 
-pub ruleset rules = (needs, number-none, said-all, said-there, said-end, said-times, said-sum, said-on, meant-all, meant-bits, value-is, width-few, allowed-below, allowed-not, long-begin, long-fits, long-on, long-end, read-begin, place-fits, read-on, read-end, allowed-begin, allowed-on, allowed-fail, allowed-end)
+    pub read-end : _≡_ {A = FieldsRead} (record { long = place; values = out; allowed = ok }) (fieldsRead l b)
+    unfolding fieldsRead headLong valuesOf
+    read-end = rw (measured-end (v .measured), may, said)
+
+  pub tested-end : {values : List ℕ} {ok : Bool} {place : ℕ} → Tested l values ok place at → _≡_ {A = FieldsTested} (record { long = place; allowed = ok }) (fieldsTested l values)
+  unfolding fieldsTested areAllowed headLong
+  tested-end {values} {ok} v = let may : areAllowed (fields l) values ≡ ok = v .may ∙ rw past (and-true ok) in rw (measured-end (v .measured), ← may)
+
+pub ruleset rules = (needs, meant-all, meant-bits, allowed-below, allowed-not, read-begin, read-fits, read-on, read-end, tested-begin, tested-fits, tested-on, tested-end)

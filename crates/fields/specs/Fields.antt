@@ -7,15 +7,17 @@ use Rattle.lists.specs.Lists.{padded}
 use Rattle.rows.specs.Bytes.{bytesOf, numberOf}
 use Rattle.formats.specs.declared.Field.{Field}
 use Rattle.formats.specs.declared.Field.the-variants.{Unused}
-use Rattle.formats.specs.declared.Layout.{Layout}
+use Rattle.formats.specs.declared.Shape.{Shape}
 use Rattle.formats.specs.Formats.{formOf, meant, isAllowed, fieldsOf}
+use Rattle.fields.specs.declared.FieldsRead.{FieldsRead}
+use Rattle.fields.specs.declared.FieldsTested.{FieldsTested}
 
--- ---- the fields of a layout. Seven values stand for every layout, of which the unused ones are 0
+-- ---- the fields of a shape. Seven values stand for every shape, of which the unused ones are 0
 abbrev pub valueCount : ℕ
 valueCount = 7
 
-unfoldable pub fields : Layout → List Field
-fields layout = padded valueCount Unused (fieldsOf layout)
+unfoldable pub fields : Shape → List Field
+fields shape = padded valueCount Unused (fieldsOf shape)
 
 -- how many bytes they have
 unfoldable pub longOf : List Field → ℕ
@@ -36,3 +38,17 @@ areAllowed (f ∷ fs) values = isAllowed (formOf f) (getD values 0 0) && areAllo
 unfoldable pub fieldBytes : List Field → List ℕ → List ℕ
 fieldBytes [] values = []
 fieldBytes (f ∷ fs) values = bytesOf (formOf f .width) (getD values 0 0) ++ fieldBytes fs (drop 1 values)
+
+-- ---- the fields of a shape: how many bytes they have, and what they say at the front of bytes
+unfoldable pub headLong : Shape → ℕ
+headLong shape = longOf (fields shape)
+
+unfoldable pub valuesOf : Shape → List ℕ → List ℕ
+valuesOf shape b = valuesIn (fields shape) b
+
+-- what is answered of them: of those at the front of bytes, and of values that are to be written
+unfoldable pub fieldsRead : Shape → List ℕ → FieldsRead
+fieldsRead shape b = record { long = headLong shape; values = valuesOf shape b; allowed = areAllowed (fields shape) (valuesOf shape b) }
+
+unfoldable pub fieldsTested : Shape → List ℕ → FieldsTested
+fieldsTested shape values = record { long = headLong shape; allowed = areAllowed (fields shape) values }

@@ -1,35 +1,26 @@
-// The fields of the messages of 004 clause 9.2, read and tested. Values are seven, of which those that a layout has no field for are 0.
+// The fields of the messages of 004 clause 9.2, read and tested. Values are seven, of which those that a shape has no field for are 0.
 ghost use mathlib.Core.Path.{_≡_};
-ghost use Prim.Native.Nat.{_≤_};
-ghost use Rattle.rows.specs.Bytes.{numberAt};
-ghost use Rattle.formats.specs.Formats.{formOf, meant, isAllowed};
-ghost use Rattle.fields.specs.Fields.{fields, longOf, valuesIn, areAllowed};
-use formats::Field;
+ghost use Rattle.formats.specs.Formats.{meant, isAllowed};
+ghost use Rattle.fields.specs.Fields.{fieldsRead, fieldsTested};
 use formats::Form;
-use formats::Layout;
+use formats::Shape;
 
 pub const VALUES: usize = 7;
 
-// ---- one field
-
-// The number that so many bytes say from a place on. The highest comes first, so that each byte is added once.
-fn number_at(bytes: &[u8], at: usize, width: usize) -> u64
-    requires { ⌜ width ≤ 8 ⌝ }
-    ensures { λ r. ⌜ r ≡ numberAt width at (now (bytes .entry)) ⌝ }
-{
-    if bytes.len() <= at {
-        return 0;
-    }
-    let there = bytes.len() - at;
-    let size = if width < there { width } else { there };
-    let mut done: usize = 0;
-    let mut number: usize = 0;
-    while done < size {
-        done += 1;
-        number = number * 256 + rows::wide(bytes[at + (size - done)]);
-    }
-    number as u64
+// What the fields at the front of a slice say: how many bytes they have, their values, and whether each value may stand in its field.
+pub struct FieldsRead {
+    pub long: usize,
+    pub values: [u64; VALUES],
+    pub allowed: bool,
 }
+
+// How many bytes the fields have, and whether each value may stand in its field.
+pub struct FieldsTested {
+    pub long: usize,
+    pub allowed: bool,
+}
+
+// ---- one field
 
 fn meaning(form: Form, number: u64) -> u64
     ensures { λ r. ⌜ r ≡ meant form number ⌝ }
@@ -41,62 +32,52 @@ fn meaning(form: Form, number: u64) -> u64
     }
 }
 
-// What a field says that begins at a place.
-fn value_in(bytes: &[u8], at: usize, field: Field) -> u64
-    ensures { λ r. ⌜ r ≡ meant (formOf field) (numberAt (formOf field .width) at (now (bytes .entry))) ⌝ }
-{
-    let form = formats::form_of(field);
-    meaning(form, number_at(bytes, at, form.width))
-}
-
 fn is_allowed(form: Form, value: u64) -> bool
     ensures { λ r. ⌜ r ≡ isAllowed form value ⌝ }
 {
     form.least <= value && value <= form.most
 }
 
-// ---- the fields of a layout
+// ---- the fields of a shape. The form of each is looked up once
 
-// How many bytes they have.
-pub fn fields_length(layout: Layout) -> usize
-    ensures { λ r. ⌜ r ≡ longOf (fields layout) ⌝ }
-{
-    let mut long: usize = 0;
-    let mut at: usize = 0;
-    while at < VALUES {
-        long += formats::form_of(field_places::field_of(layout, at)).width;
-        at += 1;
-    }
-    long
-}
-
-// What they say at the front of a slice. A byte past its end counts as 0.
-pub fn values_in(bytes: &[u8], layout: Layout) -> [u64; VALUES]
-    ensures { λ r. ⌜ r ≡ valuesIn (fields layout) (now (bytes .entry)) ⌝ }
+// A byte past the end of the slice counts as 0.
+pub fn read_fields(bytes: &[u8], shape: Shape) -> FieldsRead
+    ensures { λ r. ⌜ r ≡ fieldsRead shape (now (bytes .entry)) ⌝ }
 {
     let mut values: [u64; VALUES] = [0; VALUES];
+    let mut allowed = true;
     let mut place: usize = 0;
     let mut at: usize = 0;
     while at < VALUES {
-        let field = field_places::field_of(layout, at);
-        values[at] = value_in(bytes, place, field);
-        place += formats::form_of(field).width;
+        let form = formats::form_of(field_places::field_of(shape, at));
+        let value = meaning(form, rows::number_at(bytes, place, form.width));
+        values[at] = value;
+        allowed = allowed & is_allowed(form, value);
+        place += form.width;
         at += 1;
     }
-    values
+    FieldsRead {
+        long: place,
+        values: values,
+        allowed: allowed,
+    }
 }
 
-// Whether each value may stand in its field.
-pub fn are_allowed(layout: Layout, values: [u64; VALUES]) -> bool
-    ensures { λ r. ⌜ r ≡ areAllowed (fields layout) values ⌝ }
+// The same of values that are handed in.
+pub fn test_fields(shape: Shape, values: [u64; VALUES]) -> FieldsTested
+    ensures { λ r. ⌜ r ≡ fieldsTested shape values ⌝ }
 {
+    let mut allowed = true;
+    let mut long: usize = 0;
     let mut tested: usize = 0;
     while tested < VALUES {
-        let form = formats::form_of(field_places::field_of(layout, tested));
-        if !is_allowed(form, values[tested]) {
-            return false;
-        }
+        let form = formats::form_of(field_places::field_of(shape, tested));
+        allowed = allowed & is_allowed(form, values[tested]);
+        long += form.width;
         tested += 1;
     }
-    true
+    FieldsTested {
+        long: long,
+        allowed: allowed,
+    }
 }

@@ -1,66 +1,84 @@
-// The fields of the messages of 004 clause 9.2, written, and the bytes that follow them.
+// The fields of a message of 004 clause 9.2 or of a piece of a list, and the bytes that follow them, written.
 ghost use mathlib.Core.Path.{_≡_};
-ghost use mathlib.Core.List.{_++_};
+ghost use mathlib.Core.Bool.{_&&_};
 ghost use Prim.Native.Nat.{_+_, _≤_};
+ghost use lib.Dec.{leb};
 ghost use lib.ListN.{length};
-ghost use Rattle.rows.specs.Bytes.{bytesOf};
 ghost use Rattle.rows.specs.Rows.{over};
-ghost use Rattle.fields.specs.Fields.{fields, longOf, fieldBytes};
+ghost use Rattle.fields.specs.Fields.{fields, headLong, fieldBytes, areAllowed};
+ghost use Rattle.fields_write.specs.Bodies.{bodyBytes, bodyLong, numberFor, given, written};
+use claims::DONE;
+use claims::MESSAGE;
+use claims::ROOM;
 use fields::VALUES;
-use formats::Layout;
+use formats::Shape;
 
-// A number in so many bytes, the lowest first, at a place that has room for them.
-fn put_number(buffer: &mut [u8], at: usize, width: usize, number: u64)
-    requires { ⌜ at + width ≤ length (now buffer) ⌝ }
-    ensures { λ r. ⌜ now (buffer .exit) ≡ over at width (bytesOf width number) (now (buffer .entry)) ⌝ }
-{
-    let mut rest = number;
-    let mut left = width;
-    while 0 < left {
-        buffer[at + (width - left)] = (rest % 256) as u8;
-        rest = rest / 256;
-        left -= 1;
-    }
+// How many bytes were written; none where it is refused.
+pub struct Written {
+    pub number: u8,
+    pub long: usize,
 }
 
-// The fields of a layout, at the front of a buffer that has room for them.
-fn put_values(buffer: &mut [u8], layout: Layout, values: [u64; VALUES])
-    requires { ⌜ longOf (fields layout) ≤ length (now buffer) ⌝ }
-    ensures { λ r. ⌜ now (buffer .exit) ≡ over 0 (longOf (fields layout)) (fieldBytes (fields layout) values) (now (buffer .entry)) ⌝ }
+// Whether fields and the bytes that follow them have room from a place on.
+fn has_room(room: usize, at: usize, long: usize, more: usize) -> bool
+    ensures { λ r. ⌜ r ≡ leb (at + (long + more)) room ⌝ }
 {
-    let mut place: usize = 0;
+    if room < at {
+        return false;
+    }
+    if room - at < long {
+        return false;
+    }
+    more <= room - at - long
+}
+
+// The fields of a shape, from a place to their end, in a buffer that has room for them.
+fn put_values(buffer: &mut [u8], start: usize, end: usize, shape: Shape, values: [u64; VALUES])
+    requires { ⌜ end ≡ start + headLong shape ⌝ }
+    requires { ⌜ end ≤ length (now buffer) ⌝ }
+    ensures { λ r. ⌜ now (buffer .exit) ≡ over start (headLong shape) (fieldBytes (fields shape) values) (now (buffer .entry)) ⌝ }
+{
+    let mut place = start;
     let mut at: usize = 0;
     while at < VALUES {
-        let width = formats::form_of(field_places::field_of(layout, at)).width;
-        put_number(buffer, place, width, values[at]);
+        let width = formats::form_of(field_places::field_of(shape, at)).width;
+        rows::put_number(buffer, place, width, values[at]);
         place += width;
         at += 1;
     }
 }
 
-// Bytes at a place that has room for them.
-fn put_bytes(buffer: &mut [u8], at: usize, bytes: &[u8])
-    requires { ⌜ at + length (now bytes) ≤ length (now buffer) ⌝ }
-    ensures { λ r. ⌜ now (buffer .exit) ≡ over at (length (now (bytes .entry))) (now (bytes .entry)) (now (buffer .entry)) ⌝ }
+// Fields and the bytes that follow them, from a place on, where these can be carried. Nothing is written before everything is tested.
+pub fn write_body(
+    buffer: &mut [u8],
+    at: usize,
+    shape: Shape,
+    values: [u64; VALUES],
+    rest: &[u8],
+    carried: bool,
+) -> Written
+    ensures { λ r. ⌜ (r ≡ written (numberFor (at + bodyLong shape (now (rest .entry))) (areAllowed (fields shape) values && carried) (now (buffer .entry))) (at + bodyLong shape (now (rest .entry)))) × (now (buffer .exit) ≡ given (numberFor (at + bodyLong shape (now (rest .entry))) (areAllowed (fields shape) values && carried) (now (buffer .entry))) (over at (bodyLong shape (now (rest .entry))) (bodyBytes shape values (now (rest .entry))) (now (buffer .entry))) (now (buffer .entry))) ⌝ }
 {
-    let mut done: usize = 0;
-    while done < bytes.len() {
-        buffer[at + done] = bytes[done];
-        done += 1;
+    let tested = fields::test_fields(shape, values);
+    let long = tested.long;
+    let fine = tested.allowed & carried;
+    if !has_room(buffer.len(), at, long, rest.len()) {
+        return Written {
+            number: ROOM,
+            long: 0,
+        };
     }
-}
-
-// Fields and the bytes that follow them, at the front of a buffer; one that is too short stays as it was.
-pub fn put_body(buffer: &mut [u8], layout: Layout, values: [u64; VALUES], rest: &[u8])
-    ensures { λ r. ⌜ now (buffer .exit) ≡ over 0 (longOf (fields layout) + length (now (rest .entry))) (fieldBytes (fields layout) values ++ now (rest .entry)) (now (buffer .entry)) ⌝ }
-{
-    let head = fields::fields_length(layout);
-    if buffer.len() < head {
-        return;
+    if !fine {
+        return Written {
+            number: MESSAGE,
+            long: 0,
+        };
     }
-    if buffer.len() - head < rest.len() {
-        return;
+    let end = at + long;
+    put_values(buffer, at, end, shape, values);
+    rows::put_bytes(buffer, end, rest);
+    Written {
+        number: DONE,
+        long: end + rest.len(),
     }
-    put_values(buffer, layout, values);
-    put_bytes(buffer, head, rest);
 }

@@ -1,6 +1,6 @@
--- Each message of 004 clause 9.2 by its name, with each operation and each error that has a layout of its own, and each piece of a list: a line has what the
+-- Each message of 004 clause 9.2 by its name, with each operation and each error that has a shape of its own, and each piece of a list: a line has what the
 -- message's table of 004 has. The definitions are held to these lines here; that a line's values are written and read in so many bytes is in crate round_trip,
--- and that its code has its layout in message_codes. So a bound that was changed in definition and code alike is refused.
+-- and that its code has its shape in message_codes. So a bound that was changed in definition and code alike is refused.
 -- Assumes nothing.
 use Prim.Native.Nat.{ℕ, zero, suc, _+_, _-_, _^_}
 use mathlib.Core.Path.{_≡_, refl}
@@ -11,8 +11,8 @@ use lib.ListN.{replicate}
 use Rattle.lists.specs.Lists.{any, padded}
 use Rattle.formats.specs.declared.Field.{Field}
 use Rattle.formats.specs.declared.Form.{Form}
-use Rattle.formats.specs.declared.Layout.{Layout}
-use Rattle.formats.specs.declared.Layout.the-variants.{Plain, VersionNumber, OneCredential, ChangeCredential, ChangePolicies, LockOrUnlocking, StartAuth, EndAuth, Reset, CredentialAndName, VersionList, CredentialParameters, PolicyAnswer, StartAuthResponse, Capabilities, ProcessList, NameAlone, PlainError, UnsupportedRequest, Terminated, VendorError, VersionPiece, ProcessPiece, OwnerPiece, PolicyPiece, ResetPiece}
+use Rattle.formats.specs.declared.Shape.{Shape}
+use Rattle.formats.specs.declared.Shape.the-variants.{Plain, VersionNumber, OneCredential, ChangeCredential, ChangePolicies, LockOrUnlocking, StartAuth, EndAuth, Reset, CredentialAndName, VersionList, CredentialParameters, PolicyAnswer, StartAuthResponse, Capabilities, ProcessList, NameAlone, PlainError, UnsupportedRequest, Terminated, VendorError, VersionPiece, ProcessPiece, OwnerPiece, PolicyPiece, ResetPiece}
 use Rattle.formats.specs.declared.Part.the-variants.{VersionEntry, ProcessInfo, Owner, Policy, ResetElement}
 use Rattle.formats.specs.declared.Rest.{Rest}
 use Rattle.formats.specs.declared.Rest.the-variants.{Exactly, Said, SaidTo, Parts}
@@ -79,7 +79,7 @@ reserved begins width = bits begins width 0
 -- ---- a line: the fields, where what follows them begins and what it is; and an example: the code, seven values, what follows, and how many bytes that has in all.
 -- Of a piece of a list the code is its kind
 pub record Line : Type 0 where
-  pub layout : Layout
+  pub shape : Shape
   pub fields : List Held
   pub restBegins : ℕ
   pub rest : Rest
@@ -88,10 +88,10 @@ pub record Line : Type 0 where
   pub follows : List ℕ
   pub long : ℕ
 
-abbrev pub line : Layout → List Held → ℕ → Rest → ℕ → List ℕ → List ℕ → ℕ → Line
-line layout fields restBegins rest code values follows long =
+abbrev pub line : Shape → List Held → ℕ → Rest → ℕ → List ℕ → List ℕ → ℕ → Line
+line shape fields restBegins rest code values follows long =
     record {
-      layout = layout;
+      shape = shape;
       fields = fields;
       restBegins = restBegins;
       rest = rest;
@@ -280,7 +280,7 @@ pinnedFrom begins (f ∷ fs) [] restBegins = false
 pinnedFrom begins (f ∷ fs) (h ∷ hs) restBegins = eqb begins (h .begins) && pinned (formOf f) h && pinnedFrom (begins + h .width) fs hs restBegins
 
 abbrev pub held : ℕ → Line → Bool
-held begins l = pinnedFrom begins (fieldsOf (l .layout)) (l .fields) (l .restBegins)
+held begins l = pinnedFrom begins (fieldsOf (l .shape)) (l .fields) (l .restBegins)
 
 pub record ByName : Type 0 where
   -- each bound may stand in its field, and what is one below or above it may not; reserved bits are read as zero; each field stands where 004 has it, those of a
@@ -288,8 +288,8 @@ pub record ByName : Type 0 where
   pub message-fields : map (held 2) messageLines ≡ replicate 46 true
   pub piece-fields : map (held 0) pieceLines ≡ replicate 5 true
   -- and so does what follows them
-  pub message-rests : map (λ (l : Line). restOf (l .layout)) messageLines ≡ map (λ (l : Line). l .rest) messageLines
-  pub piece-rests : map (λ (l : Line). restOf (l .layout)) pieceLines ≡ map (λ (l : Line). l .rest) pieceLines
+  pub message-rests : map (λ (l : Line). restOf (l .shape)) messageLines ≡ map (λ (l : Line). l .rest) messageLines
+  pub piece-rests : map (λ (l : Line). restOf (l .shape)) pieceLines ≡ map (λ (l : Line). l .rest) pieceLines
 
 pub by-name : ByName
 unfolding any padded formOf meant isAllowed fieldsOf restOf

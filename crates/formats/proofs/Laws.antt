@@ -10,8 +10,8 @@ use Rattle.lists.proofs.Tests.{and-left, and-right}
 use Rattle.formats.specs.declared.Field.{Field}
 use Rattle.formats.specs.declared.Field.the-variants.{Unused, Reserved, AuthVersion, VersionNumberEntryCount, VersionNumberEntry, MessageCaps, AuthProcessCaps, DeviceProvisioningState, AuthRecordProcessTime, BaseAsymAlgoSupported, BaseHashAlgoSupported, SupportedPolicyOwnerIDCount, Change, LockOrUnlock, CredentialID, CredentialType, BaseAsymAlgo, BaseHashAlgo, CredentialDataSize, CredAttributes, NumPolicies, RegistryID, VendorIDLen, PolicyVersion, PolicyLen, AuthProcInfoCount, AuthProcessType, StartAttributes, NonceLen, EndAttributes, DataType, SVResetDataTypeCount, SVResetDataTypeLen, ErrorCode, ErrorData, NoErrorData}
 use Rattle.formats.specs.declared.Form.{Form}
-use Rattle.formats.specs.declared.Layout.{Layout}
-use Rattle.formats.specs.declared.Layout.the-variants.{NoMessage, Plain, VersionNumber, OneCredential, ChangeCredential, ChangePolicies, LockOrUnlocking, StartAuth, EndAuth, Reset, CredentialAndName, VersionList, CredentialParameters, PolicyAnswer, StartAuthResponse, Capabilities, ProcessList, NameAlone, PlainError, UnsupportedRequest, Terminated, VendorError, VersionPiece, ProcessPiece, OwnerPiece, PolicyPiece, ResetPiece}
+use Rattle.formats.specs.declared.Shape.{Shape}
+use Rattle.formats.specs.declared.Shape.the-variants.{NoMessage, Plain, VersionNumber, OneCredential, ChangeCredential, ChangePolicies, LockOrUnlocking, StartAuth, EndAuth, Reset, CredentialAndName, VersionList, CredentialParameters, PolicyAnswer, StartAuthResponse, Capabilities, ProcessList, NameAlone, PlainError, UnsupportedRequest, Terminated, VendorError, VersionPiece, ProcessPiece, OwnerPiece, PolicyPiece, ResetPiece}
 use Rattle.formats.specs.Formats.{formOf, fieldsOf}
 
 module _ (form : Form) where
@@ -79,7 +79,7 @@ module _ (f : Field) where
       let all : counted (formOf f) ≡ true = and-right (held (formOf f)) (counted (formOf f)) behind in
       ltb-true (formOf f .most) (formOf f .values) (sym (rw some) ∙ all)
 
-few : (l : Layout) → leb (length (fieldsOf l)) 7 ≡ true
+few : (l : Shape) → leb (length (fieldsOf l)) 7 ≡ true
 unfolding fieldsOf
 few NoMessage = refl
 few Plain = refl
@@ -109,5 +109,5 @@ few OwnerPiece = refl
 few PolicyPiece = refl
 few ResetPiece = refl
 
-pub few-fields : (l : Layout) → length (fieldsOf l) ≤ 7
+pub few-fields : (l : Shape) → length (fieldsOf l) ≤ 7
 few-fields l = leb-true (length (fieldsOf l)) 7 (few l)

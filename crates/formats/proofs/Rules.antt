@@ -4,7 +4,7 @@ use mathlib.Core.Path.{_≡_, _∙_}
 use borrow.Author.Needs.{needs}
 use Rattle.formats.specs.declared.Field.{Field}
 use Rattle.formats.specs.declared.Form.{Form}
-use Rattle.formats.specs.declared.Layout.{Layout}
+use Rattle.formats.specs.declared.Shape.{Shape}
 use Rattle.formats.specs.declared.Rest.{Rest}
 use Rattle.formats.specs.Formats.{formOf, restOf}
 
@@ -12,7 +12,7 @@ use Rattle.formats.specs.Formats.{formOf, restOf}
 pub form-told : {r : Form} {x k : Field} → x ≡ k → r ≡ formOf k → r ≡ formOf x
 form-told e q = q ∙ rw e
 
-pub rest-told : {r : Rest} {x k : Layout} → x ≡ k → r ≡ restOf k → r ≡ restOf x
+pub rest-told : {r : Rest} {x k : Shape} → x ≡ k → r ≡ restOf k → r ≡ restOf x
 rest-told e q = q ∙ rw e
 
 pub ruleset rules = (needs, form-told, rest-told)

@@ -1,5 +1,5 @@
 -- What a message of 004 clause 9.2 is made of: the fields behind its code and reserved byte, what each may hold, and what follows them.
--- `formOf` has what a field may hold. `shapeOf` has the messages, each with its name and the number of its table of 004.
+-- `formOf` has what a field may hold. `contentsOf` has the messages, each with its name and the number of its table of 004.
 use Prim.Native.Nat.{ℕ, _%_}
 use mathlib.Core.Bool.{Bool, cond, _&&_}
 use mathlib.Core.List.{List, [], _∷_}
@@ -7,8 +7,8 @@ use lib.Dec.{eqb, leb}
 use Rattle.formats.specs.declared.Field.{Field}
 use Rattle.formats.specs.declared.Field.the-variants.{Unused, Reserved, AuthVersion, VersionNumberEntryCount, VersionNumberEntry, MessageCaps, AuthProcessCaps, DeviceProvisioningState, AuthRecordProcessTime, BaseAsymAlgoSupported, BaseHashAlgoSupported, SupportedPolicyOwnerIDCount, Change, LockOrUnlock, CredentialID, CredentialType, BaseAsymAlgo, BaseHashAlgo, CredentialDataSize, CredAttributes, NumPolicies, RegistryID, VendorIDLen, PolicyVersion, PolicyLen, AuthProcInfoCount, AuthProcessType, StartAttributes, NonceLen, EndAttributes, DataType, SVResetDataTypeCount, SVResetDataTypeLen, ErrorCode, ErrorData, NoErrorData}
 use Rattle.formats.specs.declared.Form.{Form}
-use Rattle.formats.specs.declared.Layout.{Layout}
-use Rattle.formats.specs.declared.Layout.the-variants.{NoMessage, Plain, VersionNumber, OneCredential, ChangeCredential, ChangePolicies, LockOrUnlocking, StartAuth, EndAuth, Reset, CredentialAndName, VersionList, CredentialParameters, PolicyAnswer, StartAuthResponse, Capabilities, ProcessList, NameAlone, PlainError, UnsupportedRequest, Terminated, VendorError, VersionPiece, ProcessPiece, OwnerPiece, PolicyPiece, ResetPiece}
+use Rattle.formats.specs.declared.Shape.{Shape}
+use Rattle.formats.specs.declared.Shape.the-variants.{NoMessage, Plain, VersionNumber, OneCredential, ChangeCredential, ChangePolicies, LockOrUnlocking, StartAuth, EndAuth, Reset, CredentialAndName, VersionList, CredentialParameters, PolicyAnswer, StartAuthResponse, Capabilities, ProcessList, NameAlone, PlainError, UnsupportedRequest, Terminated, VendorError, VersionPiece, ProcessPiece, OwnerPiece, PolicyPiece, ResetPiece}
 use Rattle.formats.specs.declared.Part.the-variants.{VersionEntry, ProcessInfo, Owner, Policy, ResetElement}
 use Rattle.formats.specs.declared.Rest.{Rest}
 use Rattle.formats.specs.declared.Rest.the-variants.{Exactly, Said, SaidTo, Parts, Never}
@@ -86,12 +86,12 @@ isAllowed form value = leb (form .least) value && leb value (form .most)
 -- from its byte 0 on, and what follows them.
 -- What follows is `Exactly` so many bytes; as many as the value at a place says (`Said`), the first field being place 0; at least as many, and at most a number
 -- (`SaidTo`); as many parts of a list as the value at a place says (`Parts`); `Never` where nothing can follow, since there is no such message
-pub record Shape : Type 0 where
+pub record Contents : Type 0 where
   pub fields : List Field
   pub rest : Rest
 
 infix 30 _thenRest_
-abbrev pub _thenRest_ : List Field → Rest → Shape
+abbrev pub _thenRest_ : List Field → Rest → Contents
 fields thenRest rest = record { fields = fields; rest = rest }
 
 -- the credential structure, Table 2: at its byte 0 CredentialID, 2 CredentialType, 3 BaseAsymAlgo, 11 BaseHashAlgo, 19 Reserved, 23 CredentialDataSize,
@@ -99,79 +99,79 @@ fields thenRest rest = record { fields = fields; rest = rest }
 abbrev pub credentialStructure : List Field
 credentialStructure = CredentialID ∷ CredentialType ∷ BaseAsymAlgo ∷ BaseHashAlgo ∷ Reserved ∷ CredentialDataSize ∷ []
 
-unfoldable pub shapeOf : Layout → Shape
+unfoldable pub contentsOf : Shape → Contents
 -- no message: a code that Tables 16 and 17 have not, an operation or an error that its table reserves
-shapeOf NoMessage = [] thenRest Never
+contentsOf NoMessage = [] thenRest Never
 -- GET_AUTH_VERSION (Table 23), GET_AUTH_CAPABILITIES (28), ELEVATE_PRIVILEGE (55), END_ELEVATED_PRIVILEGE (57), TAKE_OWNERSHIP (59);
 -- SELECT_AUTH_VERSION_RSP (27), SET_CRED_ID_PARAMS_DONE (35), SET_AUTH_POLICY_DONE (41), PRIVILEGE_ELEVATED (56), ELEVATED_PRIVILEGE_ENDED (58),
 -- OWNERSHIP_TAKEN (60), AUTH_DEFAULTS_APPLIED (64): nothing behind the reserved byte
-shapeOf Plain = [] thenRest Exactly 0
+contentsOf Plain = [] thenRest Exactly 0
 -- ---- requests: Table 16
 -- SELECT_AUTH_VERSION (Table 26): at 2 AuthVersion
-shapeOf VersionNumber = AuthVersion ∷ [] thenRest Exactly 0
+contentsOf VersionNumber = AuthVersion ∷ [] thenRest Exactly 0
 -- SET_CRED_ID_PARAMS (Table 33) with ParameterChange (34): at 2 SetCredInfoOp, 3 CredParams, a credential structure, whose data is as long as place 6 says,
 -- CredentialDataSize
-shapeOf ChangeCredential = Change ∷ credentialStructure thenRest Said 6
+contentsOf ChangeCredential = Change ∷ credentialStructure thenRest Said 6
 -- GET_CRED_ID_PARAMS (Table 36), GET_AUTH_POLICY (42), GET_AUTH_PROCESSES (44), and the response END_AUTH_RSP (53): at 2 CredentialID
-shapeOf OneCredential = CredentialID ∷ [] thenRest Exactly 0
+contentsOf OneCredential = CredentialID ∷ [] thenRest Exactly 0
 -- SET_AUTH_POLICY (Table 39) with PolicyChange (40): at 2 SetAuthPolicyOp, 3 PolicyList, which is Table 3: CredentialID, at 5 NumPolicies, at 7 as many
 -- policies as place 2 says, NumPolicies
-shapeOf ChangePolicies = Change ∷ CredentialID ∷ NumPolicies ∷ [] thenRest Parts Policy 2
+contentsOf ChangePolicies = Change ∷ CredentialID ∷ NumPolicies ∷ [] thenRest Parts Policy 2
 -- SET_CRED_ID_PARAMS (Table 33) and SET_AUTH_POLICY (39) with Lock or Unlock (34, 40): at 2 the operation, 3 CredentialID
-shapeOf LockOrUnlocking = LockOrUnlock ∷ CredentialID ∷ [] thenRest Exactly 0
+contentsOf LockOrUnlocking = LockOrUnlock ∷ CredentialID ∷ [] thenRest Exactly 0
 -- START_AUTH (Table 49): at 2 CredentialID, 4 Attributes, 5 NonceLen, 6 Nonce, as long as place 2 says, NonceLen
-shapeOf StartAuth = CredentialID ∷ StartAttributes ∷ NonceLen ∷ [] thenRest Said 2
+contentsOf StartAuth = CredentialID ∷ StartAttributes ∷ NonceLen ∷ [] thenRest Said 2
 -- END_AUTH (Table 52): at 2 CredentialID, 4 Attributes
-shapeOf EndAuth = CredentialID ∷ EndAttributes ∷ [] thenRest Exactly 0
+contentsOf EndAuth = CredentialID ∷ EndAttributes ∷ [] thenRest Exactly 0
 -- AUTH_RESET_TO_DEFAULT (Table 61): at 2 DataType, 4 CredentialID, 6 SVResetDataTypeCount, 8 as many elements as place 2 says, SVResetDataTypeCount
-shapeOf Reset = DataType ∷ CredentialID ∷ SVResetDataTypeCount ∷ [] thenRest Parts ResetElement 2
+contentsOf Reset = DataType ∷ CredentialID ∷ SVResetDataTypeCount ∷ [] thenRest Parts ResetElement 2
 -- KILL_AUTH_PROCESS (Table 47): at 2 CredentialID, 4 AuthProcID
-shapeOf CredentialAndName = CredentialID ∷ [] thenRest Exactly 48
+contentsOf CredentialAndName = CredentialID ∷ [] thenRest Exactly 48
 -- ---- responses: Table 17
 -- AUTH_VERSION (Table 24): at 2 VersionNumberEntryCount, 3 as many entries as place 0 says, VersionNumberEntryCount
-shapeOf VersionList = VersionNumberEntryCount ∷ [] thenRest Parts VersionEntry 0
+contentsOf VersionList = VersionNumberEntryCount ∷ [] thenRest Parts VersionEntry 0
 -- CRED_ID_PARAMS (Table 37): at 2 CredAttributes, 4 CredParams, a credential structure, whose data is as long as place 6 says, CredentialDataSize
-shapeOf CredentialParameters = CredAttributes ∷ credentialStructure thenRest Said 6
+contentsOf CredentialParameters = CredAttributes ∷ credentialStructure thenRest Said 6
 -- AUTH_POLICY (Table 43): at 2 PolicyAttributes (Table 38), 4 PolicyList, which is Table 3: CredentialID, at 6 NumPolicies, at 8 as many policies as place 2 says,
 -- NumPolicies
-shapeOf PolicyAnswer = CredAttributes ∷ CredentialID ∷ NumPolicies ∷ [] thenRest Parts Policy 2
+contentsOf PolicyAnswer = CredAttributes ∷ CredentialID ∷ NumPolicies ∷ [] thenRest Parts Policy 2
 -- START_AUTH_RSP (Table 51): at 2 CredentialID, 4 NonceLen, 5 Nonce, as long as place 1 says, NonceLen
-shapeOf StartAuthResponse = CredentialID ∷ NonceLen ∷ [] thenRest Said 1
+contentsOf StartAuthResponse = CredentialID ∷ NonceLen ∷ [] thenRest Said 1
 -- AUTH_CAPABILITIES (Table 29): at 2 MessageCaps, 4 AuthProcessCaps, 6 DeviceProvisioningState, 7 AuthRecordProcessTime, 8 BaseAsymAlgoSupported,
 -- 16 BaseHashAlgoSupported, 24 SupportedPolicyOwnerIDCount, 26 as many owners as place 6 says, SupportedPolicyOwnerIDCount
-shapeOf Capabilities =
+contentsOf Capabilities =
     MessageCaps ∷ AuthProcessCaps ∷ DeviceProvisioningState ∷ AuthRecordProcessTime ∷ BaseAsymAlgoSupported ∷ BaseHashAlgoSupported ∷ SupportedPolicyOwnerIDCount ∷ []
     thenRest Parts Owner 6
 -- AUTH_PROCESSES (Table 45): at 2 AuthProcInfoCount, 4 as many processes as place 0 says, AuthProcInfoCount
-shapeOf ProcessList = AuthProcInfoCount ∷ [] thenRest Parts ProcessInfo 0
+contentsOf ProcessList = AuthProcInfoCount ∷ [] thenRest Parts ProcessInfo 0
 -- PROCESS_KILLED (Table 48): at 2 AuthProcID
-shapeOf NameAlone = [] thenRest Exactly 48
+contentsOf NameAlone = [] thenRest Exactly 48
 -- ---- AUTH_ERROR (Table 20), by its ErrorCode (Table 21): at 2 ErrorCode, 3 ErrorData, 4 ExtendedErrorData
 -- the errors that have no line below: ErrorData 0x00, "No extended error data is provided"
-shapeOf PlainError = ErrorCode ∷ NoErrorData ∷ [] thenRest Exactly 0
+contentsOf PlainError = ErrorCode ∷ NoErrorData ∷ [] thenRest Exactly 0
 -- UnsupportedRequest, 0x09: ErrorData is the "RequestResponseCode in the request message"
-shapeOf UnsupportedRequest = ErrorCode ∷ ErrorData ∷ [] thenRest Exactly 0
+contentsOf UnsupportedRequest = ErrorCode ∷ ErrorData ∷ [] thenRest Exactly 0
 -- TermAuthProc, 0x0b: ErrorData 0x00, at 4 a CredentialID
-shapeOf Terminated = ErrorCode ∷ NoErrorData ∷ CredentialID ∷ [] thenRest Exactly 0
+contentsOf Terminated = ErrorCode ∷ NoErrorData ∷ CredentialID ∷ [] thenRest Exactly 0
 -- vendor or standards-defined, 0xff: ErrorData is the registry, at 4 stands Table 22: VendorIDLen, at 5 VendorID, as long as place 2 says, VendorIDLen, and
 -- OpaqueErrorData. Of "0-32" bytes of ExtendedErrorData VendorIDLen is one
-shapeOf VendorError = ErrorCode ∷ ErrorData ∷ VendorIDLen ∷ [] thenRest SaidTo 2 31
+contentsOf VendorError = ErrorCode ∷ ErrorData ∷ VendorIDLen ∷ [] thenRest SaidTo 2 31
 -- ---- pieces of lists
 -- an entry of AUTH_VERSION (Table 25): at 0 VersionNumberEntry
-shapeOf VersionPiece = VersionNumberEntry ∷ [] thenRest Exactly 0
+contentsOf VersionPiece = VersionNumberEntry ∷ [] thenRest Exactly 0
 -- Authorization process information (Table 46): at 0 CredentialID, 2 AuthProcessType, 3 AuthProcID
-shapeOf ProcessPiece = CredentialID ∷ AuthProcessType ∷ [] thenRest Exactly 48
+contentsOf ProcessPiece = CredentialID ∷ AuthProcessType ∷ [] thenRest Exactly 48
 -- an owner, PolicyOwnerID (Tables 4 and 29) or SVResetDataTypeOwner (63): at 0 ID, 1 VendorIDLen, 2 VendorID, as long as place 1 says, VendorIDLen
-shapeOf OwnerPiece = RegistryID ∷ VendorIDLen ∷ [] thenRest Said 1
+contentsOf OwnerPiece = RegistryID ∷ VendorIDLen ∷ [] thenRest Said 1
 -- a policy behind its owner (Table 4): at 0 PolicyVersion, 4 PolicyLen, 6 Policy, as long as place 1 says, PolicyLen
-shapeOf PolicyPiece = PolicyVersion ∷ PolicyLen ∷ [] thenRest Said 1
+contentsOf PolicyPiece = PolicyVersion ∷ PolicyLen ∷ [] thenRest Said 1
 -- a reset element behind its owner (Table 63): at 0 SVResetDataTypeLen, 1 SVResetDataType, as long as place 0 says, SVResetDataTypeLen
-shapeOf ResetPiece = SVResetDataTypeLen ∷ [] thenRest Said 0
+contentsOf ResetPiece = SVResetDataTypeLen ∷ [] thenRest Said 0
 
-unfoldable pub fieldsOf : Layout → List Field
-unfolding shapeOf
-fieldsOf layout = shapeOf layout .fields
+unfoldable pub fieldsOf : Shape → List Field
+unfolding contentsOf
+fieldsOf shape = contentsOf shape .fields
 
-unfoldable pub restOf : Layout → Rest
-unfolding shapeOf
-restOf layout = shapeOf layout .rest
+unfoldable pub restOf : Shape → Rest
+unfolding contentsOf
+restOf shape = contentsOf shape .rest

@@ -52,7 +52,7 @@ pub struct Form {
     pub most: u64,
 }
 
-// An element of a list.
+// A part of a list: an element of it.
 pub enum Part {
     VersionEntry,
     ProcessInfo,
@@ -70,8 +70,8 @@ pub enum Rest {
     Never,
 }
 
-// A message, or a piece of a list, by what it is made of; in brackets 004's tables. Formats.antt has what stands at which byte, at `shapeOf`.
-pub enum Layout {
+// A message, or a piece of a list, by what it is made of; in brackets 004's tables. Formats.antt has what stands at which byte, at `contentsOf`.
+pub enum Shape {
     // no code, operation or error of 004
     NoMessage,
     // GET_AUTH_VERSION (23), GET_AUTH_CAPABILITIES (28), ELEVATE_PRIVILEGE (55), END_ELEVATED_PRIVILEGE (57), TAKE_OWNERSHIP (59); SELECT_AUTH_VERSION_RSP (27),
@@ -194,37 +194,37 @@ pub fn form_of(field: Field) -> Form
     }
 }
 
-// What follows the fields of a layout.
-pub fn rest_of(layout: Layout) -> Rest
-    ensures { λ r. ⌜ r ≡ restOf layout ⌝ }
+// What follows the fields of a shape.
+pub fn rest_of(shape: Shape) -> Rest
+    ensures { λ r. ⌜ r ≡ restOf shape ⌝ }
 {
-    match layout {
-        Layout::NoMessage => Rest::Never,
-        Layout::Plain => Rest::Exactly(0),
-        Layout::VersionNumber => Rest::Exactly(0),
-        Layout::OneCredential => Rest::Exactly(0),
-        Layout::ChangeCredential => Rest::Said(6),
-        Layout::ChangePolicies => Rest::Parts(Part::Policy, 2),
-        Layout::LockOrUnlocking => Rest::Exactly(0),
-        Layout::StartAuth => Rest::Said(2),
-        Layout::EndAuth => Rest::Exactly(0),
-        Layout::Reset => Rest::Parts(Part::ResetElement, 2),
-        Layout::CredentialAndName => Rest::Exactly(48),
-        Layout::VersionList => Rest::Parts(Part::VersionEntry, 0),
-        Layout::CredentialParameters => Rest::Said(6),
-        Layout::PolicyAnswer => Rest::Parts(Part::Policy, 2),
-        Layout::StartAuthResponse => Rest::Said(1),
-        Layout::Capabilities => Rest::Parts(Part::Owner, 6),
-        Layout::ProcessList => Rest::Parts(Part::ProcessInfo, 0),
-        Layout::NameAlone => Rest::Exactly(48),
-        Layout::PlainError => Rest::Exactly(0),
-        Layout::UnsupportedRequest => Rest::Exactly(0),
-        Layout::Terminated => Rest::Exactly(0),
-        Layout::VendorError => Rest::SaidTo(2, 31),
-        Layout::VersionPiece => Rest::Exactly(0),
-        Layout::ProcessPiece => Rest::Exactly(48),
-        Layout::OwnerPiece => Rest::Said(1),
-        Layout::PolicyPiece => Rest::Said(1),
-        Layout::ResetPiece => Rest::Said(0),
+    match shape {
+        Shape::NoMessage => Rest::Never,
+        Shape::Plain => Rest::Exactly(0),
+        Shape::VersionNumber => Rest::Exactly(0),
+        Shape::OneCredential => Rest::Exactly(0),
+        Shape::ChangeCredential => Rest::Said(6),
+        Shape::ChangePolicies => Rest::Parts(Part::Policy, 2),
+        Shape::LockOrUnlocking => Rest::Exactly(0),
+        Shape::StartAuth => Rest::Said(2),
+        Shape::EndAuth => Rest::Exactly(0),
+        Shape::Reset => Rest::Parts(Part::ResetElement, 2),
+        Shape::CredentialAndName => Rest::Exactly(48),
+        Shape::VersionList => Rest::Parts(Part::VersionEntry, 0),
+        Shape::CredentialParameters => Rest::Said(6),
+        Shape::PolicyAnswer => Rest::Parts(Part::Policy, 2),
+        Shape::StartAuthResponse => Rest::Said(1),
+        Shape::Capabilities => Rest::Parts(Part::Owner, 6),
+        Shape::ProcessList => Rest::Parts(Part::ProcessInfo, 0),
+        Shape::NameAlone => Rest::Exactly(48),
+        Shape::PlainError => Rest::Exactly(0),
+        Shape::UnsupportedRequest => Rest::Exactly(0),
+        Shape::Terminated => Rest::Exactly(0),
+        Shape::VendorError => Rest::SaidTo(2, 31),
+        Shape::VersionPiece => Rest::Exactly(0),
+        Shape::ProcessPiece => Rest::Exactly(48),
+        Shape::OwnerPiece => Rest::Said(1),
+        Shape::PolicyPiece => Rest::Said(1),
+        Shape::ResetPiece => Rest::Said(0),
     }
 }

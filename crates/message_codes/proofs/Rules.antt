@@ -6,31 +6,31 @@ use mathlib.Core.List.{List, [], _∷_}
 use borrow.Author.Needs.{needs}
 use borrow.Author.Tests.{lt-ltb, le-ltb, ne-eqb}
 use Rattle.lists.specs.Each.{Each, each-nil, each-cons}
-use Rattle.formats.specs.declared.Layout.{Layout}
-use Rattle.formats.specs.declared.Layout.the-variants.{NoMessage}
-use Rattle.message_codes.specs.Codes.{Entry, find, requests, responses, layoutOf, pieces, pieceOf}
+use Rattle.formats.specs.declared.Shape.{Shape}
+use Rattle.formats.specs.declared.Shape.the-variants.{NoMessage}
+use Rattle.message_codes.specs.Codes.{Meaning, find, requests, responses, shapeOf, pieces, pieceOf}
 
 -- ---- a number in a list
-pub found : {r : Layout} {n k : ℕ} (l : List Entry) → n ≡ k → r ≡ find k l → r ≡ find n l
+pub found : {r : Shape} {n k : ℕ} (l : List Meaning) → n ≡ k → r ≡ find k l → r ≡ find n l
 found l e q = q ∙ rw e
 
 -- ---- a number in none
-pub nowhere : (n : ℕ) (l : List Entry) → Each (λ (e : Entry). n ≡ e .code → ⊥) l → NoMessage ≡ find n l
+pub nowhere : (n : ℕ) (l : List Meaning) → Each (λ (e : Meaning). n ≡ e .code → ⊥) l → NoMessage ≡ find n l
 unfolding find
 nowhere n [] each-nil = refl
 nowhere n (e ∷ es) (each-cons h hs) = rw (ne-eqb n (e .code) h) (nowhere n es hs)
 
 -- ---- a code
-module _ (code chooser : ℕ) {r : Layout} where
-  pub is-response : code < 0x80 → r ≡ find code (responses chooser) → r ≡ layoutOf code chooser
-  unfolding layoutOf
+module _ (code chooser : ℕ) {r : Shape} where
+  pub is-response : code < 0x80 → r ≡ find code (responses chooser) → r ≡ shapeOf code chooser
+  unfolding shapeOf
   is-response h q = q ∙ rw (lt-ltb code 0x80 h)
 
-  pub is-request : 0x80 ≤ code → r ≡ find code (requests chooser) → r ≡ layoutOf code chooser
-  unfolding layoutOf
+  pub is-request : 0x80 ≤ code → r ≡ find code (requests chooser) → r ≡ shapeOf code chooser
+  unfolding shapeOf
   is-request h q = q ∙ rw (le-ltb code 0x80 h)
 
-pub is-piece : (kind : ℕ) {r : Layout} → r ≡ find kind pieces → r ≡ pieceOf kind
+pub is-piece : (kind : ℕ) {r : Shape} → r ≡ find kind pieces → r ≡ pieceOf kind
 unfolding pieceOf
 is-piece kind q = q
 

@@ -1,32 +1,32 @@
--- Which layout a message of 004 clause 9.2 has, by its code, and the kinds of a piece of a list.
+-- Which shape a message of 004 clause 9.2 has, by its code, and the kinds of a piece of a list.
 use Prim.Native.Nat.{ℕ}
 use mathlib.Core.Bool.{cond}
 use mathlib.Core.List.{List, [], _∷_}
 use lib.Dec.{eqb, ltb}
-use Rattle.formats.specs.declared.Layout.{Layout}
-use Rattle.formats.specs.declared.Layout.the-variants.{NoMessage, Plain, VersionNumber, OneCredential, ChangeCredential, ChangePolicies, LockOrUnlocking, StartAuth, EndAuth, Reset, CredentialAndName, VersionList, CredentialParameters, PolicyAnswer, StartAuthResponse, Capabilities, ProcessList, NameAlone, PlainError, UnsupportedRequest, Terminated, VendorError, VersionPiece, ProcessPiece, OwnerPiece, PolicyPiece, ResetPiece}
+use Rattle.formats.specs.declared.Shape.{Shape}
+use Rattle.formats.specs.declared.Shape.the-variants.{NoMessage, Plain, VersionNumber, OneCredential, ChangeCredential, ChangePolicies, LockOrUnlocking, StartAuth, EndAuth, Reset, CredentialAndName, VersionList, CredentialParameters, PolicyAnswer, StartAuthResponse, Capabilities, ProcessList, NameAlone, PlainError, UnsupportedRequest, Terminated, VendorError, VersionPiece, ProcessPiece, OwnerPiece, PolicyPiece, ResetPiece}
 
 -- ---- lists of numbers and what each means
-pub record Entry : Type 0 where
+pub record Meaning : Type 0 where
   pub code : ℕ
-  pub means : Layout
+  pub means : Shape
 
 infix 75 _has_
-abbrev pub _has_ : ℕ → Layout → Entry
-n has layout = record { code = n; means = layout }
+abbrev pub _has_ : ℕ → Shape → Meaning
+n has shape = record { code = n; means = shape }
 
 -- a number that is not in the list means no message
-unfoldable pub find : ℕ → List Entry → Layout
+unfoldable pub find : ℕ → List Meaning → Shape
 find n [] = NoMessage
 find n (e ∷ es) = cond (eqb n (e .code)) (e .means) (find n es)
 
 -- ---- what stands in the first field of some messages, the chooser
 -- Tables 34 and 40: the change of one of them, Lock, Unlock; "All other values: Reserved"
-unfoldable pub operations : Layout → List Entry
+unfoldable pub operations : Shape → List Meaning
 operations change = 1 has change ∷ 2 has LockOrUnlocking ∷ 3 has LockOrUnlocking ∷ []
 
 -- Table 21: all but 9 and 0xff have the data 0; 0x0b and 0xff have more behind it
-unfoldable pub errors : List Entry
+unfoldable pub errors : List Meaning
 errors =
     1 has PlainError
     ∷ 2 has PlainError
@@ -44,7 +44,7 @@ errors =
 
 -- ---- the messages
 -- Table 16
-unfoldable pub requests : ℕ → List Entry
+unfoldable pub requests : ℕ → List Meaning
 requests chooser =
     -- GET_AUTH_VERSION
     0x81 has Plain
@@ -79,7 +79,7 @@ requests chooser =
     ∷ []
 
 -- Table 17
-unfoldable pub responses : ℕ → List Entry
+unfoldable pub responses : ℕ → List Meaning
 responses chooser =
     -- AUTH_VERSION
     0x01 has VersionList
@@ -116,12 +116,12 @@ responses chooser =
     ∷ []
 
 -- "0x00 through 0x7F represent response codes and 0x80 through 0xFF represent request codes"
-unfoldable pub layoutOf : ℕ → ℕ → Layout
-layoutOf code chooser = cond (ltb code 0x80) (find code (responses chooser)) (find code (requests chooser))
+unfoldable pub shapeOf : ℕ → ℕ → Shape
+shapeOf code chooser = cond (ltb code 0x80) (find code (responses chooser)) (find code (requests chooser))
 
 -- ---- the pieces that lists are made of: Tables 25, 46, the owner of Table 29 and of Table 4, Table 4 behind its owner, and Table 63
-unfoldable pub pieces : List Entry
+unfoldable pub pieces : List Meaning
 pieces = 0 has VersionPiece ∷ 1 has ProcessPiece ∷ 2 has OwnerPiece ∷ 3 has PolicyPiece ∷ 4 has ResetPiece ∷ []
 
-unfoldable pub pieceOf : ℕ → Layout
+unfoldable pub pieceOf : ℕ → Shape
 pieceOf kind = find kind pieces

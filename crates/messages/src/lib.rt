@@ -1,10 +1,13 @@
 // The messages of 004 clause 9.2, read.
 ghost use mathlib.Core.Path.{_≡_};
-ghost use Rattle.messages.specs.Messages.{layoutIn, refused, readMessage};
+ghost use Rattle.messages.specs.Messages.{shapeIn, refused, readMessage};
 use claims::DONE;
 use claims::MESSAGE;
 use fields::VALUES;
-use formats::Layout;
+use formats::Shape;
+
+// The code and the reserved byte stand before the fields.
+pub const FIELDS_AT: usize = 2;
 
 // What a message says: the values of its fields, and where what follows them begins. Where it is refused, all but the number is 0.
 pub struct MessageRead {
@@ -24,26 +27,33 @@ fn refusal() -> MessageRead
 }
 
 // By the code and the first byte of the fields.
-fn layout_in(message: &[u8]) -> Layout
-    ensures { λ r. ⌜ r ≡ layoutIn (now (message .entry)) ⌝ }
+fn shape_in(message: &[u8]) -> Shape
+    ensures { λ r. ⌜ r ≡ shapeIn (now (message .entry)) ⌝ }
 {
-    message_codes::layout_of(rows::byte_at(message, 0), rows::byte_at(message, 2) as u64)
+    message_codes::shape_of(
+        rows::byte_at(message, 0),
+        rows::byte_at(message, FIELDS_AT) as u64,
+    )
 }
 
 pub fn read_message(message: &[u8]) -> MessageRead
     ensures { λ r. ⌜ r ≡ readMessage (now (message .entry)) ⌝ }
 {
-    let layout = layout_in(message);
-    let head = 2 + fields::fields_length(layout);
     let end = message.len();
+    if end < FIELDS_AT {
+        return refusal();
+    }
+    let shape = shape_in(message);
+    let read = fields::read_fields(&message[FIELDS_AT..end], shape);
+    let values = read.values;
+    let head = FIELDS_AT + read.long;
     if end < head {
         return refusal();
     }
-    let values = fields::values_in(&message[2..end], layout);
-    if !fields::are_allowed(layout, values) {
+    if !read.allowed {
         return refusal();
     }
-    if !parts::fits_rest(&message[head..end], formats::rest_of(layout), values) {
+    if !pieces::fits_rest(&message[head..end], formats::rest_of(shape), values) {
         return refusal();
     }
     MessageRead {

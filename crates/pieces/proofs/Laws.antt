@@ -3,36 +3,32 @@
 -- Assumes nothing.
 use Prim.Native.Nat.{ℕ, _-_, _≤_}
 use mathlib.Core.Path.{_≡_}
-use mathlib.Core.Bool.{true, false}
+use mathlib.Core.Bool.{true}
 use mathlib.Core.List.{List}
 use native.Mathlib.Omega.{arith}
 use borrow.Author.Tests.{leb-true}
 use lib.Dec.{leb}
 use lib.ListN.{length, length-drop}
-use Rattle.formats.specs.declared.Layout.{Layout}
+use Rattle.formats.specs.declared.Shape.{Shape}
 use Rattle.formats.specs.declared.Part.{Part}
-use Rattle.fields.specs.Fields.{fields, areAllowed}
+use Rattle.fields.specs.Fields.{fields, areAllowed, valuesOf, headLong}
 use Rattle.lists.proofs.Tests.{split, and-left, and-right}
-use Rattle.pieces.specs.Pieces.{valuesOf, headLong, pieceLong, isPiece, noPiece, pieceIn, first, second, behind, isPart, partLong}
+use Rattle.pieces.specs.Pieces.{pieceLong, isPiece, pieceIn, first, second, behind, isPart, partLong}
 
-module _ (layout : Layout) (b : List ℕ) where
-  pub piece-taken : isPiece layout b ≡ true
-      → pieceIn layout b ≡ record { fits = true; values = valuesOf layout b; rest = headLong layout; long = pieceLong layout b }
+module _ (shape : Shape) (b : List ℕ) where
+  pub piece-taken : isPiece shape b ≡ true
+      → pieceIn shape b ≡ record { fits = true; values = valuesOf shape b; rest = headLong shape; long = pieceLong shape b }
   unfolding pieceIn
   piece-taken e = rw e
 
-  pub piece-refused : isPiece layout b ≡ false → pieceIn layout b ≡ noPiece
+  pub piece-fits : pieceIn shape b .fits ≡ isPiece shape b
   unfolding pieceIn
-  piece-refused e = rw e
+  piece-fits = split (isPiece shape b) (λ e. rw e) (λ e. rw e)
 
-  pub piece-fits : pieceIn layout b .fits ≡ isPiece layout b
-  unfolding pieceIn
-  piece-fits = split (isPiece layout b) (λ e. rw e) (λ e. rw e)
-
-pub is-piece-long : (layout : Layout) (b : List ℕ) → isPiece layout b ≡ true → pieceLong layout b ≤ length b
+pub is-piece-long : (shape : Shape) (b : List ℕ) → isPiece shape b ≡ true → pieceLong shape b ≤ length b
 unfolding isPiece
-is-piece-long layout b e =
-    leb-true (pieceLong layout b) (length b) (and-left (leb (pieceLong layout b) (length b)) (areAllowed (fields layout) (valuesOf layout b)) e)
+is-piece-long shape b e =
+    leb-true (pieceLong shape b) (length b) (and-left (leb (pieceLong shape b) (length b)) (areAllowed (fields shape) (valuesOf shape b)) e)
 
 module _ (part : Part) (b : List ℕ) (e : isPart part b ≡ true) where
   pub is-part-first : isPiece (first part) b ≡ true

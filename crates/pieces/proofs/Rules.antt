@@ -1,21 +1,22 @@
 -- The laws that close the needs of this crate's functions by `search rules`: each premise is as a place's record has it.
 -- Assumes nothing.
 use Prim.Native.Nat.{ℕ, _+_, _-_, _<_, _≤_}
-use mathlib.Core.Path.{_≡_, sym, _∙_}
-use mathlib.Core.Bool.{Bool, true, false, not}
+use mathlib.Core.Path.{_≡_, sym, ap, _∙_}
+use mathlib.Core.Bool.{true, false, not}
 use mathlib.Core.List.{List}
 use native.Mathlib.Omega.{arith}
 use borrow.Author.Needs.{needs}
 use borrow.Author.Tests.{not-true, not-false, le-leb, lt-leb}
 use lib.Dec.{leb}
 use lib.ListN.{length, getD, List·getD-eq-default}
-use Rattle.formats.specs.declared.Layout.{Layout}
+use Rattle.formats.specs.declared.Shape.{Shape}
 use Rattle.formats.specs.declared.Rest.{Rest}
 use Rattle.formats.specs.declared.Rest.the-variants.{Said}
 use Rattle.formats.specs.Formats.{restOf}
-use Rattle.fields.specs.Fields.{valueCount, fields, longOf, valuesIn, areAllowed}
+use Rattle.fields.specs.Fields.{valueCount, fields, areAllowed, headLong, valuesOf, fieldsRead}
+use Rattle.fields.specs.declared.FieldsRead.{FieldsRead}
 use Rattle.lists.proofs.Tests.{split}
-use Rattle.pieces.specs.Pieces.{valuesOf, headLong, restLong, pieceLong, isPiece, noPiece, pieceIn}
+use Rattle.pieces.specs.Pieces.{restLong, pieceLong, isPiece, noPiece, pieceIn}
 use Rattle.pieces.specs.declared.Piece.{Piece}
 
 -- ---- a value
@@ -27,40 +28,51 @@ unfolding restLong
 value-said values e q = q ∙ rw e
 
 -- ---- a piece, by what its fields say
-module _ (layout : Layout) (b : List ℕ) where
-  too-long : {r : Piece} → length b < pieceLong layout b → r ≡ noPiece → r ≡ pieceIn layout b
+module _ (shape : Shape) (b : List ℕ) where
+  too-long : {r : Piece} → length b < pieceLong shape b → r ≡ noPiece → r ≡ pieceIn shape b
   unfolding pieceIn isPiece
-  too-long h e = e ∙ rw (lt-leb (pieceLong layout b) (length b) h)
+  too-long h e = e ∙ rw (lt-leb (pieceLong shape b) (length b) h)
 
-  module _ {head : ℕ} (p : head ≡ longOf (fields layout)) where
-    head-within : head ≤ pieceLong layout b
-    unfolding pieceLong headLong
-    head-within = omega arith
+  module _ {read : FieldsRead} (p : read ≡ fieldsRead shape b) where
+    head-is : read .long ≡ headLong shape
+    unfolding fieldsRead
+    head-is = ap (λ (x : FieldsRead). x .long) p
 
-    pub piece-headless : {r : Piece} → length b < head → r ≡ noPiece → r ≡ pieceIn layout b
+    values-are : read .values ≡ valuesOf shape b
+    unfolding fieldsRead
+    values-are = ap (λ (x : FieldsRead). x .values) p
+
+    allowed-is : read .allowed ≡ areAllowed (fields shape) (valuesOf shape b)
+    unfolding fieldsRead
+    allowed-is = ap (λ (x : FieldsRead). x .allowed) p
+
+    head-within : read .long ≤ pieceLong shape b
+    unfolding pieceLong
+    head-within = omega (arith, head-is)
+
+    pub piece-headless : {r : Piece} → length b < read .long → r ≡ noPiece → r ≡ pieceIn shape b
     piece-headless h e = too-long (omega (arith, head-within)) e
 
-    module _ {values : List ℕ} {rest : Rest} {follow : ℕ} (q : values ≡ valuesIn (fields layout) b) (o : rest ≡ restOf layout) (f : follow ≡ restLong rest values) where
-      long-is : head + follow ≡ pieceLong layout b
-      unfolding pieceLong headLong valuesOf
-      long-is = rw (p, f, o, q)
+    module _ {rest : Rest} {follow : ℕ} (o : rest ≡ restOf shape) (f : follow ≡ restLong rest (read .values)) where
+      long-is : read .long + follow ≡ pieceLong shape b
+      unfolding pieceLong
+      long-is = rw (head-is, f, o, values-are)
 
-      pub piece-short : {r : Piece} → length b - head < follow → r ≡ noPiece → r ≡ pieceIn layout b
+      pub piece-short : {r : Piece} → length b - read .long < follow → r ≡ noPiece → r ≡ pieceIn shape b
       piece-short h e = too-long (omega (arith, long-is)) e
 
-      module _ {allowed : Bool} (a : allowed ≡ areAllowed (fields layout) values) where
-        pub piece-denied : {r : Piece} → not allowed ≡ true → r ≡ noPiece → r ≡ pieceIn layout b
-        unfolding pieceIn isPiece valuesOf
-        piece-denied t e =
-            let denied : areAllowed (fields layout) (valuesIn (fields layout) b) ≡ false = rw q at (sym a ∙ not-true allowed t) in
-            split (leb (pieceLong layout b) (length b)) (λ s. e ∙ rw (s, denied)) (λ s. e ∙ rw s)
+      pub piece-denied : {r : Piece} → not (read .allowed) ≡ true → r ≡ noPiece → r ≡ pieceIn shape b
+      unfolding pieceIn isPiece
+      piece-denied t e =
+          let denied : areAllowed (fields shape) (valuesOf shape b) ≡ false = sym allowed-is ∙ not-true (read .allowed) t in
+          split (leb (pieceLong shape b) (length b)) (λ s. e ∙ rw (s, denied)) (λ s. e ∙ rw s)
 
-        pub piece-found : head ≤ length b → follow ≤ length b - head → not allowed ≡ false
-            → _≡_ {A = Piece} (record { fits = true; values = values; rest = head; long = head + follow }) (pieceIn layout b)
-        unfolding pieceIn isPiece valuesOf headLong
-        piece-found h k t =
-            let granted : areAllowed (fields layout) (valuesIn (fields layout) b) ≡ true = rw q at (sym a ∙ not-false allowed t) in
-            let within : pieceLong layout b ≤ length b = omega (arith, long-is) in
-            rw (long-is, le-leb (pieceLong layout b) (length b) within, granted, q, p)
+      pub piece-found : read .long ≤ length b → follow ≤ length b - read .long → not (read .allowed) ≡ false
+          → _≡_ {A = Piece} (record { fits = true; values = read .values; rest = read .long; long = read .long + follow }) (pieceIn shape b)
+      unfolding pieceIn isPiece
+      piece-found h k t =
+          let granted : areAllowed (fields shape) (valuesOf shape b) ≡ true = sym allowed-is ∙ not-false (read .allowed) t in
+          let within : pieceLong shape b ≤ length b = omega (arith, long-is) in
+          rw (long-is, le-leb (pieceLong shape b) (length b) within, granted, values-are, head-is)
 
 pub ruleset rules = (needs, value-past, value-said, piece-headless, piece-short, piece-denied, piece-found)

@@ -4,24 +4,18 @@ use mathlib.Core.Bool.{Bool, true, false, cond, _&&_}
 use mathlib.Core.List.{List, []}
 use lib.Dec.{eqb, leb}
 use lib.ListN.{length, getD, drop, replicate}
-use Rattle.formats.specs.declared.Layout.{Layout}
-use Rattle.formats.specs.declared.Layout.the-variants.{Plain, VersionPiece, ProcessPiece, OwnerPiece, PolicyPiece, ResetPiece}
+use Rattle.formats.specs.declared.Shape.{Shape}
+use Rattle.formats.specs.declared.Shape.the-variants.{Plain, VersionPiece, ProcessPiece, OwnerPiece, PolicyPiece, ResetPiece}
 use Rattle.formats.specs.declared.Part.{Part}
 use Rattle.formats.specs.declared.Part.the-variants.{VersionEntry, ProcessInfo, Owner, Policy, ResetElement}
 use Rattle.formats.specs.declared.Rest.{Rest}
 use Rattle.formats.specs.declared.Rest.the-variants.{Exactly, Said, SaidTo, Parts, Never}
 use Rattle.formats.specs.Formats.{restOf}
-use Rattle.fields.specs.Fields.{valueCount, fields, longOf, valuesIn, areAllowed}
+use Rattle.fields.specs.Fields.{valueCount, fields, headLong, valuesOf, areAllowed}
+use Rattle.pieces.specs.declared.PartRead.{PartRead}
 use Rattle.pieces.specs.declared.Piece.{Piece}
 
 -- ---- a piece at the front of bytes
-
--- what its fields say
-unfoldable pub valuesOf : Layout → List ℕ → List ℕ
-valuesOf layout b = valuesIn (fields layout) b
-
-unfoldable pub headLong : Layout → ℕ
-headLong layout = longOf (fields layout)
 
 -- how many bytes follow the fields of a piece
 unfoldable pub restLong : Rest → List ℕ → ℕ
@@ -31,32 +25,32 @@ restLong (SaidTo at limit) values = 0
 restLong (Parts part at) values = 0
 restLong Never values = 0
 
-unfoldable pub pieceLong : Layout → List ℕ → ℕ
-pieceLong layout b = headLong layout + restLong (restOf layout) (valuesOf layout b)
+unfoldable pub pieceLong : Shape → List ℕ → ℕ
+pieceLong shape b = headLong shape + restLong (restOf shape) (valuesOf shape b)
 
 -- "the length before the fields"
-unfoldable pub isPiece : Layout → List ℕ → Bool
-isPiece layout b = leb (pieceLong layout b) (length b) && areAllowed (fields layout) (valuesOf layout b)
+unfoldable pub isPiece : Shape → List ℕ → Bool
+isPiece shape b = leb (pieceLong shape b) (length b) && areAllowed (fields shape) (valuesOf shape b)
 
 -- where no piece stands, zeros are answered
 abbrev pub noPiece : Piece
 noPiece = record { fits = false; values = replicate valueCount 0; rest = 0; long = 0 }
 
-unfoldable pub pieceIn : Layout → List ℕ → Piece
-pieceIn layout b =
-    cond (isPiece layout b)
-    (record { fits = true; values = valuesOf layout b; rest = headLong layout; long = pieceLong layout b })
+unfoldable pub pieceIn : Shape → List ℕ → Piece
+pieceIn shape b =
+    cond (isPiece shape b)
+    (record { fits = true; values = valuesOf shape b; rest = headLong shape; long = pieceLong shape b })
     noPiece
 
 -- ---- a part at the front of bytes: its first piece, and the one behind it, which has no bytes where the part is one piece
-unfoldable pub first : Part → Layout
+unfoldable pub first : Part → Shape
 first VersionEntry = VersionPiece
 first ProcessInfo = ProcessPiece
 first Owner = OwnerPiece
 first Policy = OwnerPiece
 first ResetElement = OwnerPiece
 
-unfoldable pub second : Part → Layout
+unfoldable pub second : Part → Shape
 second VersionEntry = Plain
 second ProcessInfo = Plain
 second Owner = Plain
@@ -72,6 +66,10 @@ isPart part b = isPiece (first part) b && isPiece (second part) (behind part b)
 
 unfoldable pub partLong : Part → List ℕ → ℕ
 partLong part b = pieceLong (first part) b + pieceLong (second part) (behind part b)
+
+-- what is answered of it: whether it is one, and how long it is, 0 where it is none
+unfoldable pub partIn : Part → List ℕ → PartRead
+partIn part b = record { fits = isPart part b; long = cond (isPart part b) (partLong part b) 0 }
 
 -- so many parts, one after the other, and nothing behind them
 unfoldable pub areParts : Part → ℕ → List ℕ → Bool

@@ -1,10 +1,12 @@
-// A piece of a list, at the front of a slice: fields, and the bytes that they say.
+// What follows the fields of a message: bytes, or the parts of a list, tested where they lie. A part is one piece or two, each with fields and the bytes that
+// they say.
 ghost use mathlib.Core.Path.{_≡_};
 ghost use lib.ListN.{getD};
-ghost use Rattle.pieces.specs.Pieces.{restLong, noPiece, pieceIn};
+ghost use Rattle.pieces.specs.Pieces.{restLong, noPiece, pieceIn, first, second, partIn, areParts, fitsRest};
 use fields::VALUES;
-use formats::Layout;
+use formats::Part;
 use formats::Rest;
+use formats::Shape;
 
 // A piece at the front of a slice: what its fields say, where the bytes behind them begin, and where it ends. Where none stands there, all is 0.
 pub struct Piece {
@@ -14,10 +16,16 @@ pub struct Piece {
     pub long: usize,
 }
 
+// Whether a part stands at the front of a slice, and how long it is.
+pub struct PartRead {
+    pub fits: bool,
+    pub long: usize,
+}
+
 // ---- a piece
 
 // The value at a place; 0 where there is none.
-pub fn value_at(values: [u64; VALUES], at: usize) -> u64
+fn value_at(values: [u64; VALUES], at: usize) -> u64
     ensures { λ r. ⌜ r ≡ getD values at 0 ⌝ }
 {
     if at < VALUES { values[at] } else { 0 }
@@ -47,19 +55,20 @@ fn no_piece() -> Piece
     }
 }
 
-pub fn piece_in(bytes: &[u8], layout: Layout) -> Piece
-    ensures { λ r. ⌜ r ≡ pieceIn layout (now (bytes .entry)) ⌝ }
+pub fn piece_in(bytes: &[u8], shape: Shape) -> Piece
+    ensures { λ r. ⌜ r ≡ pieceIn shape (now (bytes .entry)) ⌝ }
 {
-    let head = fields::fields_length(layout);
+    let read = fields::read_fields(bytes, shape);
+    let head = read.long;
+    let values = read.values;
     if bytes.len() < head {
         return no_piece();
     }
-    let values = fields::values_in(bytes, layout);
-    let follow = rest_length(formats::rest_of(layout), values);
+    let follow = rest_length(formats::rest_of(shape), values);
     if ((bytes.len() - head) as u64) < follow {
         return no_piece();
     }
-    if !fields::are_allowed(layout, values) {
+    if !read.allowed {
         return no_piece();
     }
     Piece {
@@ -67,5 +76,90 @@ pub fn piece_in(bytes: &[u8], layout: Layout) -> Piece
         values: values,
         rest: head,
         long: head + (follow as usize),
+    }
+}
+
+// ---- a part
+
+fn first_of(part: Part) -> Shape
+    ensures { λ r. ⌜ r ≡ first part ⌝ }
+{
+    match part {
+        Part::VersionEntry => Shape::VersionPiece,
+        Part::ProcessInfo => Shape::ProcessPiece,
+        Part::Owner => Shape::OwnerPiece,
+        Part::Policy => Shape::OwnerPiece,
+        Part::ResetElement => Shape::OwnerPiece,
+    }
+}
+
+// The piece behind the first; it has no bytes where the part is one piece.
+fn second_of(part: Part) -> Shape
+    ensures { λ r. ⌜ r ≡ second part ⌝ }
+{
+    match part {
+        Part::VersionEntry => Shape::Plain,
+        Part::ProcessInfo => Shape::Plain,
+        Part::Owner => Shape::Plain,
+        Part::Policy => Shape::PolicyPiece,
+        Part::ResetElement => Shape::ResetPiece,
+    }
+}
+
+fn part_in(bytes: &[u8], part: Part) -> PartRead
+    ensures { λ r. ⌜ r ≡ partIn part (now (bytes .entry)) ⌝ }
+{
+    let front = piece_in(bytes, first_of(part));
+    if !front.fits {
+        return PartRead {
+            fits: false,
+            long: 0,
+        };
+    }
+    let start = front.long;
+    let end = bytes.len();
+    let behind = piece_in(&bytes[start..end], second_of(part));
+    if !behind.fits {
+        return PartRead {
+            fits: false,
+            long: 0,
+        };
+    }
+    PartRead {
+        fits: true,
+        long: start + behind.long,
+    }
+}
+
+// Whether a slice is so many parts, one after the other. Each step goes on where a part ends, so the time is that of the bytes, whatever the count says.
+fn are_parts(bytes: &[u8], part: Part, count: u64) -> bool
+    ensures { λ r. ⌜ r ≡ areParts part count (now (bytes .entry)) ⌝ }
+{
+    let end = bytes.len();
+    let mut start: usize = 0;
+    let mut left = count;
+    while 0 < left {
+        let found = part_in(&bytes[start..end], part);
+        if !found.fits {
+            return false;
+        }
+        start += found.long;
+        left -= 1;
+    }
+    start == end
+}
+
+// ---- what follows the fields of a message
+
+pub fn fits_rest(bytes: &[u8], rest: Rest, values: [u64; VALUES]) -> bool
+    ensures { λ r. ⌜ r ≡ fitsRest rest values (now (bytes .entry)) ⌝ }
+{
+    match rest {
+        Rest::Exactly(n) => bytes.len() == n,
+        Rest::Said(at) => bytes.len() as u64 == value_at(values, at),
+        Rest::SaidTo(at, limit) => value_at(values, at) <= bytes.len() as u64
+            && bytes.len() <= limit,
+        Rest::Parts(part, at) => are_parts(bytes, part, value_at(values, at)),
+        Rest::Never => false,
     }
 }

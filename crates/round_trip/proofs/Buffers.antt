@@ -1,41 +1,28 @@
 -- The buffer that a writer is lent: what it wrote there is read, and a refused one wrote nothing. Assumes nothing.
-use Prim.Native.Nat.{ℕ, _≤_}
+use Prim.Native.Nat.{ℕ}
 use mathlib.Core.Path.{_≡_}
 use mathlib.Core.Bool.{Bool, true}
 use mathlib.Core.List.{List, _++_}
 use native.Mathlib.Nat.{zero-add}
-use lib.Dec.{ltb}
-use borrow.Author.Tests.{eq-eqb, ne-eqb, ltb-false}
+use borrow.Author.Tests.{eq-eqb, ne-eqb}
 use lib.ListN.{length, take, drop}
 use lib.Seq.{take-at, drop-at}
 use Rattle.rows.proofs.Over.{over-room}
 use Rattle.claims.specs.Numbers as No
-use Rattle.claims.specs.Numbers.{_when_, _unless_, _▸_}
-use Rattle.claims.proofs.Laws.{clear-first, clear-rest, clear-when, clear-unless}
-use Rattle.formats.specs.declared.Layout.{Layout}
-use Rattle.messages.specs.Messages.{bodyBytes, messageBytes, carries, messageLong, writeNumber, writtenOver, carriesPiece, bodyLong, writePieceNumber}
+use Rattle.formats.specs.declared.Shape.{Shape}
+use Rattle.fields_write.specs.Bodies.{bodyBytes, bodyLong, numberFor, given}
+use Rattle.fields_write.proofs.Laws.{accepted-room, accepted-carried}
+use Rattle.messages_write.specs.Written.{messageBytes, carries, messageLong, writeNumber, writtenOver, carriesPiece, writePieceNumber}
 use Rattle.round_trip.specs.RoundTrip.{ReadsAs, PieceReadsAs, bufferAfter, bufferAfterPiece}
 use Rattle.round_trip.proofs.Bodies.{piece-is-read}
 use Rattle.round_trip.proofs.Messages.{length-message, written-is-read}
 
--- ---- both writers: the room first, then what can be carried
-abbrev asked : ℕ → Bool → List ℕ → ℕ
-asked long carried old = No.room when ltb (length old) long ▸ No.message unless carried
-
-module _ (long : ℕ) (carried : Bool) (old : List ℕ) (done : asked long carried old ≡ No.done) where
-  has-room : long ≤ length old
-  has-room =
-      ltb-false (length old) long
-      (clear-when No.room _ (ltb (length old) long) (clear-first (No.room when ltb (length old) long) (No.message unless carried) done))
-
-  is-carried : carried ≡ true
-  is-carried = clear-unless No.message _ carried (clear-rest (No.room when ltb (length old) long) (No.message unless carried) done)
-
-  after : (bytes : List ℕ) → writtenOver (asked long carried old) long bytes old ≡ bytes ++ drop long old
-  unfolding writtenOver
-  after bytes =
-      rw (eq-eqb (asked long carried old) No.done done)
-      (rw zero-add at (over-room 0 long bytes old (rw zero-add has-room)))
+-- ---- both writers
+after : (long : ℕ) (carried : Bool) (old : List ℕ) → numberFor long carried old ≡ No.done → (bytes : List ℕ) → writtenOver (numberFor long carried old) long bytes old ≡ bytes ++ drop long old
+unfolding writtenOver given
+after long carried old done bytes =
+    rw (eq-eqb (numberFor long carried old) No.done done)
+    (rw zero-add at (over-room 0 long bytes old (rw zero-add (accepted-room long carried old done))))
 
 -- ---- a message
 module _ (code : ℕ) (values rest old : List ℕ) where
@@ -49,7 +36,7 @@ module _ (code : ℕ) (values rest old : List ℕ) where
 
     done-carries : carries code values rest ≡ true
     unfolding writeNumber
-    done-carries = is-carried long (carries code values rest) old done
+    done-carries = accepted-carried long (carries code values rest) old done
 
     -- the front of the buffer is read with the values that were written
     pub buffer-is-read : length values ≡ 7 → ReadsAs code values rest (take long (bufferAfter code values rest old))
@@ -63,23 +50,23 @@ module _ (code : ℕ) (values rest old : List ℕ) where
 
   -- "a refused message writes nothing"
   pub refused-writes-nothing : (writeNumber code values rest old ≡ No.done → ⊥) → bufferAfter code values rest old ≡ old
-  unfolding bufferAfter writtenOver
+  unfolding bufferAfter writtenOver given
   refused-writes-nothing h = rw (ne-eqb (writeNumber code values rest old) No.done h)
 
 -- ---- a piece
-module _ (layout : Layout) (values rest old : List ℕ) where
-  module _ (done : writePieceNumber layout values rest old ≡ No.done) where
-    piece-buffer-is : bufferAfterPiece layout values rest old ≡ bodyBytes layout values rest ++ drop (bodyLong layout rest) old
+module _ (shape : Shape) (values rest old : List ℕ) where
+  module _ (done : writePieceNumber shape values rest old ≡ No.done) where
+    piece-buffer-is : bufferAfterPiece shape values rest old ≡ bodyBytes shape values rest ++ drop (bodyLong shape rest) old
     unfolding bufferAfterPiece writePieceNumber
-    piece-buffer-is = after (bodyLong layout rest) (carriesPiece layout values rest) old done (bodyBytes layout values rest)
+    piece-buffer-is = after (bodyLong shape rest) (carriesPiece shape values rest) old done (bodyBytes shape values rest)
 
-    piece-carries : carriesPiece layout values rest ≡ true
+    piece-carries : carriesPiece shape values rest ≡ true
     unfolding writePieceNumber
-    piece-carries = is-carried (bodyLong layout rest) (carriesPiece layout values rest) old done
+    piece-carries = accepted-carried (bodyLong shape rest) (carriesPiece shape values rest) old done
 
-    pub piece-buffer-is-read : length values ≡ 7 → PieceReadsAs layout values rest (bufferAfterPiece layout values rest old)
-    piece-buffer-is-read seven = rw piece-buffer-is (piece-is-read layout values rest (drop (bodyLong layout rest) old) seven piece-carries)
+    pub piece-buffer-is-read : length values ≡ 7 → PieceReadsAs shape values rest (bufferAfterPiece shape values rest old)
+    piece-buffer-is-read seven = rw piece-buffer-is (piece-is-read shape values rest (drop (bodyLong shape rest) old) seven piece-carries)
 
-  pub refused-piece-writes-nothing : (writePieceNumber layout values rest old ≡ No.done → ⊥) → bufferAfterPiece layout values rest old ≡ old
-  unfolding bufferAfterPiece writtenOver
-  refused-piece-writes-nothing h = rw (ne-eqb (writePieceNumber layout values rest old) No.done h)
+  pub refused-piece-writes-nothing : (writePieceNumber shape values rest old ≡ No.done → ⊥) → bufferAfterPiece shape values rest old ≡ old
+  unfolding bufferAfterPiece writtenOver given
+  refused-piece-writes-nothing h = rw (ne-eqb (writePieceNumber shape values rest old) No.done h)

@@ -11,12 +11,14 @@ use Rattle.lists.specs.Lists.{any, padded}
 use Rattle.rows.specs.Bytes.{bytesOf, numberOf}
 use Rattle.formats.specs.Formats.{formOf, meant, isAllowed, fieldsOf, restOf}
 use Rattle.formats.proofs.ByName.{Held, Line, messageLines, pieceLines}
-use Rattle.fields.specs.Fields.{fields, longOf, valuesIn, areAllowed, fieldBytes}
+use Rattle.fields.specs.Fields.{fields, longOf, valuesIn, areAllowed, fieldBytes, valuesOf, headLong}
 use Rattle.pieces.specs.declared.Piece.{Piece}
-use Rattle.pieces.specs.Pieces.{valuesOf, headLong, restLong, pieceLong, isPiece, pieceIn, first, second, behind, isPart, partLong, areParts, fitsRest}
-use Rattle.message_codes.specs.Codes.{find, operations, errors, requests, responses, layoutOf}
+use Rattle.pieces.specs.Pieces.{restLong, pieceLong, isPiece, pieceIn, first, second, behind, isPart, partLong, areParts, fitsRest}
+use Rattle.message_codes.specs.Codes.{find, operations, errors, requests, responses, shapeOf}
 use Rattle.messages.specs.declared.MessageRead.{MessageRead}
-use Rattle.messages.specs.Messages.{layoutIn, headOf, messageValues, isMessage, readMessage, bodyBytes, layoutFor, messageBytes, carries, carriesPiece}
+use Rattle.fields_write.specs.Bodies.{bodyBytes}
+use Rattle.messages_write.specs.Written.{shapeFor, messageBytes, carries, carriesPiece}
+use Rattle.messages.specs.Messages.{shapeIn, headOf, messageValues, isMessage, readMessage}
 
 -- ---- the message of a line, and what reading it has to answer
 abbrev pub bytes : Line → List ℕ
@@ -42,13 +44,13 @@ anyRefused taken at (h ∷ hs) = any (taken at) (h .refused) || anyRefused taken
 
 -- ---- of a piece
 abbrev pub pieceBytesOf : Line → List ℕ
-pieceBytesOf l = bodyBytes (l .layout) (l .values) (l .follows)
+pieceBytesOf l = bodyBytes (l .shape) (l .values) (l .follows)
 
 abbrev pub pieceAnswer : Line → Piece
 pieceAnswer l = record { fits = true; values = l .values; rest = l .restBegins; long = l .long }
 
 abbrev pub pieceWrittenWith : Line → ℕ → ℕ → Bool
-pieceWrittenWith l at value = carriesPiece (l .layout) (set (l .values) at value) (l .follows)
+pieceWrittenWith l at value = carriesPiece (l .shape) (set (l .values) at value) (l .follows)
 
 pub record ByName : Type 0 where
   -- carried, read back, and in so many bytes
@@ -63,13 +65,13 @@ pub record ByName : Type 0 where
   pub beside-not-written : map (λ (l : Line). anyRefused (writtenWith l) 0 (l .fields)) messageLines ≡ replicate 46 false
   pub beside-not-read : map (λ (l : Line). anyRefused (readWith l) 0 (l .fields)) messageLines ≡ replicate 46 false
   -- the pieces
-  pub piece-carried : map (λ (l : Line). carriesPiece (l .layout) (l .values) (l .follows)) pieceLines ≡ replicate 5 true
-  pub piece-read-back : map (λ (l : Line). pieceIn (l .layout) (pieceBytesOf l)) pieceLines ≡ map pieceAnswer pieceLines
-  pub piece-shorter-refused : map (λ (l : Line). pieceIn (l .layout) (take (l .long - 1) (pieceBytesOf l)) .fits) pieceLines ≡ replicate 5 false
+  pub piece-carried : map (λ (l : Line). carriesPiece (l .shape) (l .values) (l .follows)) pieceLines ≡ replicate 5 true
+  pub piece-read-back : map (λ (l : Line). pieceIn (l .shape) (pieceBytesOf l)) pieceLines ≡ map pieceAnswer pieceLines
+  pub piece-shorter-refused : map (λ (l : Line). pieceIn (l .shape) (take (l .long - 1) (pieceBytesOf l)) .fits) pieceLines ≡ replicate 5 false
   pub piece-beside-not-written : map (λ (l : Line). anyRefused (pieceWrittenWith l) 0 (l .fields)) pieceLines ≡ replicate 5 false
 
 pub by-name : ByName
-unfolding any padded bytesOf numberOf formOf meant isAllowed fieldsOf restOf fields longOf valuesIn areAllowed fieldBytes valuesOf headLong restLong pieceLong isPiece pieceIn first second behind isPart partLong areParts fitsRest find operations errors requests responses layoutOf layoutIn headOf messageValues isMessage readMessage bodyBytes layoutFor messageBytes carries carriesPiece
+unfolding any padded bytesOf numberOf formOf meant isAllowed fieldsOf restOf fields longOf valuesIn areAllowed fieldBytes valuesOf headLong restLong pieceLong isPiece pieceIn first second behind isPart partLong areParts fitsRest find operations errors requests responses shapeOf shapeIn headOf messageValues isMessage readMessage bodyBytes shapeFor messageBytes carries carriesPiece
 by-name =
     record {
       carried = refl;

@@ -12,12 +12,15 @@ use Rattle.claims.specs.Numbers as No
 use Rattle.claims.specs.Numbers.{_unless_, _▸_}
 use Rattle.claims.proofs.Laws.{clear-first, clear-rest, clear-unless, pass, unless-true}
 use Rattle.lists.proofs.Tests.{and-left, and-right}
-use Rattle.pieces.specs.Pieces.{headLong, valuesOf, pieceLong, isPiece, pieceIn}
+use Rattle.fields.specs.Fields.{headLong, valuesOf}
+use Rattle.pieces.specs.Pieces.{pieceLong, isPiece, pieceIn}
 use Rattle.pieces.specs.declared.Piece.{Piece}
 use Rattle.pieces.proofs.Laws.{piece-taken, piece-fits}
 use Rattle.message_codes.specs.Codes.{pieceOf}
-use Rattle.messages.specs.Messages.{readMessage, messageBytes, messageLong, writeNumber, bodyBytes, bodyLong, writePieceNumber}
-use Rattle.entries_wire.specs.Entries.{areSeven, kinds, isPieceArgument, readMessageNumber, writeMessageNumber, readPieceNumber, putPieceNumber, given, ReadEntry, PieceEntry, WriteEntry}
+use Rattle.fields_write.specs.Bodies.{bodyBytes, bodyLong, given}
+use Rattle.messages_write.specs.Written.{messageBytes, messageLong, writeNumber, writePieceNumber}
+use Rattle.messages.specs.Messages.{readMessage}
+use Rattle.entries_wire.specs.Entries.{areSeven, kinds, isPieceArgument, readMessageNumber, writeMessageNumber, readPieceNumber, putPieceNumber, ReadEntry, PieceEntry, WriteEntry}
 use Rattle.round_trip.specs.RoundTrip.{ReadsAs, PieceReadsAs, bufferAfter, bufferAfterPiece}
 use Rattle.round_trip.proofs.Buffers.{buffer-is-read, piece-buffer-is-read}
 

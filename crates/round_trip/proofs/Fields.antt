@@ -1,4 +1,4 @@
--- The fields of every layout: what was written for them is read. Assumes nothing.
+-- The fields of every shape: what was written for them is read. Assumes nothing.
 use Prim.Native.Nat.{ℕ, _^_, _<_, _≤_}
 use mathlib.Core.Path.{_≡_, refl, ap}
 use mathlib.Core.Bool.{true}
@@ -14,7 +14,7 @@ use Rattle.rows.specs.Bytes.{bytesOf, numberOf}
 use Rattle.rows.proofs.Bytes.{length-bytes, number-back}
 use Rattle.formats.specs.declared.Field.{Field}
 use Rattle.formats.specs.declared.Field.the-variants.{Unused}
-use Rattle.formats.specs.declared.Layout.{Layout}
+use Rattle.formats.specs.declared.Shape.{Shape}
 use Rattle.formats.specs.Formats.{formOf, meant, isAllowed, fieldsOf}
 use Rattle.formats.proofs.Laws.{form-sound, bits-sound}
 use Rattle.fields.specs.Fields.{fields, valuesIn, areAllowed, fieldBytes}
@@ -41,7 +41,7 @@ module _ (f : Field) (v : ℕ) (h : isAllowed (formOf f) v ≡ true) where
       rw (take-at (bytesOf (formOf f .width) v) y (formOf f .width) (length-bytes (formOf f .width) v), number-back (formOf f .width) v value-fits)
       means-itself
 
--- ---- the fields of a layout
+-- ---- the fields of a shape
 pub values-back : (fs : List Field) (vs y : List ℕ) → length vs ≡ length fs → areAllowed fs vs ≡ true → valuesIn fs (fieldBytes fs vs ++ y) ≡ vs
 unfolding valuesIn fieldBytes areAllowed
 values-back [] [] y e h = refl
@@ -53,8 +53,8 @@ values-back (f ∷ fs) (v ∷ vs) y e h =
     rw (append-assoc bytes (fieldBytes fs vs) y, value-back f v (and-left (isAllowed (formOf f) v) (areAllowed fs vs) h) (fieldBytes fs vs ++ y), drop-at bytes (fieldBytes fs vs ++ y) (formOf f .width) (length-bytes (formOf f .width) v), q)
 
 -- ---- a first field of one byte: the first byte is the first value
-pub first-field : (layout : Layout) → getD (fields layout) 0 Unused ≡ getD (fieldsOf layout) 0 Unused
-first-field layout = ap (λ (fs : List Field). getD fs 0 Unused) (fields-from layout 0 (omega arith))
+pub first-field : (shape : Shape) → getD (fields shape) 0 Unused ≡ getD (fieldsOf shape) 0 Unused
+first-field shape = ap (λ (fs : List Field). getD fs 0 Unused) (fields-from shape 0 (omega arith))
 
 pub first-byte : (fs : List Field) (vs y : List ℕ) → formOf (getD fs 0 Unused) .width ≡ 1 → 0 < length fs → areAllowed fs vs ≡ true → getD (fieldBytes fs vs ++ y) 0 0 ≡ getD vs 0 0
 unfolding fieldBytes areAllowed bytesOf

@@ -13,28 +13,28 @@ use Rattle.formats.specs.declared.Rest.the-variants.{Exactly, Said, SaidTo}
 use Rattle.formats.specs.Formats.{formOf, isAllowed, fieldsOf, restOf}
 use Rattle.fields.specs.Fields.{fields, areAllowed}
 use Rattle.pieces.specs.Pieces.{fitsRest}
-use Rattle.message_codes.specs.Codes.{find, errors, responses, layoutOf}
-use Rattle.messages.specs.Messages.{layoutFor, messageBytes, carries}
+use Rattle.message_codes.specs.Codes.{find, errors, responses, shapeOf}
+use Rattle.messages_write.specs.Written.{shapeFor, messageBytes, carries}
 use Rattle.round_trip.specs.RoundTrip.{ReadsAs}
 use Rattle.round_trip.proofs.Messages.{written-is-read}
 
-module _ (code : ℕ) (values rest : List ℕ) (seven : length values ≡ 7) (allowed : areAllowed (fields (layoutFor code values)) values ≡ true) where
-  fitting-is-read : fitsRest (restOf (layoutFor code values)) values rest ≡ true → ReadsAs code values rest (messageBytes code values rest)
+module _ (code : ℕ) (values rest : List ℕ) (seven : length values ≡ 7) (allowed : areAllowed (fields (shapeFor code values)) values ≡ true) where
+  fitting-is-read : fitsRest (restOf (shapeFor code values)) values rest ≡ true → ReadsAs code values rest (messageBytes code values rest)
   unfolding carries
   fitting-is-read h = written-is-read code values rest seven (and-both allowed h)
 
-  -- a fixed layout: so many bytes, most often none
-  pub fixed-is-read : (n : ℕ) → restOf (layoutFor code values) ≡ Exactly n → length rest ≡ n → ReadsAs code values rest (messageBytes code values rest)
+  -- a fixed shape: so many bytes, most often none
+  pub fixed-is-read : (n : ℕ) → restOf (shapeFor code values) ≡ Exactly n → length rest ≡ n → ReadsAs code values rest (messageBytes code values rest)
   unfolding fitsRest
   fixed-is-read n kind e = fitting-is-read (rw kind (eq-eqb (length rest) n e))
 
   -- as many bytes as a value says
-  pub said-is-read : (at : ℕ) → restOf (layoutFor code values) ≡ Said at → length rest ≡ getD values at 0 → ReadsAs code values rest (messageBytes code values rest)
+  pub said-is-read : (at : ℕ) → restOf (shapeFor code values) ≡ Said at → length rest ≡ getD values at 0 → ReadsAs code values rest (messageBytes code values rest)
   unfolding fitsRest
   said-is-read at kind e = fitting-is-read (rw kind (eq-eqb (length rest) (getD values at 0) e))
 
   -- at least as many, and at most a number
-  pub said-to-is-read : (at limit : ℕ) → restOf (layoutFor code values) ≡ SaidTo at limit → getD values at 0 ≤ length rest → length rest ≤ limit → ReadsAs code values rest (messageBytes code values rest)
+  pub said-to-is-read : (at limit : ℕ) → restOf (shapeFor code values) ≡ SaidTo at limit → getD values at 0 ≤ length rest → length rest ≤ limit → ReadsAs code values rest (messageBytes code values rest)
   unfolding fitsRest
   said-to-is-read at limit kind low high =
       fitting-is-read (rw kind (and-both (le-leb (getD values at 0) (length rest) low) (le-leb (length rest) limit high)))
@@ -45,7 +45,7 @@ module _ (told : ℕ) (id more : List ℕ) (small : told < 256) (short : length 
   errorValues = 0xff ∷ told ∷ length id ∷ replicate 4 0
 
   pub vendor-error-is-read : ReadsAs 0x7f errorValues (id ++ more) (messageBytes 0x7f errorValues (id ++ more))
-  unfolding layoutFor layoutOf find responses errors fields padded fieldsOf areAllowed isAllowed formOf restOf
+  unfolding shapeFor shapeOf find responses errors fields padded fieldsOf areAllowed isAllowed formOf restOf
   vendor-error-is-read =
       let long : length (id ++ more) ≡ length id + length more = length-append id more in
       said-to-is-read 0x7f errorValues (id ++ more) refl

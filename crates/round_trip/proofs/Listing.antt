@@ -19,14 +19,15 @@ use Rattle.names.proofs.Laws.{RowFits}
 use Rattle.calls.specs.Listing.{listing}
 use Rattle.wire.specs.Wire.{head, request}
 use Rattle.formats.specs.declared.Field.{Field}
-use Rattle.formats.specs.declared.Layout.{Layout}
-use Rattle.formats.specs.declared.Layout.the-variants.{OneCredential, ProcessList}
+use Rattle.formats.specs.declared.Shape.{Shape}
+use Rattle.formats.specs.declared.Shape.the-variants.{OneCredential, ProcessList}
 use Rattle.formats.specs.declared.Part.the-variants.{ProcessInfo}
 use Rattle.formats.specs.Formats.{between, formOf, isAllowed, fieldsOf, restOf}
 use Rattle.fields.specs.Fields.{fields, areAllowed, fieldBytes}
 use Rattle.pieces.specs.Pieces.{restLong, first, second, fitsRest}
-use Rattle.message_codes.specs.Codes.{find, requests, responses, layoutOf}
-use Rattle.messages.specs.Messages.{bodyBytes, layoutFor, messageBytes, carries, carriesPiece}
+use Rattle.message_codes.specs.Codes.{find, requests, responses, shapeOf}
+use Rattle.fields_write.specs.Bodies.{bodyBytes}
+use Rattle.messages_write.specs.Written.{shapeFor, messageBytes, carries, carriesPiece}
 use Rattle.round_trip.specs.Listing.{alone, rowHeld}
 use Rattle.round_trip.specs.Parts.{pieceBytes, partBytes, PartCarried}
 use Rattle.round_trip.specs.RoundTrip.{ReadsAs, ListReadsAs}
@@ -35,20 +36,20 @@ use Rattle.round_trip.proofs.Parts.{list-carried, list-is-read}
 
 -- ---- written: the same bytes
 pub request-is : (credential : ℕ) → request credential ≡ messageBytes 0x8e (alone credential) []
-unfolding request head messageBytes bodyBytes layoutFor layoutOf find requests fields padded fieldsOf fieldBytes formOf bytesOf
+unfolding request head messageBytes bodyBytes shapeFor shapeOf find requests fields padded fieldsOf fieldBytes formOf bytesOf
 request-is credential = refl
 
 pub listing-is : (l : List Row) → listing l ≡ messageBytes 0x0e (alone (length l)) (join (map rowBytes l))
-unfolding listing messageBytes bodyBytes layoutFor layoutOf find responses fields padded fieldsOf fieldBytes formOf bytesOf
+unfolding listing messageBytes bodyBytes shapeFor shapeOf find responses fields padded fieldsOf fieldBytes formOf bytesOf
 listing-is l = refl
 
 -- a number of two bytes alone: every one of them may stand there
-pub one-allowed : (layout : Layout) (f : Field) (n : ℕ) → formOf f ≡ between 2 0 65535 → fieldsOf layout ≡ f ∷ [] → n < 65536 → areAllowed (fields layout) (alone n) ≡ true
+pub one-allowed : (shape : Shape) (f : Field) (n : ℕ) → formOf f ≡ between 2 0 65535 → fieldsOf shape ≡ f ∷ [] → n < 65536 → areAllowed (fields shape) (alone n) ≡ true
 unfolding fields padded areAllowed isAllowed formOf
-one-allowed layout f n two one h = rw (one, two, le-leb 0 n (omega arith), le-leb n 65535 (omega arith))
+one-allowed shape f n two one h = rw (one, two, le-leb 0 n (omega arith), le-leb n 65535 (omega arith))
 
 pub request-carried : (credential : ℕ) → credential < 65536 → carries 0x8e (alone credential) [] ≡ true
-unfolding carries layoutFor layoutOf find requests restOf fitsRest formOf fieldsOf
+unfolding carries shapeFor shapeOf find requests restOf fitsRest formOf fieldsOf
 request-carried credential h = and-both (one-allowed OneCredential _ credential refl refl h) refl
 
 -- "what they promised stays promised": the request that is written is read with its credential
@@ -92,13 +93,13 @@ rows-carried (each-cons {x} {l} v w) = each-cons (row-carried x v) (rows-carried
 
 module _ (l : List Row) (w : Each RowFits l) (small : length l ≤ 65535) where
   pub listing-is-read : ListReadsAs 0x0e (alone (length l)) ProcessInfo 0 (map rowHeld l) (listing l)
-  unfolding layoutFor layoutOf find responses restOf formOf fieldsOf
+  unfolding shapeFor shapeOf find responses restOf formOf fieldsOf
   listing-is-read =
       rw (listing-is l, rows-are l)
       (list-is-read 0x0e (alone (length l)) ProcessInfo 0 (map rowHeld l) refl (sym (length-map l rowHeld)) (rows-carried w) (one-allowed ProcessList _ (length l) refl refl (omega arith)) refl)
 
   pub listing-carried : carries 0x0e (alone (length l)) (join (map rowBytes l)) ≡ true
-  unfolding layoutFor layoutOf find responses restOf formOf fieldsOf
+  unfolding shapeFor shapeOf find responses restOf formOf fieldsOf
   listing-carried =
       rw (rows-are l)
       (list-carried 0x0e (alone (length l)) ProcessInfo 0 (map rowHeld l) refl (sym (length-map l rowHeld)) (rows-carried w) (one-allowed ProcessList _ (length l) refl refl (omega arith)))

@@ -24,14 +24,14 @@ use Rattle.calls.specs.Listing.{messageLength}
 use Rattle.wire.specs.Wire.{isHeaded, headNumber, requestNumber, readRequest, isListing, countNumber, readCount, rowPart, rowNumber, readRowAt}
 use Rattle.wire.specs.declared.CountRead.{CountRead}
 use Rattle.formats.specs.declared.Field.{Field}
-use Rattle.formats.specs.declared.Layout.{Layout}
-use Rattle.formats.specs.declared.Layout.the-variants.{OneCredential, ProcessList}
+use Rattle.formats.specs.declared.Shape.{Shape}
+use Rattle.formats.specs.declared.Shape.the-variants.{OneCredential, ProcessList}
 use Rattle.formats.specs.declared.Part.the-variants.{ProcessInfo}
 use Rattle.formats.specs.Formats.{between, formOf, meant, isAllowed, fieldsOf, restOf}
-use Rattle.fields.specs.Fields.{fields, longOf, valuesIn, areAllowed}
-use Rattle.pieces.specs.Pieces.{valuesOf, headLong, restLong, pieceLong, isPiece, first, second, behind, isPart, partLong, areParts, fitsRest}
-use Rattle.message_codes.specs.Codes.{find, requests, responses, layoutOf}
-use Rattle.messages.specs.Messages.{layoutIn, headOf, messageValues, isMessage, readMessage}
+use Rattle.fields.specs.Fields.{fields, longOf, valuesIn, areAllowed, valuesOf, headLong}
+use Rattle.pieces.specs.Pieces.{restLong, pieceLong, isPiece, first, second, behind, isPart, partLong, areParts, fitsRest}
+use Rattle.message_codes.specs.Codes.{find, requests, responses, shapeOf}
+use Rattle.messages.specs.Messages.{shapeIn, headOf, messageValues, isMessage, readMessage}
 use Rattle.round_trip.specs.Listing.{alone, rowHeld}
 use Rattle.round_trip.specs.Parts.{PartHeld, pieceHeldIn, partHeldIn, partsIn}
 use Rattle.round_trip.proofs.Listing.{one-allowed}
@@ -43,19 +43,19 @@ same-test false true f g = g refl
 same-test false false f g = refl
 
 -- what both begin with: a number of two bytes, which every two bytes say
-module _ (layout : Layout) (f : Field) (two : formOf f ≡ between 2 0 65535) (one : fieldsOf layout ≡ f ∷ []) (b : List ℕ) where
-  one-value : valuesOf layout (drop 2 b) ≡ alone (headNumber b)
+module _ (shape : Shape) (f : Field) (two : formOf f ≡ between 2 0 65535) (one : fieldsOf shape ≡ f ∷ []) (b : List ℕ) where
+  one-value : valuesOf shape (drop 2 b) ≡ alone (headNumber b)
   unfolding valuesOf fields padded valuesIn meant formOf headNumber numberAt numberOf
   one-value = rw (one, two)
 
-  one-head : headOf layout ≡ 4
+  one-head : headOf shape ≡ 4
   unfolding headOf headLong fields padded longOf formOf
   one-head = rw (one, two)
 
-  one-message : Bytes b → layoutIn b ≡ layout → isMessage b ≡ (leb 4 (length b) && fitsRest (restOf layout) (alone (headNumber b)) (drop 4 b))
+  one-message : Bytes b → shapeIn b ≡ shape → isMessage b ≡ (leb 4 (length b) && fitsRest (restOf shape) (alone (headNumber b)) (drop 4 b))
   unfolding isMessage messageValues headNumber
   one-message h e =
-      rw (e, one-value, one-head, one-allowed layout f (headNumber b) two one (number-low 2 2 b h), and-true)
+      rw (e, one-value, one-head, one-allowed shape f (headNumber b) two one (number-low 2 2 b h), and-true)
 
 -- "the length before the fields": four bytes and as many more
 exact : (n more : ℕ) → (leb 4 n && eqb (n - 4) more) ≡ eqb n (4 + more)
@@ -130,32 +130,32 @@ part-at (suc n) (suc at) b none h =
 
 module _ (b : List ℕ) (h : Bytes b) where
   module _ (code : getD b 0 0 ≡ 0x8e) where
-    request-layout : layoutIn b ≡ OneCredential
-    unfolding layoutIn layoutOf find requests
-    request-layout = rw code
+    request-shape : shapeIn b ≡ OneCredential
+    unfolding shapeIn shapeOf find requests
+    request-shape = rw code
 
     request-message : isMessage b ≡ isHeaded 0x8e 4 b
     unfolding isHeaded fitsRest restOf formOf fieldsOf
     request-message =
-        one-message OneCredential _ refl refl b h request-layout
+        one-message OneCredential _ refl refl b h request-shape
         ∙ rw (code, length-drop, exact (length b) 0, and-true)
 
     pub request-as : readRequest b ≡ record { number = readMessage b .number; credential = getD (readMessage b .values) 0 0 }
     unfolding readRequest requestNumber readMessage messageValues _unless_ formOf fieldsOf
     request-as =
         split (isHeaded 0x8e 4 b)
-        (λ t. rw (request-message, t, request-layout, one-value OneCredential _ refl refl b))
+        (λ t. rw (request-message, t, request-shape, one-value OneCredential _ refl refl b))
         (λ t. rw (request-message, t))
 
   module _ (code : getD b 0 0 ≡ 0x0e) where
-    listing-layout : layoutIn b ≡ ProcessList
-    unfolding layoutIn layoutOf find responses
-    listing-layout = rw code
+    listing-shape : shapeIn b ≡ ProcessList
+    unfolding shapeIn shapeOf find responses
+    listing-shape = rw code
 
     listing-message : isMessage b ≡ isListing b
     unfolding isListing isHeaded messageLength fitsRest restOf formOf fieldsOf
     listing-message =
-        one-message ProcessList _ refl refl b h listing-layout
+        one-message ProcessList _ refl refl b h listing-shape
         ∙ rw (code, rows-parts (headNumber b) (drop 4 b) (bytes-drop 4 b h), length-drop, ← exact (length b) (51 * headNumber b))
         (simp (and-true, and-assoc))
 
@@ -163,7 +163,7 @@ module _ (b : List ℕ) (h : Bytes b) where
     unfolding readCount countNumber readMessage messageValues _unless_ formOf fieldsOf
     count-as =
         split (isListing b)
-        (λ t. rw (listing-message, t, listing-layout, one-value ProcessList _ refl refl b))
+        (λ t. rw (listing-message, t, listing-shape, one-value ProcessList _ refl refl b))
         (λ t. rw (listing-message, t))
 
     module _ (done : readMessage b .number ≡ No.done) where
@@ -173,7 +173,7 @@ module _ (b : List ℕ) (h : Bytes b) where
 
       answered : readMessage b ≡ record { number = No.done; values = alone (headNumber b); rest = 4 }
       unfolding readMessage messageValues formOf fieldsOf
-      answered = rw (listing-message, taken, listing-layout, one-value ProcessList _ refl refl b, one-head ProcessList _ refl refl b)
+      answered = rw (listing-message, taken, listing-shape, one-value ProcessList _ refl refl b, one-head ProcessList _ refl refl b)
 
       rows-pass : every isRow (rows (headNumber b) 51 (drop 4 b)) ≡ true
       unfolding isListing

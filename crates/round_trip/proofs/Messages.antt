@@ -9,66 +9,68 @@ use lib.ListN.{length, getD, drop}
 use lib.Seq.{drop-drop}
 use Rattle.lists.proofs.Tests.{split, clash, and-left, and-right, and-both}
 use Rattle.claims.specs.Numbers as No
-use Rattle.formats.specs.declared.Layout.{Layout}
-use Rattle.formats.specs.declared.Layout.the-variants.{NoMessage}
+use Rattle.formats.specs.declared.Shape.{Shape}
+use Rattle.formats.specs.declared.Shape.the-variants.{NoMessage}
 use Rattle.formats.specs.Formats.{restOf}
-use Rattle.fields.specs.Fields.{fields, areAllowed}
-use Rattle.pieces.specs.Pieces.{headLong, fitsRest}
+use Rattle.fields.specs.Fields.{fields, areAllowed, headLong}
+use Rattle.pieces.specs.Pieces.{fitsRest}
 use Rattle.message_codes.proofs.Laws.{chooser-same}
-use Rattle.messages.specs.Messages.{layoutIn, headOf, messageValues, isMessage, refused, readMessage, bodyBytes, layoutFor, messageBytes, carries, messageLong}
+use Rattle.fields_write.specs.Bodies.{bodyBytes}
+use Rattle.messages_write.specs.Written.{shapeFor, messageBytes, carries, messageLong}
+use Rattle.messages.specs.Messages.{shapeIn, headOf, messageValues, isMessage, refused, readMessage}
 use Rattle.round_trip.specs.RoundTrip.{ReadsAs}
 use Rattle.round_trip.proofs.Bodies.{body-long, body-rest, body-values, body-first}
 
 -- nothing fits behind the fields of no message
-never-fits : (layout : Layout) (values rest : List ℕ) → fitsRest (restOf layout) values rest ≡ true → layout ≡ NoMessage → ⊥
+never-fits : (shape : Shape) (values rest : List ℕ) → fitsRest (restOf shape) values rest ≡ true → shape ≡ NoMessage → ⊥
 unfolding fitsRest restOf
-never-fits layout values rest h e = clash (rw e at h) refl
+never-fits shape values rest h e = clash (rw e at h) refl
 
 pub length-message : (code : ℕ) (values rest : List ℕ) → length (messageBytes code values rest) ≡ messageLong code values rest
 unfolding messageBytes messageLong headOf
-length-message code values rest = omega (arith, body-long (layoutFor code values) values rest)
+length-message code values rest = omega (arith, body-long (shapeFor code values) values rest)
 
 module _ (code : ℕ) (values rest : List ℕ) (seven : length values ≡ 7) (carried : carries code values rest ≡ true) where
-  abbrev layout : Layout
-  layout = layoutFor code values
+  abbrev shape : Shape
+  shape = shapeFor code values
 
   abbrev message : List ℕ
   message = messageBytes code values rest
 
-  allowed : areAllowed (fields layout) values ≡ true
+  allowed : areAllowed (fields shape) values ≡ true
   unfolding carries
-  allowed = and-left (areAllowed (fields layout) values) (fitsRest (restOf layout) values rest) carried
+  allowed = and-left (areAllowed (fields shape) values) (fitsRest (restOf shape) values rest) carried
 
-  fitting : fitsRest (restOf layout) values rest ≡ true
+  fitting : fitsRest (restOf shape) values rest ≡ true
   unfolding carries
-  fitting = and-right (areAllowed (fields layout) values) (fitsRest (restOf layout) values rest) carried
+  fitting = and-right (areAllowed (fields shape) values) (fitsRest (restOf shape) values rest) carried
 
-  -- the third byte is the first value where the layout goes by it
-  layout-back : layoutIn message ≡ layout
-  unfolding layoutIn layoutFor messageBytes
-  layout-back =
-      chooser-same code (getD values 0 0) (never-fits layout values rest fitting) (getD (bodyBytes layout values rest) 0 0)
-      (body-first layout values rest seven allowed)
+  -- the third byte is the first value where the shape goes by it
+  shape-back : shapeIn message ≡ shape
+  unfolding shapeIn shapeFor messageBytes
+  shape-back =
+      chooser-same code (getD values 0 0) (never-fits shape values rest fitting) (getD (bodyBytes shape values rest) 0 0)
+      (body-first shape values rest seven allowed)
 
   values-are : messageValues message ≡ values
   unfolding messageValues messageBytes
-  values-are = rw layout-back (rw append-nil at (body-values layout values rest seven allowed []))
+  values-are = rw shape-back (rw append-nil at (body-values shape values rest seven allowed []))
 
-  rest-is : drop (headOf layout) message ≡ rest
+  rest-is : drop (headOf shape) message ≡ rest
   unfolding headOf messageBytes
-  rest-is = rw (← drop-drop (headLong layout) 2 message) (body-rest layout values rest)
+  rest-is = rw (← drop-drop (headLong shape) 2 message) (body-rest shape values rest)
 
-  room : headOf layout ≤ length message
+  room : headOf shape ≤ length message
   unfolding messageLong
   room = rw (length-message code values rest) (omega arith)
 
   taken : isMessage message ≡ true
   unfolding isMessage
-  taken = rw (layout-back, values-are, rest-is) (and-both (and-both (le-leb (headOf layout) (length message) room) allowed) fitting)
+  taken = rw (shape-back, values-are, rest-is) (and-both (and-both (le-leb (headOf shape) (length message) room) allowed) fitting)
 
-  answered : readMessage message ≡ record { number = No.done; values = values; rest = headOf layout }
+  answered : readMessage message ≡ record { number = No.done; values = values; rest = headOf shape }
   unfolding readMessage
-  answered = rw (taken, values-are, layout-back)
+  answered = rw (taken, values-are, shape-back)
 
   -- "reading what was written gives the same values": for every message that 004 has
   pub written-is-read : ReadsAs code values rest message

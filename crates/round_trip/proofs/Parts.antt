@@ -8,32 +8,32 @@ use lib.Seq.{drop-drop}
 use Rattle.lists.specs.Each.{Each, each-nil, each-cons}
 use Rattle.lists.specs.Lists.{join}
 use Rattle.lists.proofs.Tests.{and-both}
-use Rattle.formats.specs.declared.Layout.{Layout}
+use Rattle.formats.specs.declared.Shape.{Shape}
 use Rattle.formats.specs.declared.Part.{Part}
 use Rattle.formats.specs.declared.Rest.the-variants.{Parts}
 use Rattle.formats.specs.Formats.{restOf}
 use Rattle.fields.specs.Fields.{fields, areAllowed}
 use Rattle.pieces.specs.Pieces.{pieceLong, isPiece, first, second, behind, isPart, partLong, areParts, fitsRest}
-use Rattle.messages.specs.Messages.{layoutFor, messageBytes, carries}
+use Rattle.messages_write.specs.Written.{shapeFor, messageBytes, carries}
 use Rattle.round_trip.specs.Parts.{PieceHeld, PartHeld, pieceBytes, partBytes, PieceCarried, PartCarried, pieceHeldIn, partHeldIn, partsIn}
 use Rattle.round_trip.specs.RoundTrip.{ReadsAs, ListReadsAs}
 use Rattle.round_trip.proofs.Bodies.{piece-values, piece-said, piece-taken, piece-rest, piece-behind}
 use Rattle.round_trip.proofs.Messages.{written-is-read}
 
 -- ---- a piece, whatever comes behind it
-module _ (layout : Layout) (piece : PieceHeld) (y : List ℕ) (c : PieceCarried layout piece) where
-  taken : isPiece layout (pieceBytes layout piece ++ y) ≡ true
+module _ (shape : Shape) (piece : PieceHeld) (y : List ℕ) (c : PieceCarried shape piece) where
+  taken : isPiece shape (pieceBytes shape piece ++ y) ≡ true
   unfolding pieceBytes
-  taken = piece-taken layout (piece .values) (piece .rest) y (c .seven) (c .carried)
+  taken = piece-taken shape (piece .values) (piece .rest) y (c .seven) (c .carried)
 
-  passed : drop (pieceLong layout (pieceBytes layout piece ++ y)) (pieceBytes layout piece ++ y) ≡ y
+  passed : drop (pieceLong shape (pieceBytes shape piece ++ y)) (pieceBytes shape piece ++ y) ≡ y
   unfolding pieceBytes
-  passed = piece-behind layout (piece .values) (piece .rest) y (c .seven) (c .carried)
+  passed = piece-behind shape (piece .values) (piece .rest) y (c .seven) (c .carried)
 
-  held-back : pieceHeldIn layout (pieceBytes layout piece ++ y) ≡ piece
+  held-back : pieceHeldIn shape (pieceBytes shape piece ++ y) ≡ piece
   unfolding pieceBytes pieceHeldIn
   held-back =
-      rw (piece-values layout (piece .values) (piece .rest) y (c .seven) (c .carried), ← piece-said layout (piece .values) (piece .rest) y (c .seven) (c .carried), piece-rest layout (piece .values) (piece .rest) y (c .seven) (c .carried))
+      rw (piece-values shape (piece .values) (piece .rest) y (c .seven) (c .carried), ← piece-said shape (piece .values) (piece .rest) y (c .seven) (c .carried), piece-rest shape (piece .values) (piece .rest) y (c .seven) (c .carried))
 
 -- ---- a part
 module _ (part : Part) (held : PartHeld) (y : List ℕ) (c : PartCarried part held) where
@@ -83,7 +83,7 @@ module _ (part : Part) where
   parts-back (each-cons {x} {l} c w) = rw (part-back part x (listBytes l) c, part-behind part x (listBytes l) c, parts-back w)
 
 -- ---- a message with a list: its count and each part are read as they were written
-module _ (code : ℕ) (values : List ℕ) (part : Part) (at : ℕ) (l : List PartHeld) (listed : restOf (layoutFor code values) ≡ Parts part at) (counted : getD values at 0 ≡ length l) (w : Each (PartCarried part) l) (allowed : areAllowed (fields (layoutFor code values)) values ≡ true) where
+module _ (code : ℕ) (values : List ℕ) (part : Part) (at : ℕ) (l : List PartHeld) (listed : restOf (shapeFor code values) ≡ Parts part at) (counted : getD values at 0 ≡ length l) (w : Each (PartCarried part) l) (allowed : areAllowed (fields (shapeFor code values)) values ≡ true) where
   pub list-carried : carries code values (listBytes part l) ≡ true
   unfolding carries fitsRest
   list-carried = and-both allowed (rw (listed, counted) (parts-taken part w))

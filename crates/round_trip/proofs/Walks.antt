@@ -13,16 +13,18 @@ use Rattle.lists.specs.Lists.{join, padded}
 use Rattle.rows.specs.Bytes.{byteOf, bytesOf}
 use Rattle.claims.specs.Numbers as No
 use Rattle.claims.specs.Numbers.{_unless_, _▸_}
-use Rattle.formats.specs.declared.Layout.{Layout}
-use Rattle.formats.specs.declared.Layout.the-variants.{Plain}
+use Rattle.formats.specs.declared.Shape.{Shape}
+use Rattle.formats.specs.declared.Shape.the-variants.{Plain}
 use Rattle.formats.specs.declared.Part.{Part}
 use Rattle.formats.specs.declared.Part.the-variants.{VersionEntry, ProcessInfo, Owner, Policy, ResetElement}
 use Rattle.formats.specs.Formats.{formOf, fieldsOf, restOf}
-use Rattle.fields.specs.Fields.{fields, longOf, fieldBytes}
-use Rattle.pieces.specs.Pieces.{valuesOf, headLong, restLong, pieceLong, isPiece, first, second}
+use Rattle.fields.specs.Fields.{fields, longOf, fieldBytes, valuesOf, headLong}
+use Rattle.pieces.specs.Pieces.{restLong, pieceLong, isPiece, first, second}
 use Rattle.message_codes.specs.Codes.{find, pieces, pieceOf}
-use Rattle.messages.specs.Messages.{readMessage, messageBytes, messageLong, bodyBytes}
-use Rattle.entries_wire.specs.Entries.{areSeven, kinds, isPieceArgument, readPieceNumber, readMessageNumber, writeMessageNumber, given, ReadEntry, WriteEntry}
+use Rattle.fields_write.specs.Bodies.{bodyBytes, given}
+use Rattle.messages_write.specs.Written.{messageBytes, messageLong}
+use Rattle.messages.specs.Messages.{readMessage}
+use Rattle.entries_wire.specs.Entries.{areSeven, kinds, isPieceArgument, readPieceNumber, readMessageNumber, writeMessageNumber, ReadEntry, WriteEntry}
 use Rattle.round_trip.specs.Parts.{PieceHeld, PartHeld, pieceBytes, partBytes, PieceCarried, PartCarried}
 use Rattle.round_trip.specs.Walks.{kindsOf, piecesOf, PieceCall, handed, Walk, ended, again, refused, read}
 use Rattle.round_trip.proofs.Bodies.{body-long, piece-said, piece-values, piece-long, piece-taken, piece-rest, piece-behind}
@@ -31,12 +33,12 @@ use Rattle.round_trip.proofs.Entries.{given-done, same-rest}
 -- ---- a call on bytes that begin with a piece
 module _ {kind : ℕ} {b : List ℕ} (piece : PieceHeld) (y : List ℕ) (known : ltb kind kinds ≡ true) (c : PieceCarried (pieceOf kind) piece)
     (e : b ≡ pieceBytes (pieceOf kind) piece ++ y) (call : PieceCall kind b) where
-  abbrev layout : Layout
-  layout = pieceOf kind
+  abbrev shape : Shape
+  shape = pieceOf kind
 
-  stands : isPiece layout b ≡ true
+  stands : isPiece shape b ≡ true
   unfolding pieceBytes
-  stands = rw e (piece-taken layout (piece .values) (piece .rest) y (c .seven) (c .carried))
+  stands = rw e (piece-taken shape (piece .values) (piece .rest) y (c .seven) (c .carried))
 
   number-done : readPieceNumber kind b (call .lent) ≡ No.done
   unfolding readPieceNumber isPieceArgument areSeven _unless_ _▸_
@@ -48,24 +50,24 @@ module _ {kind : ℕ} {b : List ℕ} (piece : PieceHeld) (y : List ℕ) (known :
   values-are : call .values ≡ piece .values
   unfolding pieceBytes
   values-are =
-      call .promised .values-are ∙ given-done (valuesOf layout b) (call .lent) number-done
-      ∙ rw e (piece-values layout (piece .values) (piece .rest) y (c .seven) (c .carried))
+      call .promised .values-are ∙ given-done (valuesOf shape b) (call .lent) number-done
+      ∙ rw e (piece-values shape (piece .values) (piece .rest) y (c .seven) (c .carried))
 
-  rest-is : call .rest ≡ headLong layout
-  rest-is = call .promised .rest-is ∙ given-done (headLong layout) (call .lentRest) number-done
+  rest-is : call .rest ≡ headLong shape
+  rest-is = call .promised .rest-is ∙ given-done (headLong shape) (call .lentRest) number-done
 
-  long-is : pieceLong layout b ≡ headLong layout + length (piece .rest)
+  long-is : pieceLong shape b ≡ headLong shape + length (piece .rest)
   unfolding pieceBytes
-  long-is = rw e (piece-long layout (piece .values) (piece .rest) y (c .seven) (c .carried))
+  long-is = rw e (piece-long shape (piece .values) (piece .rest) y (c .seven) (c .carried))
 
-  next-is : call .next ≡ pieceLong layout b
-  next-is = call .promised .next-is ∙ given-done (pieceLong layout b) (call .lentNext) number-done
+  next-is : call .next ≡ pieceLong shape b
+  next-is = call .promised .next-is ∙ given-done (pieceLong shape b) (call .lentNext) number-done
 
   bytes-are : take (call .next - call .rest) (drop (call .rest) b) ≡ piece .rest
   unfolding pieceBytes
   bytes-are =
       let long : call .next - call .rest ≡ length (piece .rest) = omega (arith, next-is, long-is, rest-is) in
-      rw (long, rest-is, e) (piece-rest layout (piece .values) (piece .rest) y (c .seven) (c .carried))
+      rw (long, rest-is, e) (piece-rest shape (piece .values) (piece .rest) y (c .seven) (c .carried))
 
   handed-is : handed call ≡ piece
   unfolding handed
@@ -73,7 +75,7 @@ module _ {kind : ℕ} {b : List ℕ} (piece : PieceHeld) (y : List ℕ) (known :
 
   left-is : drop (call .next) b ≡ y
   unfolding pieceBytes
-  left-is = rw (next-is, e) (piece-behind layout (piece .values) (piece .rest) y (c .seven) (c .carried))
+  left-is = rw (next-is, e) (piece-behind shape (piece .values) (piece .rest) y (c .seven) (c .carried))
 
 -- ---- the pieces of a part, by their kinds
 data Fit : List ℕ → List PieceHeld → Type 0 where

@@ -9,10 +9,12 @@ use Rattle.lists.specs.Lists.{padded}
 use Rattle.rows.specs.Bytes.{bytesOf, numberOf}
 use Rattle.formats.specs.declared.Part.the-variants.{Policy}
 use Rattle.formats.specs.Formats.{formOf, meant, isAllowed, fieldsOf, restOf}
-use Rattle.fields.specs.Fields.{fields, longOf, valuesIn, areAllowed, fieldBytes}
-use Rattle.pieces.specs.Pieces.{valuesOf, headLong, restLong, pieceLong, isPiece, first, second, behind, isPart, partLong, areParts, fitsRest}
-use Rattle.message_codes.specs.Codes.{find, operations, errors, requests, responses, layoutOf}
-use Rattle.messages.specs.Messages.{layoutIn, headOf, messageValues, isMessage, readMessage, bodyBytes, layoutFor, messageBytes, carries}
+use Rattle.fields.specs.Fields.{fields, longOf, valuesIn, areAllowed, fieldBytes, valuesOf, headLong}
+use Rattle.pieces.specs.Pieces.{restLong, pieceLong, isPiece, first, second, behind, isPart, partLong, areParts, fitsRest}
+use Rattle.message_codes.specs.Codes.{find, operations, errors, requests, responses, shapeOf}
+use Rattle.fields_write.specs.Bodies.{bodyBytes}
+use Rattle.messages_write.specs.Written.{shapeFor, messageBytes, carries}
+use Rattle.messages.specs.Messages.{shapeIn, headOf, messageValues, isMessage, readMessage}
 use Rattle.round_trip.specs.Parts.{PartHeld, pieceBytes, partBytes}
 
 -- END_AUTH: credential 3, persist method 1
@@ -71,7 +73,7 @@ pub record Worked : Type 0 where
   pub wrong-refused : map (λ (m : List ℕ). readMessage m .number) wrong ≡ replicate 13 14
 
 pub worked : Worked
-unfolding padded bytesOf numberOf formOf fieldsOf restOf meant isAllowed fields longOf valuesIn areAllowed fieldBytes valuesOf headLong restLong pieceLong isPiece first second behind isPart partLong areParts fitsRest find operations errors requests responses layoutOf layoutIn headOf messageValues isMessage readMessage bodyBytes layoutFor messageBytes carries pieceBytes partBytes
+unfolding padded bytesOf numberOf formOf fieldsOf restOf meant isAllowed fields longOf valuesIn areAllowed fieldBytes valuesOf headLong restLong pieceLong isPiece first second behind isPart partLong areParts fitsRest find operations errors requests responses shapeOf shapeIn headOf messageValues isMessage readMessage bodyBytes shapeFor messageBytes carries pieceBytes partBytes
 worked =
     record {
       ending-is = refl;

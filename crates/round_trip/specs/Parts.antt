@@ -4,11 +4,13 @@ use mathlib.Core.Path.{_≡_}
 use mathlib.Core.Bool.{true}
 use mathlib.Core.List.{List, [], _∷_, _++_}
 use lib.ListN.{length, take, drop}
-use Rattle.formats.specs.declared.Layout.{Layout}
+use Rattle.formats.specs.declared.Shape.{Shape}
 use Rattle.formats.specs.declared.Part.{Part}
 use Rattle.formats.specs.Formats.{restOf}
-use Rattle.pieces.specs.Pieces.{valuesOf, headLong, restLong, first, second, behind, partLong}
-use Rattle.messages.specs.Messages.{bodyBytes, carriesPiece}
+use Rattle.fields.specs.Fields.{valuesOf, headLong}
+use Rattle.pieces.specs.Pieces.{restLong, first, second, behind, partLong}
+use Rattle.fields_write.specs.Bodies.{bodyBytes}
+use Rattle.messages_write.specs.Written.{carriesPiece}
 
 -- what a piece holds: the values of its fields, and the bytes behind them
 pub record PieceHeld : Type 0 where
@@ -20,25 +22,25 @@ pub record PartHeld : Type 0 where
   pub back : PieceHeld
 
 -- ---- written
-unfoldable pub pieceBytes : Layout → PieceHeld → List ℕ
-pieceBytes layout piece = bodyBytes layout (piece .values) (piece .rest)
+unfoldable pub pieceBytes : Shape → PieceHeld → List ℕ
+pieceBytes shape piece = bodyBytes shape (piece .values) (piece .rest)
 
 unfoldable pub partBytes : Part → PartHeld → List ℕ
 partBytes part held = pieceBytes (first part) (held .front) ++ pieceBytes (second part) (held .back)
 
 -- what a piece can carry: seven values, each of which may stand in its field, and as many bytes as they say
-pub record PieceCarried (layout : Layout) (piece : PieceHeld) : Type 0 where
+pub record PieceCarried (shape : Shape) (piece : PieceHeld) : Type 0 where
   pub seven : length (piece .values) ≡ 7
-  pub carried : carriesPiece layout (piece .values) (piece .rest) ≡ true
+  pub carried : carriesPiece shape (piece .values) (piece .rest) ≡ true
 
 pub record PartCarried (part : Part) (held : PartHeld) : Type 0 where
   pub front : PieceCarried (first part) (held .front)
   pub back : PieceCarried (second part) (held .back)
 
 -- ---- read
-unfoldable pub pieceHeldIn : Layout → List ℕ → PieceHeld
-pieceHeldIn layout b =
-    record { values = valuesOf layout b; rest = take (restLong (restOf layout) (valuesOf layout b)) (drop (headLong layout) b) }
+unfoldable pub pieceHeldIn : Shape → List ℕ → PieceHeld
+pieceHeldIn shape b =
+    record { values = valuesOf shape b; rest = take (restLong (restOf shape) (valuesOf shape b)) (drop (headLong shape) b) }
 
 unfoldable pub partHeldIn : Part → List ℕ → PartHeld
 partHeldIn part b = record { front = pieceHeldIn (first part) b; back = pieceHeldIn (second part) (behind part b) }

@@ -6,16 +6,19 @@ use mathlib.Core.List.{List, map}
 use lib.ListN.{length, getD, take, drop}
 use Rattle.lists.specs.Lists.{join}
 use Rattle.claims.specs.Numbers as No
-use Rattle.formats.specs.declared.Layout.{Layout}
+use Rattle.formats.specs.declared.Shape.{Shape}
 use Rattle.formats.specs.declared.Part.{Part}
-use Rattle.pieces.specs.Pieces.{headLong, pieceIn}
-use Rattle.messages.specs.Messages.{headOf, readMessage, bodyBytes, layoutFor, messageBytes, messageLong, writeNumber, writtenOver, bodyLong, writePieceNumber}
+use Rattle.fields.specs.Fields.{headLong}
+use Rattle.pieces.specs.Pieces.{pieceIn}
+use Rattle.fields_write.specs.Bodies.{bodyBytes, bodyLong}
+use Rattle.messages_write.specs.Written.{shapeFor, messageBytes, messageLong, writeNumber, writtenOver, writePieceNumber}
+use Rattle.messages.specs.Messages.{headOf, readMessage}
 use Rattle.round_trip.specs.Parts.{PartHeld, partBytes, partsIn}
 
 -- the message is read with this code and these values, and behind its fields stand these bytes
 pub record ReadsAs (code : ℕ) (values rest message : List ℕ) : Type 0 where
   pub code-is : getD message 0 0 ≡ code
-  pub answer : readMessage message ≡ record { number = No.done; values = values; rest = headOf (layoutFor code values) }
+  pub answer : readMessage message ≡ record { number = No.done; values = values; rest = headOf (shapeFor code values) }
   pub behind : drop (readMessage message .rest) message ≡ rest
 
 -- and the bytes are these parts, as many as the value at a place says
@@ -24,13 +27,13 @@ pub record ListReadsAs (code : ℕ) (values : List ℕ) (part : Part) (at : ℕ)
   pub parts : partsIn part (getD (readMessage message .values) at 0) (drop (readMessage message .rest) message) ≡ l
 
 -- a piece at the front of bytes is read with these values, and behind its fields stand these bytes
-pub record PieceReadsAs (layout : Layout) (values rest b : List ℕ) : Type 0 where
-  pub answer : pieceIn layout b ≡ record { fits = true; values = values; rest = headLong layout; long = headLong layout + length rest }
-  pub behind : take (length rest) (drop (headLong layout) b) ≡ rest
+pub record PieceReadsAs (shape : Shape) (values rest b : List ℕ) : Type 0 where
+  pub answer : pieceIn shape b ≡ record { fits = true; values = values; rest = headLong shape; long = headLong shape + length rest }
+  pub behind : take (length rest) (drop (headLong shape) b) ≡ rest
 
 -- ---- what a writer leaves in the buffer that it was lent: of a message, and of a piece
 unfoldable pub bufferAfter : ℕ → List ℕ → List ℕ → List ℕ → List ℕ
 bufferAfter code values rest old = writtenOver (writeNumber code values rest old) (messageLong code values rest) (messageBytes code values rest) old
 
-unfoldable pub bufferAfterPiece : Layout → List ℕ → List ℕ → List ℕ → List ℕ
-bufferAfterPiece layout values rest old = writtenOver (writePieceNumber layout values rest old) (bodyLong layout rest) (bodyBytes layout values rest) old
+unfoldable pub bufferAfterPiece : Shape → List ℕ → List ℕ → List ℕ → List ℕ
+bufferAfterPiece shape values rest old = writtenOver (writePieceNumber shape values rest old) (bodyLong shape rest) (bodyBytes shape values rest) old

@@ -7,7 +7,8 @@ use lib.ListN.{length, take, drop}
 use Rattle.claims.specs.Numbers as No
 use Rattle.formats.specs.declared.Part.{Part}
 use Rattle.formats.specs.declared.Part.the-variants.{VersionEntry, ProcessInfo, Owner, Policy, ResetElement}
-use Rattle.pieces.specs.Pieces.{valuesOf, headLong, pieceLong}
+use Rattle.fields.specs.Fields.{valuesOf, headLong}
+use Rattle.pieces.specs.Pieces.{pieceLong}
 use Rattle.message_codes.specs.Codes.{pieceOf}
 use Rattle.entries_wire.specs.Entries.{readPieceNumber, PieceEntry}
 use Rattle.round_trip.specs.Parts.{PieceHeld, PartHeld}

@@ -7,12 +7,12 @@ use mathlib.Core.List.{List, [], _∷_, _++_}
 use native.Mathlib.Nat.{pow-suc, zero-mul, mul-assoc, div-lt-iff-lt-mul, div-add-mod'}
 use native.Mathlib.Numerals.{add-one}
 use native.Mathlib.Omega.{arith}
-use borrow.Author.Tests.{eqb-true, lt-ltb, le-ltb}
+use borrow.Author.Tests.{eqb-true, lt-ltb, le-ltb, le-leb, lt-leb}
 use lib.Arith.{digits-lt, digits-div, digits-mod}
 use lib.ListN.{length, getD, take, drop, length-take, length-drop, take-append-drop}
 use lib.Seq.{getD-drop, drop-drop, drop-cons, take-at, take-all}
 use Rattle.lists.proofs.Tests.{below, and-left, and-right}
-use Rattle.rows.specs.Bytes.{Bytes, isZero, bytesOf, numberOf, numberAt, byteOf}
+use Rattle.rows.specs.Bytes.{Bytes, isZero, bytesOf, numberOf, numberAt, byteOf, widthOf}
 use Rattle.rows.specs.Rows.{every}
 
 -- ---- bytes of a part
@@ -37,6 +37,18 @@ byte-only n m h k =
     below n 256
     (λ s. rw (lt-ltb n 256 s) at k)
     (λ s. let z : 255 ≤ m = rw (le-ltb n 256 s) at k in absurd (omega arith))
+
+-- ---- a width
+pub width-is : (width : ℕ) → width ≤ 8 → widthOf width ≡ width
+unfolding widthOf
+width-is width h = rw (le-leb width 8 h)
+
+pub width-over : (width : ℕ) → 8 < width → widthOf width ≡ 8
+unfolding widthOf
+width-over width h = rw (lt-leb width 8 h)
+
+pub width-low : (width : ℕ) → widthOf width ≤ 8
+width-low width = below 8 width (λ h. rw (width-over width h) (omega arith)) (λ h. rw (width-is width h) h)
 
 -- ---- a number of k bytes, written and read
 pub length-bytes : (k n : ℕ) → length (bytesOf k n) ≡ k

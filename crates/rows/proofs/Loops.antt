@@ -7,7 +7,6 @@ use mathlib.Core.List.{List, [], _∷_, _++_, map, append-nil}
 use native.Mathlib.Nat.{zero-mul, suc-mul, mul-le-mul-right}
 use native.Mathlib.Numerals.{add-one}
 use native.Mathlib.Omega.{arith}
-use lib.Dec.{eqb}
 use lib.Bits.{bitOr, or-add-and, and-le-l, and-le-r}
 use borrow.Author.Tests.{eqb-true, eq-eqb, ne-eqb, not-true, not-false}
 use borrow.Rule.Slice.PartMut.{putMid}
@@ -88,22 +87,6 @@ and-false false = refl
 pub and-assoc : (a b c : Bool) → (a && b && c) ≡ (a && (b && c))
 and-assoc true b c = refl
 and-assoc false b c = refl
-
-pub record Zeroed (s : List ℕ) (from d i : ℕ) : Type 0 where
-  pub low : i ≤ length s
-  pub rest : every isZero (drop from s) ≡ (isZero d && every isZero (drop i s))
-
-pub zero-begin : (s : List ℕ) (from : ℕ) → from ≤ length s → Zeroed s from 0 from
-zero-begin s from h = record { low = h; rest = refl }
-
-pub zero-on : {s : List ℕ} {from d i : ℕ} → Zeroed s from d i → i < length s → Zeroed s from (bitOr d (getD s i 0)) (i + 1)
-unfolding every
-zero-on {s} {from} {d} {i} v h =
-    record { low = omega arith; rest = v .rest ∙ rw (drop-cons s i 0 h, or-zero d (getD s i 0), add-one) (sym (and-assoc (isZero d) (isZero (getD s i 0)) (every isZero (drop (suc i) s)))) }
-
-pub zero-all : {s : List ℕ} {from d i : ℕ} → Zeroed s from d i → length s ≤ i → eqb d 0 ≡ every isZero (drop from s)
-unfolding every
-zero-all {s} {from} {d} {i} v h = sym (v .rest ∙ rw (drop-of-length-le s h) (and-true (isZero d)))
 
 -- ---- rows of an image, tested one by one: in the form of the needs
 row-part : (n k off : ℕ) (s : List ℕ) (i : ℕ) (d : List ℕ) → i < n → getD (rows n k (drop off s)) i d ≡ take (off + i * k + k - (off + i * k)) (drop (off + i * k) s)

@@ -1,6 +1,6 @@
 -- Laws of bytes written over a buffer.
 -- Assumes nothing.
-use Prim.Native.Nat.{ℕ, _+_, _<_, _≤_}
+use Prim.Native.Nat.{ℕ, _+_, _^_, _<_, _≤_}
 use mathlib.Core.Path.{_≡_, refl, sym, ap, _∙_}
 use mathlib.Core.List.{List, [], _∷_, _++_, append-nil, append-assoc}
 use native.Mathlib.Numerals.{add-one}
@@ -10,7 +10,9 @@ use borrow.Rule.Slice.PartMut.{putMid}
 use lib.ListN.{length, take, drop, set, length-append, length-take, length-drop, take-append-drop, drop-of-length-le}
 use lib.Seq.{length-take-le, take-at, drop-at, drop-drop, set-split}
 use Rattle.lists.proofs.Tests.{below}
+use Rattle.rows.specs.Bytes.{bytesOf, numberAt}
 use Rattle.rows.specs.Rows.{over, Put}
+use Rattle.rows.proofs.Bytes.{length-bytes, number-back}
 
 module _ (at n : ℕ) (bytes old : List ℕ) where
   pub over-room : at + n ≤ length old → over at n bytes old ≡ take at old ++ (bytes ++ drop (at + n) old)
@@ -125,3 +127,36 @@ module _ {at n : ℕ} {x old new : List ℕ} (p : Put at n x old new) where
 
 pub put-whole : {n : ℕ} {x old new : List ℕ} → Put 0 n x old new → length old ≡ n → new ≡ x
 put-whole {n} {x} {old} v h = v .is ∙ over-whole n x old h
+
+-- the n bytes x over the old ones are the m bytes y over those that stand now: what is still to be written
+pub record Left (at n : ℕ) (x old : List ℕ) (place m : ℕ) (y new : List ℕ) : Type 0 where
+  pub long : length new ≡ length old
+  pub room : place + m ≤ length new
+  pub is : over at n x old ≡ over place m y new
+
+pub left-all : (at n : ℕ) (x old : List ℕ) → at + n ≤ length old → Left at n x old at n x old
+left-all at n x old h = record { long = refl; room = h; is = refl }
+
+module _ {at n : ℕ} {x old : List ℕ} {place : ℕ} {new : List ℕ} where
+  pub left-none : Left at n x old place 0 [] new → new ≡ over at n x old
+  left-none v = sym (v .is ∙ over-none place new)
+
+  -- the first k of them written
+  pub left-next : (k m : ℕ) (y z : List ℕ) → length y ≡ k → Left at n x old place (k + m) (y ++ z) new → Left at n x old (place + k) m z (over place k y new)
+  left-next k m y z e v =
+      let r : place + k + m ≤ length new = omega (arith, v .room) in
+      record {
+        long = over-length place k y new e ∙ v .long;
+        room = rw (over-length place k y new e) r;
+        is = v .is ∙ over-append place k m y z new e r;
+      }
+
+  pub left-byte : (m b : ℕ) (z : List ℕ) → Left at n x old place (1 + m) (b ∷ z) new → Left at n x old (place + 1) m z (set new place b)
+  left-byte m b z v =
+      let h : place < length new = omega (arith, v .room) in
+      rw (over-set place b new h) (left-next 1 m (b ∷ []) z refl v)
+
+-- ---- a number of k bytes that was written is read there, at every width
+pub number-written : (k at n : ℕ) (old : List ℕ) → n < 256 ^ k → at + k ≤ length old → numberAt k at (over at k (bytesOf k n) old) ≡ n
+unfolding numberAt
+number-written k at n old h r = rw (written-in at k (bytesOf k n) old (length-bytes k n) r) (number-back k n h)

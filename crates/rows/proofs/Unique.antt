@@ -21,6 +21,12 @@ use Rattle.rows.proofs.put_number16.Kinds as put-number16-kinds
 use Rattle.rows.proofs.put_number16.Reads as put-number16
 use Rattle.rows.proofs.put_number32.Kinds as put-number32-kinds
 use Rattle.rows.proofs.put_number32.Reads as put-number32
+use Rattle.rows.proofs.number_at.Kinds as number-at-kinds
+use Rattle.rows.proofs.number_at.Reads as number-at
+use Rattle.rows.proofs.put_number.Kinds as put-number-kinds
+use Rattle.rows.proofs.put_number.Reads as put-number
+use Rattle.rows.proofs.put_bytes.Kinds as put-bytes-kinds
+use Rattle.rows.proofs.put_bytes.Reads as put-bytes
 
 pub wide16-once : OneAnswer 0 wide16-kinds.ps wide16-kinds.r wide16.Post
 wide16-once κs a x y s t p q = p .is ∙ sym (q .is)
@@ -48,3 +54,12 @@ put-number16-once κs a x y s t p q = p ∙ sym q
 
 pub put-number32-once : OneContent 1 put-number32-kinds.ps put-number32-kinds.r put-number32.Post (λ κs s. now (s .0))
 put-number32-once κs a x y s t p q = p ∙ sym q
+
+pub number-at-once : OneAnswer 1 number-at-kinds.ps number-at-kinds.r number-at.Post
+number-at-once κs a x y s t p q = p ∙ sym q
+
+pub put-number-once : OneContent 1 put-number-kinds.ps put-number-kinds.r put-number.Post (λ κs s. now (s .0))
+put-number-once κs a x y s t p q = p ∙ sym q
+
+pub put-bytes-once : OneContent 2 put-bytes-kinds.ps put-bytes-kinds.r put-bytes.Post (λ κs s. now (s .0))
+put-bytes-once κs a x y s t p q = p ∙ sym q

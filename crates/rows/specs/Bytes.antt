@@ -3,7 +3,7 @@ use Prim.Native.Nat.{ℕ, zero, suc, _+_, _*_, _/_, _%_, _<_}
 use mathlib.Core.Path.{_≡_}
 use mathlib.Core.Bool.{Bool, cond}
 use mathlib.Core.List.{List, [], _∷_}
-use lib.Dec.{eqb, ltb}
+use lib.Dec.{eqb, ltb, leb}
 use lib.ListN.{getD, take, drop}
 
 -- each element is a byte
@@ -26,6 +26,10 @@ numberOf (b ∷ bs) = numberOf bs * 256 + b
 -- the number that k bytes say, from a place on; a byte past the end counts as 0
 unfoldable pub numberAt : ℕ → ℕ → List ℕ → ℕ
 numberAt k at b = numberOf (take k (drop at b))
+
+-- how many bytes a number has that is asked for by a width: at most 8, which say every number of 64 bits. A width over 8 counts as 8
+unfoldable pub widthOf : ℕ → ℕ
+widthOf width = cond (leb width 8) width 8
 
 -- a number in one byte. One that a byte does not hold is 255, which is out of the range of every field and argument: so it stands for no other
 unfoldable pub byteOf : ℕ → ℕ

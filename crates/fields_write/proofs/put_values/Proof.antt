@@ -4,10 +4,10 @@ use Rattle.fields_write.proofs.put_values.Statement.{statement}
 use Rattle.fields_write.proofs.put_values.Tie as tie
 
 abbrev Inv-loop : tie.InvT-loop
-Inv-loop buffer₀ layout values place₀ at₀ buffer place at = FieldsTo layout values buffer₀ buffer place at
+Inv-loop buffer₀ start end shape values place₀ at₀ buffer place at = FieldsTo start end shape values buffer₀ buffer place at
 
 abbrev μ-loop : tie.MeasureT-loop
-μ-loop buffer₀ layout values place₀ at₀ buffer place at = 7 - at
+μ-loop buffer₀ start end shape values place₀ at₀ buffer place at = 7 - at
 
 loop-holds : tie.Need-loop-holds Inv-loop μ-loop
 loop-holds c = search rules

@@ -2,11 +2,26 @@ use Rattle.messages_write.proofs.Rules.{rules}
 use Rattle.messages_write.proofs.write_message.Statement.{statement}
 use Rattle.messages_write.proofs.write_message.Tie as tie
 
-message-number-requires : tie.Need-message-number-requires
-message-number-requires c κs = search rules
+array-read-shape-of : tie.Need-array-read-shape-of
+array-read-shape-of c = search rules
 
-put-message-requires : tie.Need-put-message-requires
-put-message-requires c κs = search rules
+shape-of-requires : tie.Need-shape-of-requires
+shape-of-requires c κs = search rules
+
+rest-of-requires : tie.Need-rest-of-requires
+rest-of-requires c κs = search rules
+
+fits-rest-requires : tie.Need-fits-rest-requires
+fits-rest-requires c κs = search rules
+
+write-body-requires : tie.Need-write-body-requires
+write-body-requires c κs = search rules
+
+slice-write-buffer : tie.Need-slice-write-buffer
+slice-write-buffer c = search rules
+
+slice-write-buffer-2 : tie.Need-slice-write-buffer-2
+slice-write-buffer-2 c = search rules
 
 same-length : tie.Need-same-length
 same-length c = search rules
@@ -14,9 +29,24 @@ same-length c = search rules
 returns : tie.Need-returns
 returns c = search rules
 
+same-length-2 : tie.Need-same-length-2
+same-length-2 c = search rules
+
 returns-2 : tie.Need-returns-2
 returns-2 c = search rules
 
 pub write-message-spec : {M : Type 1} → statement M
 write-message-spec =
-    tie.close (tie.spec message-number-requires put-message-requires same-length returns returns-2)
+    tie.close
+    (tie.spec
+    array-read-shape-of
+    shape-of-requires
+    rest-of-requires
+    fits-rest-requires
+    write-body-requires
+    slice-write-buffer
+    slice-write-buffer-2
+    same-length
+    returns
+    same-length-2
+    returns-2)

@@ -1,12 +1,6 @@
-use Prim.Native.Nat.{ℕ, _+_, _-_, _*_, _≤_, _<_}
-use mathlib.Core.Path.{_≡_, refl, sym, ap, _∙_}
-use mathlib.Core.Logic.{⊎-elim}
-use native.Mathlib.Omega.{arith}
 use Rattle.rows.proofs.Rules.{rules}
 use Rattle.rows.proofs.byte_of.Statement.{statement}
 use Rattle.rows.proofs.byte_of.Tie as tie
-use Rattle.rows.proofs.byte_of.Reads as reads
-use Rattle.rows.proofs.byte_of.Lts as lts
 
 cast-result : tie.Need-cast-result
 cast-result c = search rules
