@@ -21,7 +21,7 @@ use Rattle.claims.specs.declared.Claim.the-variants.{Elevated, ByUser}
 use Rattle.claims.specs.declared.Class.{Class}
 use Rattle.claims.specs.declared.UserClaim.{UserClaim}
 use Rattle.calls.specs.declared.Wanted.the-variants.{Every, Only}
-use Rattle.arguments.specs.Arguments.{sessionOf, classOf, credentialOf, wantedOf, isFlag, userClaimOf, claimOf, isClaimed, arePairs}
+use Rattle.arguments.specs.Arguments.{sessionOf, classOf, everyNumber, credentialOf, wantedOf, isFlag, userClaimOf, claimOf, isClaimed, arePairs}
 
 module _ (n : ℕ) where
   pub session-is : {b : ℕ} → b ≡ byteOf n → _≡_ {A = Session} (record { 0 = b }) (sessionOf n)
@@ -32,21 +32,21 @@ module _ (n : ℕ) where
   unfolding classOf
   class-is e = rw e
 
-  pub credential-in : n < 65536 → _≡_ {A = Credential} (record { 0 = n }) (credentialOf n)
+  pub credential-in : n ≤ everyNumber → _≡_ {A = Credential} (record { 0 = n }) (credentialOf n)
   unfolding credentialOf
-  credential-in h = rw (lt-ltb n 65536 h)
+  credential-in h = rw (lt-ltb n (everyNumber + 1) (omega arith))
 
-  pub credential-out : 65536 ≤ n → _≡_ {A = Credential} (record { 0 = 65535 }) (credentialOf n)
+  pub credential-out : everyNumber < n → _≡_ {A = Credential} (record { 0 = everyNumber }) (credentialOf n)
   unfolding credentialOf
-  credential-out h = rw (le-ltb n 65536 h)
+  credential-out h = rw (le-ltb n (everyNumber + 1) (omega arith))
 
-  pub wanted-every : n ≡ 65535 → Every ≡ wantedOf n
+  pub wanted-every : n ≡ everyNumber → Every ≡ wantedOf n
   unfolding wantedOf
-  wanted-every h = rw (eq-eqb n 65535 h)
+  wanted-every h = rw (eq-eqb n everyNumber h)
 
-  pub wanted-only : {c : Credential} → (n ≡ 65535 → ⊥) → c ≡ credentialOf n → Only c ≡ wantedOf n
+  pub wanted-only : {c : Credential} → (n ≡ everyNumber → ⊥) → c ≡ credentialOf n → Only c ≡ wantedOf n
   unfolding wantedOf
-  wanted-only h e = rw (ne-eqb n 65535 h, e)
+  wanted-only h e = rw (ne-eqb n everyNumber h, e)
 
   pub flag-is : leb n 1 ≡ isFlag n
   unfolding isFlag

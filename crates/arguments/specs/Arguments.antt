@@ -1,5 +1,5 @@
 -- What a program in C or Rust hands in, and which values that is.
-use Prim.Native.Nat.{ℕ}
+use Prim.Native.Nat.{ℕ, _+_}
 use mathlib.Core.Bool.{Bool, cond, _&&_, _||_}
 use mathlib.Core.List.{List, [], _∷_}
 use lib.Dec.{eqb, ltb, leb}
@@ -24,16 +24,20 @@ sessionOf n = record { 0 = byteOf n }
 unfoldable pub classOf : ℕ → Class
 classOf n = record { 0 = byteOf n }
 
+-- the largest of 16 bits: no credential's, and "65535 for all"
+abbrev pub everyNumber : ℕ
+everyNumber = 65535
+
 unfoldable pub credentialOf : ℕ → Credential
-credentialOf n = record { 0 = cond (ltb n 65536) n 65535 }
+credentialOf n = record { 0 = cond (ltb n (everyNumber + 1)) n everyNumber }
 
 -- "65535 is allowed as the wanted credential of a listing"
 unfoldable pub wantedOf : ℕ → Wanted
-wantedOf n = cond (eqb n 65535) Every (Only (credentialOf n))
+wantedOf n = cond (eqb n everyNumber) Every (Only (credentialOf n))
 
--- and back, by cases: "65535 for all"
+-- and back, by cases
 abbrev pub wantedNumber : Wanted → ℕ
-wantedNumber Every = 65535
+wantedNumber Every = everyNumber
 wantedNumber (Only c) = c .0
 
 -- "a flag (claim kind, verdict, keep, provisioned) other than 0 or 1" is 1
@@ -51,9 +55,9 @@ unfoldable pub claimOf : ℕ → ℕ → ℕ → ℕ → Claim
 claimOf kind credential number verdict = cond (flagOf kind) Elevated (ByUser (userClaimOf credential number verdict))
 
 -- and back, by cases
-abbrev pub kindNumber : Claim → ℕ
-kindNumber Elevated = 1
-kindNumber (ByUser u) = 0
+abbrev pub claimKind : Claim → ℕ
+claimKind Elevated = 1
+claimKind (ByUser u) = 0
 
 -- "there an elevated claim's credential, number and verdict are ignored whatever they hold, by the check for 1 too"
 unfoldable pub isClaimed : ℕ → ℕ → Bool

@@ -11,6 +11,11 @@ use claims::UserClaim;
 use names::Credential;
 use names::Session;
 
+// The largest of 16 bits: no credential's, and all of them where a listing wants it.
+const EVERY: u32 = 65535;
+
+const LARGEST: u16 = EVERY as u16;
+
 pub fn session_of(n: u32) -> Session
     ensures { λ r. ⌜ r ≡ sessionOf n ⌝ }
 {
@@ -26,17 +31,17 @@ pub fn class_of(n: u32) -> Class
 pub fn credential_of(n: u32) -> Credential
     ensures { λ r. ⌜ r ≡ credentialOf n ⌝ }
 {
-    if n < 65536 {
+    if n <= EVERY {
         Credential(n as u16)
     } else {
-        Credential(65535)
+        Credential(LARGEST)
     }
 }
 
 pub fn wanted_of(n: u32) -> Wanted
     ensures { λ r. ⌜ r ≡ wantedOf n ⌝ }
 {
-    if n == 65535 {
+    if n == EVERY {
         return Wanted::Every;
     }
     Wanted::Only(credential_of(n))

@@ -13,6 +13,8 @@ use Rattle.rows.proofs.Bytes.{byte-small, byte-only, length-bytes, number-in, n
 use Rattle.lists.proofs.Tests.{and-left, and-right, and-both}
 use Rattle.rows.specs.Rows.{every}
 use Rattle.rows.proofs.Rows.{Codec, number-clear}
+use Rattle.names.specs.Names.{lastType, kindNumber, kindNumbered}
+use Rattle.names.proofs.Laws.{kind-back, kind-forth, kind-low}
 use Rattle.names.specs.declared.Kind.{Kind}
 use Rattle.names.specs.declared.Kind.the-variants.{User, Elevation, Saved}
 use Rattle.table.specs.Table.{freePlace}
@@ -20,12 +22,12 @@ use Rattle.table.specs.declared.Process.{Process}
 use Rattle.claims.specs.declared.Grants.{Grants}
 use Rattle.claims.specs.declared.Phase.{Phase}
 use Rattle.claims.specs.declared.Phase.the-variants.{Closed, Opened, Chosen}
-use Rattle.layout.specs.Layout.{flagAt, credentialSize, ownerAt, kindAt, sessionAt, wordAt, nextAt, placeSize, phaseByte, phaseFrom, sessionBytes, sessionFrom, sessionFits, flagNumber, grantsBytes, grantsFrom, grantsFit, processBytes, processFrom, kindFits, processFits, kindByte, kindFrom}
+use Rattle.layout.specs.Layout.{flagAt, wordAt, wordSize, credentialSize, ownerAt, kindAt, sessionAt, nextAt, nextSize, placeSize, sessionSize, lastPhase, phaseByte, phaseFrom, sessionBytes, sessionFrom, sessionFits, setFlag, flagNumber, grantsBytes, grantsFrom, grantsFit, processBytes, processFrom, kindFits, processFits}
 use Rattle.facts.specs.Facts.{WideGrants, WideProcess, FormedGrants, FormedProcess}
 use Rattle.claims.specs.Module.{lastHandle, lastCredential}
 
 -- ---- a session
-pub phase-forth : (b : ℕ) → b ≤ 2 → phaseByte (phaseFrom b) ≡ b
+pub phase-forth : (b : ℕ) → b ≤ lastPhase → phaseByte (phaseFrom b) ≡ b
 phase-forth zero h = refl
 phase-forth (suc zero) h = refl
 phase-forth (suc (suc zero)) h = refl
@@ -36,12 +38,12 @@ phase-back Closed = refl
 phase-back Opened = refl
 phase-back Chosen = refl
 
-phase-fits : (p : Phase) → leb (phaseByte p) 2 ≡ true
+phase-fits : (p : Phase) → leb (phaseByte p) lastPhase ≡ true
 phase-fits Closed = refl
 phase-fits Opened = refl
 phase-fits Chosen = refl
 
-pub session-codec : Codec 1 sessionBytes sessionFrom sessionFits (λ s. Unit) (λ s. Unit)
+pub session-codec : Codec sessionSize sessionBytes sessionFrom sessionFits (λ s. Unit) (λ s. Unit)
 unfolding sessionBytes sessionFrom sessionFits
 session-codec =
     record {
@@ -54,17 +56,17 @@ session-codec =
       good = λ b n h e. tt;
     }
   where
-    forth : (b : List ℕ) → length b ≡ 1 → Bytes b → sessionFits b ≡ true → sessionBytes (sessionFrom b) ≡ b
+    forth : (b : List ℕ) → length b ≡ sessionSize → Bytes b → sessionFits b ≡ true → sessionBytes (sessionFrom b) ≡ b
     forth [] n h e = absurd (omega arith)
-    forth (x ∷ []) n h e = rw (phase-forth x (leb-true x 2 e))
+    forth (x ∷ []) n h e = rw (phase-forth x (leb-true x lastPhase e))
     forth (x ∷ y ∷ b) n h e = absurd (omega arith)
 
 -- ---- a credential's grants
-flag-back : (f : Bool) → eqb (flagNumber f) 1 ≡ f
+flag-back : (f : Bool) → eqb (flagNumber f) setFlag ≡ f
 flag-back true = refl
 flag-back false = refl
 
-flag-forth : (x : ℕ) → x ≤ 1 → flagNumber (eqb x 1) ≡ x
+flag-forth : (x : ℕ) → x ≤ setFlag → flagNumber (eqb x setFlag) ≡ x
 flag-forth zero h = refl
 flag-forth (suc zero) h = refl
 flag-forth (suc (suc x)) h = absurd (omega arith)
@@ -74,21 +76,21 @@ unfolding grantsFit grantsBytes bytesOf every
 grants-fits g v true e = rw e
 grants-fits g v false e = rw (e, v .kept e)
 
-grants-word : (g : Grants) → g .word < 256 ^ 4 → numberAt 4 wordAt (grantsBytes g) ≡ g .word
+grants-word : (g : Grants) → g .word < 256 ^ wordSize → numberAt wordSize wordAt (grantsBytes g) ≡ g .word
 unfolding grantsBytes
-grants-word g h = rw append-nil at (number-in 4 (g .word) (flagNumber (g .provisioned) ∷ []) [] h)
+grants-word g h = rw append-nil at (number-in wordSize (g .word) (flagNumber (g .provisioned) ∷ []) [] h)
 
 -- a credential that is not provisioned is zeros behind its flag
-grants-clear : (row : List ℕ) → grantsFit row ≡ true → eqb (getD row flagAt 0) 1 ≡ false → every isZero (drop wordAt row) ≡ true
+grants-clear : (row : List ℕ) → grantsFit row ≡ true → eqb (getD row flagAt 0) setFlag ≡ false → every isZero (drop wordAt row) ≡ true
 unfolding grantsFit
-grants-clear row e k = rw k at (and-right (leb (getD row flagAt 0) 1) (eqb (getD row flagAt 0) 1 || every isZero (drop wordAt row)) e)
+grants-clear row e k = rw k at (and-right (leb (getD row flagAt 0) setFlag) (eqb (getD row flagAt 0) setFlag || every isZero (drop wordAt row)) e)
 
 pub grants-codec : Codec credentialSize grantsBytes grantsFrom grantsFit WideGrants FormedGrants
 unfolding grantsBytes grantsFrom grantsFit
 grants-codec =
     record {
       wide = λ g v. record { word = v .word };
-      long = λ g v. ap suc (length-bytes 4 (g .word));
+      long = λ g v. ap suc (length-bytes wordSize (g .word));
       only = only;
       back = λ g v. rw (flag-back (g .provisioned), grants-word g (v .word));
       fits = λ g v. grants-fits g v (g .provisioned) refl;
@@ -100,33 +102,18 @@ grants-codec =
     only g v e =
         record {
           word = v .word;
-          kept = λ k. sym (grants-word g (v .word)) ∙ number-clear 4 wordAt wordAt (grantsBytes g) (grants-clear (grantsBytes g) e (flag-back (g .provisioned) ∙ k)) (omega arith);
+          kept = λ k. sym (grants-word g (v .word)) ∙ number-clear wordSize wordAt wordAt (grantsBytes g) (grants-clear (grantsBytes g) e (flag-back (g .provisioned) ∙ k)) (omega arith);
         }
 
     forth : (b : List ℕ) → length b ≡ credentialSize → Bytes b → grantsFit b ≡ true → grantsBytes (grantsFrom b) ≡ b
     forth b n h e =
-        let f : flagNumber (eqb (getD b flagAt 0) 1) ≡ getD b flagAt 0 = flag-forth (getD b flagAt 0) (leb-true (getD b flagAt 0) 1 (and-left (leb (getD b flagAt 0) 1) _ e)) in
-        rw (f, number-taken 4 wordAt b h (omega arith), part-last 4 wordAt b (omega arith)) (byte-front flagAt b (omega arith))
+        let f : flagNumber (eqb (getD b flagAt 0) setFlag) ≡ getD b flagAt 0 = flag-forth (getD b flagAt 0) (leb-true (getD b flagAt 0) setFlag (and-left (leb (getD b flagAt 0) setFlag) _ e)) in
+        rw (f, number-taken wordSize wordAt b h (omega arith), part-last wordSize wordAt b (omega arith)) (byte-front flagAt b (omega arith))
 
     good : (b : List ℕ) → length b ≡ credentialSize → Bytes b → grantsFit b ≡ true → FormedGrants (grantsFrom b)
-    good b n h e = record { word = number-low 4 wordAt b h; kept = λ k. number-clear 4 wordAt wordAt b (grants-clear b e k) (omega arith) }
+    good b n h e = record { word = number-low wordSize wordAt b h; kept = λ k. number-clear wordSize wordAt wordAt b (grants-clear b e k) (omega arith) }
 
 -- ---- a place
-kind-back : (k : Kind) → kindFrom (kindByte k) ≡ k
-kind-back User = refl
-kind-back Elevation = refl
-kind-back Saved = refl
-
-kind-forth : (n : ℕ) → n ≤ 2 → kindByte (kindFrom n) ≡ n
-kind-forth zero h = refl
-kind-forth (suc zero) h = refl
-kind-forth (suc (suc n)) h = omega arith
-
-kind-fits : (k : Kind) → leb (kindByte k) 2 ≡ true
-kind-fits User = refl
-kind-fits Elevation = refl
-kind-fits Saved = refl
-
 kind-test : (k : Kind) (s n : ℕ) → (k ≡ Saved → s ≡ 0) → (k ≡ Elevation → n ≡ 0) → (k ≡ Saved → 1 ≤ n) → kindFits k s n ≡ true
 kind-test User s n a b c = refl
 kind-test Elevation s n a b c = eq-eqb n 0 (b refl)
@@ -144,31 +131,31 @@ kept-elevation s n e q = eqb-true n 0 (rw q at e)
 -- what the test of a place tells, by its five fields
 pub record PlaceFits (c k s n : ℕ) : Type 0 where
   pub credential : c ≤ lastCredential
-  pub type : k ≤ 2
+  pub type : k ≤ lastType
   pub session : s ≤ lastHandle
-  pub kept : kindFits (kindFrom k) s n ≡ true
+  pub kept : kindFits (kindNumbered k) s n ≡ true
 
-place-fits : (row : List ℕ) → processFits row ≡ true → PlaceFits (getD row ownerAt 0) (getD row kindAt 0) (getD row sessionAt 0) (numberAt 2 nextAt row)
+place-fits : (row : List ℕ) → processFits row ≡ true → PlaceFits (getD row ownerAt 0) (getD row kindAt 0) (getD row sessionAt 0) (numberAt nextSize nextAt row)
 unfolding processFits
 place-fits row e =
     let e₁ = and-right (leb (getD row ownerAt 0) lastCredential) _ e in
-    let e₂ = and-right (leb (getD row kindAt 0) 2) _ e₁ in
+    let e₂ = and-right (leb (getD row kindAt 0) lastType) _ e₁ in
     record {
       credential = leb-true (getD row ownerAt 0) lastCredential (and-left (leb (getD row ownerAt 0) lastCredential) _ e);
-      type = leb-true (getD row kindAt 0) 2 (and-left (leb (getD row kindAt 0) 2) _ e₁);
+      type = leb-true (getD row kindAt 0) lastType (and-left (leb (getD row kindAt 0) lastType) _ e₁);
       session = leb-true (getD row sessionAt 0) lastHandle (and-left (leb (getD row sessionAt 0) lastHandle) _ e₂);
       kept = and-right (leb (getD row sessionAt 0) lastHandle) _ e₂;
     }
 
-process-next : (p : Process) → p .next < 256 ^ 2 → numberAt 2 nextAt (processBytes p) ≡ p .next
+process-next : (p : Process) → p .next < 256 ^ nextSize → numberAt nextSize nextAt (processBytes p) ≡ p .next
 unfolding processBytes
-process-next p h = number-in 2 (p .next) (byteOf (p .credential .0) ∷ kindByte (p .kind) ∷ p .session .0 ∷ []) (p .name .bytes) h
+process-next p h = number-in nextSize (p .next) (byteOf (p .credential .0) ∷ kindNumber (p .kind) ∷ p .session .0 ∷ []) (p .name .bytes) h
 
 process-forth : (b : List ℕ) → length b ≡ placeSize → Bytes b → processFits b ≡ true → processBytes (processFrom b) ≡ b
 unfolding processBytes processFrom
 process-forth b n h e =
     let t = place-fits b e in
-    rw (byte-small (getD b ownerAt 0) (h 0), kind-forth (getD b kindAt 0) (t .type), number-taken 2 nextAt b h (omega arith), part-front 2 nextAt b, byte-front sessionAt b (omega arith), byte-front kindAt b (omega arith))
+    rw (byte-small (getD b ownerAt 0) (h 0), kind-forth (getD b kindAt 0) (t .type), number-taken nextSize nextAt b h (omega arith), part-front nextSize nextAt b, byte-front sessionAt b (omega arith), byte-front kindAt b (omega arith))
     (byte-front ownerAt b (omega arith))
 
 pub process-codec : Codec placeSize processBytes processFrom processFits WideProcess FormedProcess
@@ -176,7 +163,7 @@ unfolding processBytes processFrom processFits bytesOf
 process-codec =
     record {
       wide = λ p v. record { next = v .next; name = v .name };
-      long = λ p v. simp length-append (omega (arith, length-bytes 2 (p .next), v .name));
+      long = λ p v. simp length-append (omega (arith, length-bytes nextSize (p .next), v .name));
       only = only;
       back = back;
       fits = fits;
@@ -206,7 +193,7 @@ process-codec =
     fits : (p : Process) → FormedProcess p → processFits (processBytes p) ≡ true
     fits p v =
         let c : byteOf (p .credential .0) ≡ p .credential .0 = byte-small (p .credential .0) (omega (arith, v .credential)) in
-        rw (process-next p (v .next), c, le-leb (p .credential .0) lastCredential (v .credential), kind-fits (p .kind), le-leb (p .session .0) lastHandle (v .session), kind-back (p .kind))
+        rw (process-next p (v .next), c, le-leb (p .credential .0) lastCredential (v .credential), le-leb (kindNumber (p .kind)) lastType (kind-low (p .kind)), le-leb (p .session .0) lastHandle (v .session), kind-back (p .kind))
         (kind-test (p .kind) (p .session .0) (p .next) (v .saved) (v .elevation) (v .counted))
 
     good : (b : List ℕ) → length b ≡ placeSize → Bytes b → processFits b ≡ true → FormedProcess (processFrom b)
@@ -215,11 +202,11 @@ process-codec =
         record {
           credential = t .credential;
           session = t .session;
-          next = number-low 2 nextAt b h;
+          next = number-low nextSize nextAt b h;
           name = simp length-drop (omega arith);
-          saved = kept-saved (getD b sessionAt 0) (numberAt 2 nextAt b) (t .kept);
-          elevation = kept-elevation (getD b sessionAt 0) (numberAt 2 nextAt b) (t .kept);
-          counted = kept-counted (getD b sessionAt 0) (numberAt 2 nextAt b) (t .kept);
+          saved = kept-saved (getD b sessionAt 0) (numberAt nextSize nextAt b) (t .kept);
+          elevation = kept-elevation (getD b sessionAt 0) (numberAt nextSize nextAt b) (t .kept);
+          counted = kept-counted (getD b sessionAt 0) (numberAt nextSize nextAt b) (t .kept);
         }
 
 -- ---- a free place is zeros, and the other way round

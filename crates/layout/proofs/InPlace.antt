@@ -17,7 +17,8 @@ use Rattle.rows.proofs.Rows.{each-take, array-long, join-at, join-set}
 use Rattle.table.specs.Table.{standing, tableOf, freePlace, processAt, replaced, places}
 use Rattle.table.specs.declared.Process.{Process}
 use Rattle.claims.specs.declared.State.{State}
-use Rattle.layout.specs.Layout.{nextAt, placeSize, placesAt, stateLength, sessionBytes, grantsBytes, kindByte, processBytes, stateBytes, stateOf, numbered, withNext, nextWritten, holdsState}
+use Rattle.names.specs.Names.{kindNumber}
+use Rattle.layout.specs.Layout.{nextAt, nextSize, placeSize, placesAt, stateLength, sessionBytes, grantsBytes, processBytes, stateBytes, stateOf, numbered, withNext, nextWritten, holdsState}
 use Rattle.facts.specs.Facts.{Wide, Formed}
 use Rattle.facts.proofs.Laws.{formed-few}
 use Rattle.layout.proofs.Fields.{process-codec}
@@ -26,7 +27,7 @@ use Rattle.layout.proofs.Laws.{formed-wide, sessions-long, credentials-
 -- the bytes of a state from its parts, with a next number n in one place
 glue : (s g x y : List ℕ) (c : ℕ) (p : Process) (n : ℕ)
     → s ++ (g ++ (c ∷ (x ++ (processBytes (numbered p n) ++ y))))
-    ≡ (s ++ (g ++ (c ∷ (x ++ (byteOf (p .credential .0) ∷ kindByte (p .kind) ∷ p .session .0 ∷ []))))) ++ (bytesOf 2 n ++ (p .name .bytes ++ y))
+    ≡ (s ++ (g ++ (c ∷ (x ++ (byteOf (p .credential .0) ∷ kindNumber (p .kind) ∷ p .session .0 ∷ []))))) ++ (bytesOf nextSize n ++ (p .name .bytes ++ y))
 unfolding processBytes
 glue s g x y c p n = simp append-assoc
 
@@ -63,7 +64,7 @@ module _ {st : State} (f : Formed st) (at : ℕ) (h : at < length (standing (st 
       let y : List ℕ = join (map processBytes (drop (suc at) l)) in
       let c : ℕ = byteOf (st .table .count) in
       let front : length x ≡ at * placeSize = array-long process-codec (each-take at (w .each)) ∙ rw (length-take-le at l (omega arith)) in
-      let head : List ℕ = s ++ (g ++ (c ∷ (x ++ (byteOf (p .credential .0) ∷ kindByte (p .kind) ∷ p .session .0 ∷ [])))) in
+      let head : List ℕ = s ++ (g ++ (c ∷ (x ++ (byteOf (p .credential .0) ∷ kindNumber (p .kind) ∷ p .session .0 ∷ [])))) in
       let before : length head ≡ placesAt + at * placeSize + nextAt =
       simp length-append (omega (arith, front, sessions-long w, credentials-long w))
       in
@@ -71,8 +72,8 @@ module _ {st : State} (f : Formed st) (at : ℕ) (h : at < length (standing (st 
       rw (replaced-count (numbered (processAt (st .table) at) n), replaced-places (numbered (processAt (st .table) at) n), place-is, join-set processBytes l at inside (numbered p n))
       in
       rw (eq-eqb (length (stateBytes st)) stateLength (bytes-long w), lt-ltb at places room, join-at processBytes l at inside freePlace, new)
-      (ap (λ (b : List ℕ). over (placesAt + at * placeSize + nextAt) 2 (bytesOf 2 n) b) (glue s g x y c p (p .next))
-      ∙ over-middle (placesAt + at * placeSize + nextAt) 2 head (bytesOf 2 (p .next)) (p .name .bytes ++ y) (bytesOf 2 n) before (length-bytes 2 (p .next))
+      (ap (λ (b : List ℕ). over (placesAt + at * placeSize + nextAt) nextSize (bytesOf nextSize n) b) (glue s g x y c p (p .next))
+      ∙ over-middle (placesAt + at * placeSize + nextAt) nextSize head (bytesOf nextSize (p .next)) (p .name .bytes ++ y) (bytesOf nextSize n) before (length-bytes nextSize (p .next))
       ∙ sym (glue s g x y c p n))
 
 -- so in a slice that holds a state

@@ -23,7 +23,7 @@ use Rattle.table.specs.Table.{standing, tableOf, freePlace, places}
 use Rattle.table.specs.declared.Process.{Process}
 use Rattle.table.specs.declared.Table.{Table}
 use Rattle.claims.specs.declared.State.{State}
-use Rattle.layout.specs.Layout.{credentialSize, placeSize, sessionSize, credentialsAt, countAt, placesAt, stateLength, sessionBytes, sessionFrom, sessionFits, grantsBytes, grantsFrom, grantsFit, processBytes, processFrom, processFits, countIn, placesIn, stateBytes, stateIn, nothingHeld, stateOf, stateWritten, ownersFit, restIsFree, shaped, sound, holdsState}
+use Rattle.layout.specs.Layout.{credentialSize, placeSize, sessionSize, credentialsAt, countAt, countSize, placesAt, stateLength, sessionBytes, sessionFrom, sessionFits, grantsBytes, grantsFrom, grantsFit, processBytes, processFrom, processFits, countIn, placesIn, stateBytes, stateIn, nothingHeld, stateOf, stateWritten, ownersFit, restIsFree, shaped, sound, holdsState}
 use Rattle.facts.specs.Facts.{FormedGrants, FormedProcess, Formed, IsState, Wide}
 use Rattle.facts.proofs.Laws.{formed-few}
 use Rattle.layout.proofs.Fields.{session-codec, grants-codec, process-codec, free-row, free-of, free-formed}
@@ -39,7 +39,7 @@ module _ (A B P : List ℕ) (c : ℕ) (a : length A ≡ sessionCount) (b : lengt
   from-count = sym (drop-drop (credentialCount * credentialSize) credentialsAt (A ++ (B ++ (c ∷ P)))) ∙ rw from-credentials (drop-at B (c ∷ P) (credentialCount * credentialSize) b)
 
   from-places : drop placesAt (A ++ (B ++ (c ∷ P))) ≡ P
-  from-places = sym (drop-drop 1 countAt (A ++ (B ++ (c ∷ P)))) ∙ rw from-count
+  from-places = sym (drop-drop countSize countAt (A ++ (B ++ (c ∷ P)))) ∙ rw from-count
 
   at-count : getD (A ++ (B ++ (c ∷ P))) countAt 0 ≡ c
   at-count = sym (getD-drop countAt (A ++ (B ++ (c ∷ P))) 0 0) ∙ rw from-count
@@ -355,11 +355,3 @@ holds-exactly {st} w = (tells, holds-written)
         let f : Formed st = shape-only w v in
         let s : sound st ≡ true = rw (ranged-back w (shape-ranged w v)) at (and-right (shaped (stateBytes st)) (sound (stateOf (stateBytes st))) e) in
         record { rules = sound-exactly st (formed-few f) .0 s; formed = f }
-
--- ---- a slice into which a state was written
-module _ (b : List ℕ) (h : length b ≡ stateLength) {st : State} (v : IsState st) where
-  pub written-back : stateOf (stateWritten b st) ≡ st
-  written-back = rw (state-written b st h) (state-back (v .formed))
-
-  pub written-holds : holdsState (stateWritten b st) ≡ true
-  written-holds = rw (state-written b st h) (holds-written v)

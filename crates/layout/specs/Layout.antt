@@ -4,11 +4,11 @@ use Prim.Native.Nat.{ℕ, zero, suc, _+_, _*_}
 use mathlib.Core.Bool.{Bool, true, false, cond, not, _&&_, _||_}
 use mathlib.Core.List.{List, [], _∷_, _++_, map}
 use lib.Dec.{eqb, leb, ltb}
-use lib.ListN.{length, take, drop, getD, replicate}
+use lib.ListN.{length, drop, getD, replicate}
 use Rattle.lists.specs.Lists.{join}
 use Rattle.rows.specs.Bytes.{isZero, bytesOf, numberAt, byteOf}
 use Rattle.rows.specs.Rows.{rows, every, pairwise, over}
-use Rattle.names.specs.Names.{sameName, nameLength}
+use Rattle.names.specs.Names.{sameName, nameLength, lastType, kindNumber, kindNumbered}
 use Rattle.names.specs.declared.Kind.{Kind}
 use Rattle.names.specs.declared.Kind.the-variants.{User, Elevation, Saved}
 use Rattle.table.specs.Table.{standing, tableOf, processAt, replaced, isUser, isElevation, isActive, isActiveIn, places}
@@ -28,8 +28,11 @@ flagAt = 0
 abbrev pub wordAt : ℕ
 wordAt = flagAt + 1
 
+abbrev pub wordSize : ℕ
+wordSize = 4
+
 abbrev pub credentialSize : ℕ
-credentialSize = wordAt + 4
+credentialSize = wordAt + wordSize
 
 -- ---- of a place
 abbrev pub ownerAt : ℕ
@@ -44,8 +47,11 @@ sessionAt = kindAt + 1
 abbrev pub nextAt : ℕ
 nextAt = sessionAt + 1
 
+abbrev pub nextSize : ℕ
+nextSize = 2
+
 abbrev pub nameAt : ℕ
-nameAt = nextAt + 2
+nameAt = nextAt + nextSize
 
 abbrev pub placeSize : ℕ
 placeSize = nameAt + nameLength
@@ -63,19 +69,35 @@ credentialsAt = sessionsAt + sessionCount * sessionSize
 abbrev pub countAt : ℕ
 countAt = credentialsAt + credentialCount * credentialSize
 
+abbrev pub countSize : ℕ
+countSize = 1
+
 abbrev pub placesAt : ℕ
-placesAt = countAt + 1
+placesAt = countAt + countSize
 
 abbrev pub stateLength : ℕ
 stateLength = placesAt + places * placeSize
 
 -- ---- a session: "Each is closed, or open without a version, or open with version 1.0."
-abbrev pub phaseByte : Phase → ℕ
-phaseByte Closed = 0
-phaseByte Opened = 1
-phaseByte Chosen = 2
+abbrev pub closedByte : ℕ
+closedByte = 0
 
--- and back; a byte over 2 is no phase's, and `sessionFits` refuses it
+abbrev pub openedByte : ℕ
+openedByte = 1
+
+abbrev pub chosenByte : ℕ
+chosenByte = 2
+
+-- a byte over this is no phase's
+abbrev pub lastPhase : ℕ
+lastPhase = chosenByte
+
+abbrev pub phaseByte : Phase → ℕ
+phaseByte Closed = closedByte
+phaseByte Opened = openedByte
+phaseByte Chosen = chosenByte
+
+-- and back; what is no phase's `sessionFits` refuses
 abbrev pub phaseFrom : ℕ → Phase
 phaseFrom zero = Closed
 phaseFrom (suc zero) = Opened
@@ -89,47 +111,39 @@ unfoldable pub sessionFrom : List ℕ → SessionState
 sessionFrom row = record { phase = phaseFrom (getD row 0 0) }
 
 unfoldable pub sessionFits : List ℕ → Bool
-sessionFits row = leb (getD row 0 0) 2
+sessionFits row = leb (getD row 0 0) lastPhase
 
 -- ---- a credential: "Each is provisioned or not, and has a grant word of 32 bits". A flag, and the word, little endian
+abbrev pub setFlag : ℕ
+setFlag = 1
+
 abbrev pub flagNumber : Bool → ℕ
-flagNumber true = 1
+flagNumber true = setFlag
 flagNumber false = 0
 
 unfoldable pub grantsBytes : Grants → List ℕ
-grantsBytes g = flagNumber (g .provisioned) ∷ bytesOf 4 (g .word)
+grantsBytes g = flagNumber (g .provisioned) ∷ bytesOf wordSize (g .word)
 
 unfoldable pub grantsFrom : List ℕ → Grants
-grantsFrom row = record { provisioned = eqb (getD row flagAt 0) 1; word = numberAt 4 wordAt row }
+grantsFrom row = record { provisioned = eqb (getD row flagAt 0) setFlag; word = numberAt wordSize wordAt row }
 
 -- "a field kept zero isn't zero (an unprovisioned credential's word too)"
 unfoldable pub grantsFit : List ℕ → Bool
-grantsFit row = leb (getD row flagAt 0) 1 && (eqb (getD row flagAt 0) 1 || every isZero (drop wordAt row))
+grantsFit row = leb (getD row flagAt 0) setFlag && (eqb (getD row flagAt 0) setFlag || every isZero (drop wordAt row))
 
--- ---- a place: "Each has a credential, a type .., the session when active, a next number, and a name of 48 bytes". The next number is
--- little endian
-abbrev pub kindByte : Kind → ℕ
-kindByte User = 0
-kindByte Elevation = 1
-kindByte Saved = 2
-
--- and back; a byte over 2 is no kind's, and `processFits` refuses it
-abbrev pub kindFrom : ℕ → Kind
-kindFrom zero = User
-kindFrom (suc zero) = Elevation
-kindFrom (suc (suc n)) = Saved
-
+-- ---- a place: "Each has a credential, a type .., the session when active, a next number, and a name of 48 bytes". The type is its number in 004
+-- Table 46, the next number is little endian
 unfoldable pub processBytes : Process → List ℕ
 processBytes p =
-    byteOf (p .credential .0) ∷ kindByte (p .kind) ∷ p .session .0 ∷ (bytesOf 2 (p .next) ++ p .name .bytes)
+    byteOf (p .credential .0) ∷ kindNumber (p .kind) ∷ p .session .0 ∷ (bytesOf nextSize (p .next) ++ p .name .bytes)
 
 unfoldable pub processFrom : List ℕ → Process
 processFrom row =
     record {
       credential = record { 0 = getD row ownerAt 0 };
-      kind = kindFrom (getD row kindAt 0);
+      kind = kindNumbered (getD row kindAt 0);
       session = record { 0 = getD row sessionAt 0 };
-      next = numberAt 2 nextAt row;
+      next = numberAt nextSize nextAt row;
       name = record { bytes = drop nameAt row };
     }
 
@@ -143,9 +157,9 @@ kindFits Saved session next = eqb session 0 && leb 1 next
 unfoldable pub processFits : List ℕ → Bool
 processFits row =
     leb (getD row ownerAt 0) lastCredential
-    && (leb (getD row kindAt 0) 2
+    && (leb (getD row kindAt 0) lastType
     && (leb (getD row sessionAt 0) lastHandle
-    && kindFits (kindFrom (getD row kindAt 0)) (getD row sessionAt 0) (numberAt 2 nextAt row)))
+    && kindFits (kindNumbered (getD row kindAt 0)) (getD row sessionAt 0) (numberAt nextSize nextAt row)))
 
 -- ---- the whole: where each part begins is where the one before it ends
 unfoldable pub countIn : List ℕ → ℕ
@@ -195,7 +209,7 @@ abbrev pub nextPlace : ℕ → ℕ
 nextPlace at = placesAt + at * placeSize + nextAt
 
 unfoldable pub nextWritten : List ℕ → ℕ → ℕ → List ℕ
-nextWritten b at next = cond (eqb (length b) stateLength && ltb at places) (over (nextPlace at) 2 (bytesOf 2 next) b) b
+nextWritten b at next = cond (eqb (length b) stateLength && ltb at places) (over (nextPlace at) nextSize (bytesOf nextSize next) b) b
 
 -- ---- "A slice holds no state when its length is another, a field is out of its range, a field kept zero isn't zero"
 

@@ -2,13 +2,13 @@
 -- start, that a turn keeps it, and what it says at the end.
 -- Assumes nothing.
 use Prim.Native.Nat.{ℕ, suc, _+_, _-_, _<_, _≤_}
-use mathlib.Core.Path.{_≡_, refl, sym, ap, _∙_}
+use mathlib.Core.Path.{_≡_, refl, sym, _∙_}
 use mathlib.Core.Bool.{Bool, true, false}
 use mathlib.Core.List.{List, [], _∷_, _++_, map, append-nil, append-assoc}
 use native.Mathlib.Nat.{add-zero}
 use native.Mathlib.Numerals.{add-one}
 use native.Mathlib.Omega.{arith}
-use lib.ListN.{length, getD, take, drop, set, length-set, length-map, replicate, length-take, length-append, drop-of-length-le, take-append-drop, length-replicate, length-drop, replicate-append-replicate}
+use lib.ListN.{length, getD, take, drop, set, length-set, length-map, replicate, length-take, length-append, drop-of-length-le, take-append-drop, length-replicate, replicate-append-replicate}
 use lib.Seq.{drop-cons, getD-take, getD-drop, getD-append-add, length-take-le, take-take, take-suc, take-append-le, drop-append-le, append-snoc, set-at, take-at, take-all, getD-at}
 use Rattle.lists.specs.Lists.{firstIndex, reject, select, removeAt, padded}
 use Rattle.lists.proofs.Lists.{length-remove, reject-snoc, select-snoc}
@@ -99,9 +99,6 @@ module _ {A : Type 0} where
     done : length (take n l₀ ++ replicate (i - n) z) ≡ i
     done = simp (length-append, length-replicate, length-take) (omega arith)
 
-    pub cleared-length : length l ≡ length l₀
-    cleared-length = ap length (v .is) ∙ rw (length-append, done, length-drop) (omega arith)
-
     pub cleared-more : i < length l₀ → Cleared l₀ n z (set l i z) (i + 1)
     cleared-more h =
         let e : i + 1 - n ≡ i - n + 1 = omega arith in
@@ -152,9 +149,6 @@ module _ {A : Type 0} where
         let k : length (take (suc i) l₀) ≡ suc i = length-take-le (suc i) l₀ (omega arith) in
         omega (arith, length-remove at (take (suc i) l₀) (omega arith))
 
-    pub shifted-length : length l ≡ length l₀
-    shifted-length = ap length (v .is) ∙ rw (length-append, moved, length-drop) (omega arith)
-
     pub shifted-more : (d : A) → i + 1 < n → Shifted l₀ n at (set l i (getD l (i + 1) d)) (i + 1)
     shifted-more d h = record { from = omega arith; low = h; within = v .within; is = e }
       where
@@ -180,8 +174,8 @@ module _ {A : Type 0} where
         let f : n - 1 ≡ i = omega arith in
         rw (f, e, v .is) (take-at (removeAt at (take (suc i) l₀)) (drop i l₀) i moved)
 
-  -- ---- of the first n of l, what fails the test kept: k are kept, at the front of m places, and the rest is z
-  pub record Kept (f : A → Bool) (l : List A) (n m : ℕ) (z : A) (out : List A) (k i : ℕ) : Type 0 where
+  -- ---- of the first n of l, what passes the test sifted out: k are left, at the front of m places, and the rest is z
+  pub record Sifted (f : A → Bool) (l : List A) (n m : ℕ) (z : A) (out : List A) (k i : ℕ) : Type 0 where
     pub low : i ≤ n
     pub within : n ≤ length l
     pub room : n ≤ m
@@ -189,9 +183,9 @@ module _ {A : Type 0} where
     pub count : k ≡ length (reject f (take i l))
     pub is : out ≡ padded m z (reject f (take i l))
 
-  pub kept-none : (f : A → Bool) (l : List A) (n m : ℕ) (z : A) → n ≤ length l → n ≤ m → Kept f l n m z (replicate m z) 0 0
+  pub sifted-none : (f : A → Bool) (l : List A) (n m : ℕ) (z : A) → n ≤ length l → n ≤ m → Sifted f l n m z (replicate m z) 0 0
   unfolding reject padded
-  kept-none f l n m z h r =
+  sifted-none f l n m z h r =
       record {
         low = omega arith;
         within = h;
@@ -201,12 +195,12 @@ module _ {A : Type 0} where
         is = (let e : m - 0 ≡ m = omega arith in rw e);
       }
 
-  module _ {f : A → Bool} {l : List A} {n m : ℕ} {z : A} {out : List A} {k i : ℕ} (d : A) (v : Kept f l n m z out k i) (h : i < n) where
+  module _ {f : A → Bool} {l : List A} {n m : ℕ} {z : A} {out : List A} {k i : ℕ} (d : A) (v : Sifted f l n m z out k i) (h : i < n) where
     next : take (i + 1) l ≡ take i l ++ (getD l i d ∷ [])
     next = rw add-one (take-suc l i d (omega arith))
 
-    pub kept-not : f (getD l i d) ≡ true → Kept f l n m z out k (i + 1)
-    kept-not e =
+    pub sifted-out : f (getD l i d) ≡ true → Sifted f l n m z out k (i + 1)
+    sifted-out e =
         let s : reject f (take (i + 1) l) ≡ reject f (take i l) = rw (next, reject-snoc, e) in
         record {
           low = omega arith;
@@ -217,9 +211,9 @@ module _ {A : Type 0} where
           is = rw s (v .is);
         }
 
-    pub kept-more : f (getD l i d) ≡ false → Kept f l n m z (set out k (getD l i d)) (k + 1) (i + 1)
+    pub sifted-in : f (getD l i d) ≡ false → Sifted f l n m z (set out k (getD l i d)) (k + 1) (i + 1)
     unfolding padded
-    kept-more e =
+    sifted-in e =
         let s : reject f (take (i + 1) l) ≡ reject f (take i l) ++ (getD l i d ∷ []) = rw (next, reject-snoc, e) in
         let c : length (reject f (take i l) ++ (getD l i d ∷ [])) ≡ k + 1 = rw length-append (omega (arith, v .count)) in
         let r : m - k ≡ suc (m - (k + 1)) = omega arith in

@@ -15,12 +15,14 @@ use Rattle.rows.proofs.Bytes.{number-in, number-forth, number-low}
 use Rattle.rows.proofs.Loops.{and-assoc}
 use Rattle.rows.proofs.Rows.{Codec}
 use Rattle.lists.proofs.Tests.{split, clash, and-left, and-right}
+use Rattle.names.specs.declared.Kind.{Kind}
+use Rattle.names.specs.declared.Kind.the-variants.{User, Elevation, Saved}
 use Rattle.names.specs.declared.Name.{Name}
 use Rattle.names.specs.declared.Row.{Row}
 use Rattle.names.specs.declared.RowRead.{RowRead}
 use Rattle.names.specs.declared.RowType.{RowType}
 use Rattle.names.specs.declared.RowType.the-variants.{ActiveUser, ActiveElevation, SavedUser}
-use Rattle.names.specs.Names.{sameBytes, sameName, readName, nameIn, typeNumber, typeNumbered, rowBytes, rowIn, isRow, rowFrom, readRow}
+use Rattle.names.specs.Names.{nameLength, sameBytes, sameName, readName, nameIn, userType, elevationType, lastType, typeNumber, typeNumbered, typeOf, kindNumber, kindNumbered, rowCredentialAt, rowCredentialSize, rowTypeAt, rowLength, rowBytes, rowIn, isRow, rowFrom, readRow}
 
 -- ---- names
 pub same→eq : (a b : List ℕ) → sameBytes a b ≡ true → a ≡ b
@@ -67,23 +69,23 @@ pub name→same : (a b : Name) → a ≡ b → sameName a b ≡ true
 name→same a b e = same-iff a b .1 (ap (λ (n : Name). n .bytes) e)
 
 -- ---- reading and writing a name, by the length of the slice
-pub name-read : (part : List ℕ) → length part ≡ 48 → readName part ≡ record { fits = true; name = record { bytes = part } }
+pub name-read : (part : List ℕ) → length part ≡ nameLength → readName part ≡ record { fits = true; name = record { bytes = part } }
 unfolding readName
-name-read part h = rw (eq-eqb (length part) 48 h)
+name-read part h = rw (eq-eqb (length part) nameLength h)
 
 -- the name in the last bytes of a row
-pub name-last : (row : List ℕ) (at : ℕ) → length row ≡ at + 48 → readName (take 48 (drop at row)) .name ≡ record { bytes = drop at row }
+pub name-last : (row : List ℕ) (at : ℕ) → length row ≡ at + nameLength → readName (take nameLength (drop at row)) .name ≡ record { bytes = drop at row }
 name-last row at h =
-    let l : length (drop at row) ≡ 48 = rw length-drop (omega arith) in
-    rw (take-all 48 (drop at row) (omega arith), name-read (drop at row) l)
+    let l : length (drop at row) ≡ nameLength = rw length-drop (omega arith) in
+    rw (take-all nameLength (drop at row) (omega arith), name-read (drop at row) l)
 
-pub name-in : (part : List ℕ) (name : Name) → length part ≡ 48 → nameIn part name ≡ name .bytes
+pub name-in : (part : List ℕ) (name : Name) → length part ≡ nameLength → nameIn part name ≡ name .bytes
 unfolding nameIn
-name-in part name h = rw (eq-eqb (length part) 48 h)
+name-in part name h = rw (eq-eqb (length part) nameLength h)
 
-pub name-not-in : (part : List ℕ) (name : Name) → (length part ≡ 48 → ⊥) → nameIn part name ≡ part
+pub name-not-in : (part : List ℕ) (name : Name) → (length part ≡ nameLength → ⊥) → nameIn part name ≡ part
 unfolding nameIn
-name-not-in part name h = rw (ne-eqb (length part) 48 h)
+name-not-in part name h = rw (ne-eqb (length part) nameLength h)
 
 -- ---- rows
 pub type-back : (k : RowType) → typeNumbered (typeNumber k) ≡ k
@@ -91,22 +93,41 @@ type-back ActiveUser = refl
 type-back ActiveElevation = refl
 type-back SavedUser = refl
 
-pub type-forth : (n : ℕ) → n ≤ 2 → typeNumber (typeNumbered n) ≡ n
+pub type-forth : (n : ℕ) → n ≤ lastType → typeNumber (typeNumbered n) ≡ n
 type-forth zero h = refl
 type-forth (suc zero) h = refl
 type-forth (suc (suc n)) h = omega arith
 
-type-low : (k : RowType) → typeNumber k ≤ 2
+type-low : (k : RowType) → typeNumber k ≤ lastType
 type-low ActiveUser = omega arith
 type-low ActiveElevation = omega arith
 type-low SavedUser = omega arith
 
+-- the number of a process's type, and back
+pub kind-back : (k : Kind) → kindNumbered (kindNumber k) ≡ k
+kind-back User = refl
+kind-back Elevation = refl
+kind-back Saved = refl
+
+pub kind-forth : (n : ℕ) → n ≤ lastType → kindNumber (kindNumbered n) ≡ n
+kind-forth zero h = refl
+kind-forth (suc zero) h = refl
+kind-forth (suc (suc n)) h = omega arith
+
+pub kind-low : (k : Kind) → kindNumber k ≤ lastType
+kind-low k = type-low (typeOf k)
+
+pub kind-saved : (n : ℕ) → (n ≡ userType → ⊥) → (n ≡ elevationType → ⊥) → Saved ≡ kindNumbered n
+kind-saved zero a b = absurd (a refl)
+kind-saved (suc zero) a b = absurd (b refl)
+kind-saved (suc (suc n)) a b = refl
+
 -- what a row's fields hold: a credential of two bytes, a name of 48
 pub record RowFits (row : Row) : Type 0 where
   pub credential : row .credential .0 < 65536
-  pub name : length (row .name .bytes) ≡ 48
+  pub name : length (row .name .bytes) ≡ nameLength
 
-pub length-row : (row : Row) → length (row .name .bytes) ≡ 48 → length (rowBytes row) ≡ 51
+pub length-row : (row : Row) → length (row .name .bytes) ≡ nameLength → length (rowBytes row) ≡ rowLength
 unfolding bytesOf
 length-row row h = omega arith
 
@@ -114,8 +135,8 @@ length-row row h = omega arith
 pub row-back : (row : Row) → RowFits row → readRow (rowBytes row) ≡ record { fits = true; row = row }
 unfolding isRow readRow bytesOf
 row-back row v =
-    let c : numberAt 2 0 (rowBytes row) ≡ row .credential .0 = number-in 2 (row .credential .0) [] (typeNumber (row .kind) ∷ row .name .bytes) (v .credential) in
-    rw (eq-eqb (length (rowBytes row)) 51 (length-row row (v .name)), le-leb (typeNumber (row .kind)) 2 (type-low (row .kind)), type-back (row .kind), c)
+    let c : numberAt rowCredentialSize rowCredentialAt (rowBytes row) ≡ row .credential .0 = number-in rowCredentialSize (row .credential .0) [] (typeNumber (row .kind) ∷ row .name .bytes) (v .credential) in
+    rw (eq-eqb (length (rowBytes row)) rowLength (length-row row (v .name)), le-leb (typeNumber (row .kind)) lastType (type-low (row .kind)), type-back (row .kind), c)
 
 -- it is a row
 row-is : (row : Row) → RowFits row → isRow (rowBytes row) ≡ true
@@ -125,15 +146,15 @@ row-is row v =
 
 -- what is a row is 51 bytes long, and its type is at most 2
 pub record RowShaped (part : List ℕ) : Type 0 where
-  pub long : length part ≡ 51
-  pub typed : getD part 2 0 ≤ 2
+  pub long : length part ≡ rowLength
+  pub typed : getD part rowTypeAt 0 ≤ lastType
 
 pub row-shaped : (part : List ℕ) → isRow part ≡ true → RowShaped part
 unfolding isRow
 row-shaped part e =
     record {
-      long = eqb-true (length part) 51 (and-left (eqb (length part) 51) (leb (getD part 2 0) 2) e);
-      typed = leb-true (getD part 2 0) 2 (and-right (eqb (length part) 51) (leb (getD part 2 0) 2) e);
+      long = eqb-true (length part) rowLength (and-left (eqb (length part) rowLength) (leb (getD part rowTypeAt 0) lastType) e);
+      typed = leb-true (getD part rowTypeAt 0) lastType (and-right (eqb (length part) rowLength) (leb (getD part rowTypeAt 0) lastType) e);
     }
 
 -- and so it is read
@@ -146,7 +167,7 @@ pub row-forth : (part : List ℕ) → Bytes part → isRow part ≡ true → row
 unfolding numberAt
 row-forth part b e = by part b (row-shaped part e .long) (row-shaped part e .typed)
   where
-    by : (part : List ℕ) → Bytes part → length part ≡ 51 → getD part 2 0 ≤ 2 → rowBytes (rowFrom part) ≡ part
+    by : (part : List ℕ) → Bytes part → length part ≡ rowLength → getD part rowTypeAt 0 ≤ lastType → rowBytes (rowFrom part) ≡ part
     by [] b h k = absurd (omega arith)
     by (x ∷ []) b h k = absurd (omega arith)
     by (x ∷ y ∷ []) b h k = absurd (omega arith)
@@ -158,7 +179,7 @@ row-forth part b e = by part b (row-shaped part e .long) (row-shaped part e .typ
         two (suc (suc i)) = omega arith
 
 -- rows, one after another
-pub row-codec : Codec 51 rowBytes rowFrom isRow RowFits RowFits
+pub row-codec : Codec rowLength rowBytes rowFrom isRow RowFits RowFits
 row-codec =
     record {
       wide = λ row v. v;
@@ -167,13 +188,13 @@ row-codec =
       back = λ row v. ap (λ (r : RowRead). r .row) (sym (row-read (rowBytes row) (row-is row v)) ∙ row-back row v);
       fits = row-is;
       forth = λ part h b e. row-forth part b e;
-      good = λ part h b e. record { credential = number-low 2 0 part b; name = simp length-drop (omega arith) };
+      good = λ part h b e. record { credential = number-low rowCredentialSize rowCredentialAt part b; name = simp length-drop (omega arith) };
     }
 
-pub row-in : (part : List ℕ) (row : Row) → length part ≡ 51 → rowIn part row ≡ rowBytes row
+pub row-in : (part : List ℕ) (row : Row) → length part ≡ rowLength → rowIn part row ≡ rowBytes row
 unfolding rowIn
-row-in part row h = rw (eq-eqb (length part) 51 h)
+row-in part row h = rw (eq-eqb (length part) rowLength h)
 
-pub row-not-in : (part : List ℕ) (row : Row) → (length part ≡ 51 → ⊥) → rowIn part row ≡ part
+pub row-not-in : (part : List ℕ) (row : Row) → (length part ≡ rowLength → ⊥) → rowIn part row ≡ part
 unfolding rowIn
-row-not-in part row h = rw (ne-eqb (length part) 51 h)
+row-not-in part row h = rw (ne-eqb (length part) rowLength h)

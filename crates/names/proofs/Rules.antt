@@ -20,15 +20,15 @@ use Rattle.lists.proofs.Tests.{split}
 use Rattle.lists.proofs.Loops.{Copied, copied-none, copied-more, copied-all}
 use Rattle.names.specs.declared.Name.{Name}
 use Rattle.names.specs.declared.NameRead.{NameRead}
-use Rattle.names.specs.Names.{sameBytes, sameName, zeroName, readName, nameIn}
-use Rattle.names.specs.Words.{Word, turned, stirred, stirredIn, digestOf}
+use Rattle.names.specs.Names.{nameLength, sameBytes, sameName, zeroName, readName, nameIn}
+use Rattle.names.specs.Words.{stride, Word, turned, stirred, stirredIn, digestOf}
 use Rattle.names.proofs.Laws.{same→eq, same-refl, same-append, name-read, name-in, name-not-in}
 
 -- ---- a word, as `word` makes it of eight bytes
 byte-next : (k at : ℕ) (l : List ℕ) {b : ℕ} (next : ℕ) → next ≡ suc at → at < length l → Widened (getD l at 0) b → take (suc k) (drop at l) ≡ b ∷ take k (drop next l)
 byte-next k at l next e h w = rw (drop-cons l at 0 h, e, w .is)
 
-module _ (l : List ℕ) (at : ℕ) {b0 b1 b2 b3 b4 b5 b6 b7 : ℕ} (h : length l ≡ 48) (k : at + 8 ≤ 48)
+module _ (l : List ℕ) (at : ℕ) {b0 b1 b2 b3 b4 b5 b6 b7 : ℕ} (h : length l ≡ nameLength) (k : at + stride ≤ nameLength)
     (w0 : Widened (getD l at 0) b0)
     (w1 : Widened (getD l (at + 1) 0) b1)
     (w2 : Widened (getD l (at + 2) 0) b2)
@@ -37,7 +37,7 @@ module _ (l : List ℕ) (at : ℕ) {b0 b1 b2 b3 b4 b5 b6 b7 : ℕ} (h : length l
     (w5 : Widened (getD l (at + 5) 0) b5)
     (w6 : Widened (getD l (at + 6) 0) b6)
     (w7 : Widened (getD l (at + 7) 0) b7) where
-  part : take 8 (drop at l) ≡ b0 ∷ b1 ∷ b2 ∷ b3 ∷ b4 ∷ b5 ∷ b6 ∷ b7 ∷ []
+  part : take stride (drop at l) ≡ b0 ∷ b1 ∷ b2 ∷ b3 ∷ b4 ∷ b5 ∷ b6 ∷ b7 ∷ []
   part =
       byte-next 7 at l (at + 1) (omega arith) (omega arith) w0 ∙ ap (λ (r : List ℕ). b0 ∷ r)
       (byte-next 6 (at + 1) l (at + 2) (omega arith) (omega arith) w1 ∙ ap (λ (r : List ℕ). b1 ∷ r)
@@ -65,7 +65,7 @@ module _ (l : List ℕ) (at : ℕ) {b0 b1 b2 b3 b4 b5 b6 b7 : ℕ} (h : length l
 
   pub word-said : Word l at (b0 + b1 * 256 + b2 * 65536 + b3 * 16777216 + b4 * 4294967296 + b5 * 1099511627776 + b6 * 281474976710656 + b7 * 72057594037927936)
   unfolding numberAt
-  word-said = record { is = total ∙ ap numberOf (sym part); says = ap (bytesOf 8) total ∙ number-forth (b0 ∷ b1 ∷ b2 ∷ b3 ∷ b4 ∷ b5 ∷ b6 ∷ b7 ∷ []) small ∙ sym part }
+  word-said = record { is = total ∙ ap numberOf (sym part); says = ap (bytesOf stride) total ∙ number-forth (b0 ∷ b1 ∷ b2 ∷ b3 ∷ b4 ∷ b5 ∷ b6 ∷ b7 ∷ []) small ∙ sym part }
 
 -- ---- two names, word by word
 xor-same : (x y : ℕ) → isZero (bitXor x y) ≡ eqb x y
@@ -75,50 +75,50 @@ xor-same x y =
     (λ e. let n : x ≡ y → ⊥ = eqb-false x y e in rw e (ne-eqb (bitXor x y) 0 (λ z. n (omega (arith, xor-add-and x y, and-le-l x y, and-le-r x y)))))
 
 -- no bit differs in two words where the bytes that they say are the same
-words-same : {x y : List ℕ} {at p q : ℕ} → Word x at p → Word y at q → isZero (bitXor p q) ≡ sameBytes (take 8 (drop at x)) (take 8 (drop at y))
+words-same : {x y : List ℕ} {at p q : ℕ} → Word x at p → Word y at q → isZero (bitXor p q) ≡ sameBytes (take stride (drop at x)) (take stride (drop at y))
 unfolding numberAt
 words-same {x} {y} {at} {p} {q} v w =
     split (eqb p q)
     (λ e.
-    let s : take 8 (drop at x) ≡ take 8 (drop at y) = sym (v .says) ∙ ap (bytesOf 8) (eqb-true p q e) ∙ w .says in
-    rw (xor-same p q, e, s, same-refl (take 8 (drop at y))))
+    let s : take stride (drop at x) ≡ take stride (drop at y) = sym (v .says) ∙ ap (bytesOf stride) (eqb-true p q e) ∙ w .says in
+    rw (xor-same p q, e, s, same-refl (take stride (drop at y))))
     (λ e. rw (xor-same p q, e)
-    (split (sameBytes (take 8 (drop at x)) (take 8 (drop at y)))
-    (λ s. absurd (eqb-false p q e (v .is ∙ ap numberOf (same→eq (take 8 (drop at x)) (take 8 (drop at y)) s) ∙ sym (w .is))))
+    (split (sameBytes (take stride (drop at x)) (take stride (drop at y)))
+    (λ s. absurd (eqb-false p q e (v .is ∙ ap numberOf (same→eq (take stride (drop at x)) (take stride (drop at y)) s) ∙ sym (w .is))))
     (λ s. sym s)))
 
 -- the bytes from a place on: a word, and the others
-same-front : (x y : List ℕ) (at : ℕ) → at + 8 ≤ length x → at + 8 ≤ length y → sameBytes (drop at x) (drop at y) ≡ (sameBytes (take 8 (drop at x)) (take 8 (drop at y)) && sameBytes (drop (at + 8) x) (drop (at + 8) y))
+same-front : (x y : List ℕ) (at : ℕ) → at + stride ≤ length x → at + stride ≤ length y → sameBytes (drop at x) (drop at y) ≡ (sameBytes (take stride (drop at x)) (take stride (drop at y)) && sameBytes (drop (at + stride) x) (drop (at + stride) y))
 same-front x y at h k =
-    let a : length (take 8 (drop at x)) ≡ length (take 8 (drop at y)) = simp (length-take, length-drop) (omega arith) in
-    ap (λ (l : List ℕ). sameBytes l (drop at y)) (sym (part-front 8 at x))
-    ∙ ap (sameBytes (take 8 (drop at x) ++ drop (at + 8) x)) (sym (part-front 8 at y))
-    ∙ same-append (take 8 (drop at x)) (drop (at + 8) x) (take 8 (drop at y)) (drop (at + 8) y) a
+    let a : length (take stride (drop at x)) ≡ length (take stride (drop at y)) = simp (length-take, length-drop) (omega arith) in
+    ap (λ (l : List ℕ). sameBytes l (drop at y)) (sym (part-front stride at x))
+    ∙ ap (sameBytes (take stride (drop at x) ++ drop (at + stride) x)) (sym (part-front stride at y))
+    ∙ same-append (take stride (drop at x)) (drop (at + stride) x) (take stride (drop at y)) (drop (at + stride) y) a
 
 -- a word begins at a place, or the name ends there
 pub record WordAt (at : ℕ) : Type 0 where
-  pub low : at ≤ 48
-  pub step : at % 8 ≡ 0
+  pub low : at ≤ nameLength
+  pub step : at % stride ≡ 0
 
-pub word-room : {at : ℕ} → WordAt at → at < 48 → at + 8 ≤ 48
+pub word-room : {at : ℕ} → WordAt at → at < nameLength → at + stride ≤ nameLength
 word-room v h = omega (arith, v .step)
 
-word-next : {at : ℕ} → WordAt at → at < 48 → WordAt (at + 8)
+word-next : {at : ℕ} → WordAt at → at < nameLength → WordAt (at + stride)
 word-next v h = record { low = word-room v h; step = omega (arith, v .step) }
 
 -- the words before it compared: what is left
 pub record Compared (x y : List ℕ) (d at : ℕ) : Type 0 where
   pub place : WordAt at
-  pub first : length x ≡ 48
-  pub second : length y ≡ 48
+  pub first : length x ≡ nameLength
+  pub second : length y ≡ nameLength
   pub rest : sameBytes x y ≡ (isZero d && sameBytes (drop at x) (drop at y))
 
-pub compared-none : (x y : List ℕ) → length x ≡ 48 → length y ≡ 48 → Compared x y 0 0
+pub compared-none : (x y : List ℕ) → length x ≡ nameLength → length y ≡ nameLength → Compared x y 0 0
 compared-none x y h k = record { place = record { low = omega arith; step = omega arith }; first = h; second = k; rest = refl }
 
-pub compared-on : {x y : List ℕ} {d at p q : ℕ} → Compared x y d at → at < 48 → Word x at p → Word y at q → Compared x y (bitOr d (bitXor p q)) (at + 8)
+pub compared-on : {x y : List ℕ} {d at p q : ℕ} → Compared x y d at → at < nameLength → Word x at p → Word y at q → Compared x y (bitOr d (bitXor p q)) (at + stride)
 compared-on {x} {y} {d} {at} {p} {q} v h a b =
-    let room : at + 8 ≤ 48 = word-room (v .place) h in
+    let room : at + stride ≤ nameLength = word-room (v .place) h in
     record {
       place = word-next (v .place) h;
       first = v .first;
@@ -126,10 +126,10 @@ compared-on {x} {y} {d} {at} {p} {q} v h a b =
       rest =
           v .rest
           ∙ rw (same-front x y at (omega (arith, v .first)) (omega (arith, v .second)), ← words-same a b, or-zero d (bitXor p q))
-          (sym (and-assoc (isZero d) (isZero (bitXor p q)) (sameBytes (drop (at + 8) x) (drop (at + 8) y))));
+          (sym (and-assoc (isZero d) (isZero (bitXor p q)) (sameBytes (drop (at + stride) x) (drop (at + stride) y))));
     }
 
-pub compared-all : {x y : List ℕ} {d at : ℕ} → Compared x y d at → 48 ≤ at → isZero d ≡ sameBytes x y
+pub compared-all : {x y : List ℕ} {d at : ℕ} → Compared x y d at → nameLength ≤ at → isZero d ≡ sameBytes x y
 unfolding sameBytes
 compared-all {x} {y} {d} {at} v h =
     let m : length x ≤ at = omega (arith, v .first) in
@@ -180,23 +180,23 @@ stirred-said d w n r e f = f ∙ rw e (nine-times (turned d) w)
 -- the words before a place stirred in
 pub record StirredTo (bytes : List ℕ) (d at : ℕ) : Type 0 where
   pub place : WordAt at
-  pub rest : stirredIn 6 0 bytes ≡ stirredIn ((48 - at) / 8) d (drop at bytes)
+  pub rest : stirredIn (nameLength / stride) 0 bytes ≡ stirredIn ((nameLength - at) / stride) d (drop at bytes)
 
 pub stirred-none : (bytes : List ℕ) → StirredTo bytes 0 0
 stirred-none bytes = record { place = record { low = omega arith; step = omega arith }; rest = refl }
 
-pub stirred-on : {bytes : List ℕ} {d at p r : ℕ} → StirredTo bytes d at → at < 48 → Word bytes at p → r ≡ stirred d p → StirredTo bytes r (at + 8)
+pub stirred-on : {bytes : List ℕ} {d at p r : ℕ} → StirredTo bytes d at → at < nameLength → Word bytes at p → r ≡ stirred d p → StirredTo bytes r (at + stride)
 unfolding stirredIn numberAt
 stirred-on {bytes} {d} {at} {p} {r} v h w e =
-    let k : (48 - at) / 8 ≡ suc ((48 - (at + 8)) / 8) = omega (arith, v .place .step) in
-    record { place = word-next (v .place) h; rest = v .rest ∙ rw (k, ← drop-drop 8 at bytes, e, w .is) }
+    let k : (nameLength - at) / stride ≡ suc ((nameLength - (at + stride)) / stride) = omega (arith, v .place .step) in
+    record { place = word-next (v .place) h; rest = v .rest ∙ rw (k, ← drop-drop stride at bytes, e, w .is) }
 
-pub stirred-all : (name : Name) {d at : ℕ} → StirredTo (name .bytes) d at → 48 ≤ at → d ≡ digestOf name
+pub stirred-all : (name : Name) {d at : ℕ} → StirredTo (name .bytes) d at → nameLength ≤ at → d ≡ digestOf name
 unfolding digestOf stirredIn
-stirred-all name {d} {at} v h = let k : (48 - at) / 8 ≡ 0 = omega arith in sym (v .rest ∙ rw k)
+stirred-all name {d} {at} v h = let k : (nameLength - at) / stride ≡ 0 = omega arith in sym (v .rest ∙ rw k)
 
 -- ---- the loops that copy a name
-pub copy : (s d : List ℕ) → length s ≡ 48 → length d ≡ 48 → Copied s d d 0
+pub copy : (s d : List ℕ) → length s ≡ nameLength → length d ≡ nameLength → Copied s d d 0
 copy s d h k = copied-none s d (k ∙ sym h)
 
 pub copy-on : {s d l : List ℕ} {i : ℕ} → Copied s d l i → i < length s → Copied s d (set l i (getD s i 0)) (i + 1)
@@ -206,17 +206,17 @@ copy-on v k = copied-more v 0 k
 pub put-on : {s d l : List ℕ} {i : ℕ} → Copied s d l i → i < length l → Copied s d (set l i (getD s i 0)) (i + 1)
 put-on v k = copied-more v 0 (omega arith)
 
-pub name-wrong : (part : List ℕ) → (length part ≡ 48 → ⊥) → _≡_ {A = NameRead} (record { fits = false; name = zeroName }) (readName part)
+pub name-wrong : (part : List ℕ) → (length part ≡ nameLength → ⊥) → _≡_ {A = NameRead} (record { fits = false; name = zeroName }) (readName part)
 unfolding readName
-name-wrong part h = rw (ne-eqb (length part) 48 h)
+name-wrong part h = rw (ne-eqb (length part) nameLength h)
 
-pub name-got : {s d l : List ℕ} {i : ℕ} → Copied s d l i → length s ≡ 48 → length s ≤ i → _≡_ {A = NameRead} (record { fits = true; name = record { bytes = l } }) (readName s)
+pub name-got : {s d l : List ℕ} {i : ℕ} → Copied s d l i → length s ≡ nameLength → length s ≤ i → _≡_ {A = NameRead} (record { fits = true; name = record { bytes = l } }) (readName s)
 name-got {s} v h k = rw (copied-all v k) (sym (name-read s h))
 
-pub name-put : {part l : List ℕ} {i : ℕ} (name : Name) → Copied (name .bytes) part l i → length part ≡ 48 → length l ≤ i → l ≡ nameIn part name
+pub name-put : {part l : List ℕ} {i : ℕ} (name : Name) → Copied (name .bytes) part l i → length part ≡ nameLength → length l ≤ i → l ≡ nameIn part name
 name-put {part} name v h k = copied-all v (omega arith) ∙ sym (name-in part name h)
 
-pub name-stays : (part : List ℕ) (name : Name) → (length part ≡ 48 → ⊥) → part ≡ nameIn part name
+pub name-stays : (part : List ℕ) (name : Name) → (length part ≡ nameLength → ⊥) → part ≡ nameIn part name
 name-stays part name h = sym (name-not-in part name h)
 
 pub ruleset rules = (needs, word-said, word-room, compared-none, compared-on, compared-all, same-said, round-fits, stirred-said, stirred-none, stirred-on, stirred-all, copy, copy-on, put-on, name-wrong, name-got, name-put, name-stays)

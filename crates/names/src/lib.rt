@@ -3,7 +3,7 @@ ghost use mathlib.Core.Path.{_≡_};
 ghost use Prim.Native.Nat.{_+_, _≤_};
 ghost use Rattle.rows.specs.Bytes.{isZero};
 ghost use Rattle.names.specs.Names.{nameLength, sameBytes, sameName, readName, nameIn};
-ghost use Rattle.names.specs.Words.{Word, stirred, digestOf};
+ghost use Rattle.names.specs.Words.{stride, Word, stirred, digestOf};
 
 // A session handle. A credential cannot stand for it, nor it for a credential.
 pub struct Session(pub u8);
@@ -24,7 +24,19 @@ pub enum RowType {
     SavedUser,
 }
 
+// The number of each type, and of the kind that has it.
+pub const USER_TYPE: u8 = 0;
+
+pub const ELEVATION_TYPE: u8 = 1;
+
+pub const SAVED_TYPE: u8 = 2;
+
+pub const LAST_TYPE: u8 = SAVED_TYPE;
+
 pub const NAME_LENGTH: usize = 48;
+
+// How many bytes of a name are read at a time.
+const STRIDE: usize = 8;
 
 pub struct Name {
     pub bytes: [u8; NAME_LENGTH],
@@ -50,7 +62,7 @@ pub struct RowRead {
 
 // Eight bytes from an index on, as one number, the lowest first: one load.
 fn word(bytes: [u8; NAME_LENGTH], at: usize) -> u64
-    requires { ⌜ at + 8 ≤ nameLength ⌝ }
+    requires { ⌜ at + stride ≤ nameLength ⌝ }
     ensures { λ r. ⌜ Word bytes at r ⌝ }
 {
     rows::wide64(bytes[at])
@@ -73,7 +85,7 @@ fn differences(x: [u8; NAME_LENGTH], y: [u8; NAME_LENGTH]) -> u64
         let one = word(x, at);
         let other = word(y, at);
         d = d | (one ^ other);
-        at += 8;
+        at += STRIDE;
     }
     d
 }
@@ -101,7 +113,7 @@ pub fn digest(name: Name) -> u64
     let mut from: usize = 0;
     while from < NAME_LENGTH {
         d = stirred(d, word(bytes, from));
-        from += 8;
+        from += STRIDE;
     }
     d
 }

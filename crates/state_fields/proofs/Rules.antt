@@ -17,60 +17,56 @@ use Rattle.lists.proofs.Tests.{and-left, and-right}
 use Rattle.rows.specs.Rows.{rows, every}
 use Rattle.rows.proofs.Rows.{rows-length, rows-take, map-take}
 use Rattle.rows.proofs.Loops.{rows-begin, rows-on, rows-fail, rows-all, map-part, and-false, and-assoc}
-use Rattle.names.specs.declared.Kind.the-variants.{Saved}
+use Rattle.names.specs.Names.{userType, elevationType, savedType, lastType, kindNumbered}
+use Rattle.names.proofs.Laws.{kind-saved}
 use Rattle.table.specs.Table.{standing, isUser, isElevation, isActiveIn, places}
 use Rattle.claims.specs.Module.{closedSession, unprovisioned, provisioned, phaseOf, isChosen, sessionCount, credentialCount, lastHandle, lastCredential}
 use Rattle.claims.specs.declared.Grants.{Grants}
-use Rattle.layout.specs.Layout.{credentialSize, ownerAt, kindAt, sessionAt, nextAt, placeSize, sessionsAt, sessionSize, credentialsAt, countAt, placesAt, stateLength, kindFrom, phaseFrom, sessionFrom, grantsFrom, kindFits, processFrom, processFits, countIn, placesIn, stateOf, isOwned, restIsFree, ownersFit, shaped}
+use Rattle.layout.specs.Layout.{credentialSize, ownerAt, kindAt, sessionAt, nextAt, nextSize, placeSize, chosenByte, setFlag, sessionsAt, sessionSize, credentialsAt, countAt, placesAt, stateLength, phaseFrom, sessionFrom, grantsFrom, kindFits, processFrom, processFits, countIn, placesIn, stateOf, isOwned, restIsFree, ownersFit, shaped}
 use Rattle.state_fields.specs.Stands.{stands, allFit}
 use Rattle.layout.proofs.Laws.{state-in}
 use Rattle.layout.proofs.Parts.{place-part}
 
 -- ---- a place
-kind-saved : (n : ℕ) → 2 ≤ n → kindFrom n ≡ Saved
-kind-saved zero h = absurd (omega arith)
-kind-saved (suc zero) h = absurd (omega arith)
-kind-saved (suc (suc n)) h = refl
-
 module _ (x : List ℕ) where
   pub process-credential : lastCredential < getD x ownerAt 0 → false ≡ processFits x
   unfolding processFits
   process-credential h = rw (lt-leb (getD x ownerAt 0) lastCredential h)
 
   module _ (c : getD x ownerAt 0 ≤ lastCredential) where
-    pub process-type : 2 < getD x kindAt 0 → false ≡ processFits x
+    pub process-type : lastType < getD x kindAt 0 → false ≡ processFits x
     unfolding processFits
-    process-type h = rw (le-leb (getD x ownerAt 0) lastCredential c, lt-leb (getD x kindAt 0) 2 h)
+    process-type h = rw (le-leb (getD x ownerAt 0) lastCredential c, lt-leb (getD x kindAt 0) lastType h)
 
-    module _ (t : getD x kindAt 0 ≤ 2) where
+    module _ (t : getD x kindAt 0 ≤ lastType) where
       pub process-session : lastHandle < getD x sessionAt 0 → false ≡ processFits x
       unfolding processFits
-      process-session h = rw (le-leb (getD x ownerAt 0) lastCredential c, le-leb (getD x kindAt 0) 2 t, lt-leb (getD x sessionAt 0) lastHandle h)
+      process-session h = rw (le-leb (getD x ownerAt 0) lastCredential c, le-leb (getD x kindAt 0) lastType t, lt-leb (getD x sessionAt 0) lastHandle h)
 
       module _ (s : getD x sessionAt 0 ≤ lastHandle) where
-        in-range : processFits x ≡ kindFits (kindFrom (getD x kindAt 0)) (getD x sessionAt 0) (numberAt 2 nextAt x)
+        in-range : processFits x ≡ kindFits (kindNumbered (getD x kindAt 0)) (getD x sessionAt 0) (numberAt nextSize nextAt x)
         unfolding processFits
-        in-range = rw (le-leb (getD x ownerAt 0) lastCredential c, le-leb (getD x kindAt 0) 2 t, le-leb (getD x sessionAt 0) lastHandle s)
+        in-range = rw (le-leb (getD x ownerAt 0) lastCredential c, le-leb (getD x kindAt 0) lastType t, le-leb (getD x sessionAt 0) lastHandle s)
 
-        pub process-user : getD x kindAt 0 ≡ 0 → true ≡ processFits x
+        pub process-user : getD x kindAt 0 ≡ userType → true ≡ processFits x
         process-user e = sym (in-range ∙ rw e)
 
-        pub process-elevation : getD x kindAt 0 ≡ 1 → {n : ℕ} → n ≡ numberAt 2 nextAt x → eqb n 0 ≡ processFits x
+        pub process-elevation : getD x kindAt 0 ≡ elevationType → {n : ℕ} → n ≡ numberAt nextSize nextAt x → eqb n 0 ≡ processFits x
         process-elevation e q = sym (in-range ∙ rw (e, q))
 
-        pub process-seated : (getD x kindAt 0 ≡ 0 → ⊥) → (getD x kindAt 0 ≡ 1 → ⊥) → 0 < getD x sessionAt 0 → false ≡ processFits x
-        process-seated n m k = sym (in-range ∙ rw (kind-saved (getD x kindAt 0) (omega arith), ne-eqb (getD x sessionAt 0) 0 (λ e. omega arith)))
+        pub process-somewhere : (getD x kindAt 0 ≡ userType → ⊥) → (getD x kindAt 0 ≡ elevationType → ⊥) → 0 < getD x sessionAt 0 → false ≡ processFits x
+        process-somewhere n m k = sym (in-range ∙ rw (← kind-saved (getD x kindAt 0) n m, ne-eqb (getD x sessionAt 0) 0 (λ e. omega arith)))
 
-        pub process-saved : (getD x kindAt 0 ≡ 0 → ⊥) → (getD x kindAt 0 ≡ 1 → ⊥) → getD x sessionAt 0 ≤ 0 → {n : ℕ} → n ≡ numberAt 2 nextAt x → leb 1 n ≡ processFits x
-        process-saved n m k q = sym (in-range ∙ rw (kind-saved (getD x kindAt 0) (omega arith), eq-eqb (getD x sessionAt 0) 0 (omega arith), q))
+        pub process-saved : (getD x kindAt 0 ≡ userType → ⊥) → (getD x kindAt 0 ≡ elevationType → ⊥) → getD x sessionAt 0 ≤ 0 → {n : ℕ} → n ≡ numberAt nextSize nextAt x → leb 1 n ≡ processFits x
+        process-saved n m k q = sym (in-range ∙ rw (← kind-saved (getD x kindAt 0) n m, eq-eqb (getD x sessionAt 0) 0 (omega arith), q))
 
 -- ---- an owner
-chosen-of : (b : ℕ) → isChosen (phaseFrom b) ≡ eqb b 2
+chosen-of : (b : ℕ) → isChosen (phaseFrom b) ≡ eqb b chosenByte
 unfolding isChosen
 chosen-of zero = refl
 chosen-of (suc zero) = refl
 chosen-of (suc (suc zero)) = refl
-chosen-of (suc (suc (suc n))) = sym (ne-eqb (suc (suc (suc n))) 2 (λ e. omega arith))
+chosen-of (suc (suc (suc n))) = sym (ne-eqb (suc (suc (suc n))) chosenByte (λ e. omega arith))
 
 module _ (s x : List ℕ) (long : length s ≡ stateLength) {c : ℕ} (w : Widened (getD x ownerAt 0) c) where
   grants-long : length (map grantsFrom (rows credentialCount credentialSize (drop credentialsAt s))) ≡ credentialCount
@@ -85,32 +81,32 @@ module _ (s x : List ℕ) (long : length s ≡ stateLength) {c : ℕ} (w : Widen
       let none : getD (map grantsFrom (rows credentialCount credentialSize (drop credentialsAt s))) (getD x ownerAt 0) unprovisioned .provisioned ≡ false = ap (λ (g : Grants). g .provisioned) e in
       rw (state-in s long, none)
 
-  flag : c < credentialCount → getD (map grantsFrom (rows credentialCount credentialSize (drop credentialsAt s))) (getD x ownerAt 0) unprovisioned .provisioned ≡ eqb (getD s (credentialsAt + c * credentialSize) 0) 1
+  flag : c < credentialCount → getD (map grantsFrom (rows credentialCount credentialSize (drop credentialsAt s))) (getD x ownerAt 0) unprovisioned .provisioned ≡ eqb (getD s (credentialsAt + c * credentialSize) 0) setFlag
   unfolding grantsFrom
   flag h =
       let p : 0 < credentialsAt + c * credentialSize + credentialSize - (credentialsAt + c * credentialSize) = omega arith in
       rw (← w .is, map-part grantsFrom credentialCount credentialSize credentialsAt s c unprovisioned h, getD-take (credentialsAt + c * credentialSize + credentialSize - (credentialsAt + c * credentialSize)) (drop (credentialsAt + c * credentialSize) s) 0 0 p, getD-drop (credentialsAt + c * credentialSize) s 0 0, add-zero)
 
   module _ (h : c < credentialCount) where
-    pub owner-not : (getD s (credentialsAt + c * credentialSize) 0 ≡ 1 → ⊥) → false ≡ isOwned (stateOf s) (processFrom x)
+    pub owner-not : (getD s (credentialsAt + c * credentialSize) 0 ≡ setFlag → ⊥) → false ≡ isOwned (stateOf s) (processFrom x)
     unfolding isOwned processFrom provisioned
-    owner-not n = rw (state-in s long, flag h, ne-eqb (getD s (credentialsAt + c * credentialSize) 0) 1 n)
+    owner-not n = rw (state-in s long, flag h, ne-eqb (getD s (credentialsAt + c * credentialSize) 0) setFlag n)
 
-    module _ (f : getD s (credentialsAt + c * credentialSize) 0 ≡ 1) where
-      pub owner-saved : 2 ≤ getD x kindAt 0 → true ≡ isOwned (stateOf s) (processFrom x)
+    module _ (f : getD s (credentialsAt + c * credentialSize) 0 ≡ setFlag) where
+      pub owner-saved : savedType ≤ getD x kindAt 0 → true ≡ isOwned (stateOf s) (processFrom x)
       unfolding isOwned processFrom provisioned isActiveIn
-      owner-saved k = rw (state-in s long, flag h, eq-eqb (getD s (credentialsAt + c * credentialSize) 0) 1 f, kind-saved (getD x kindAt 0) k)
+      owner-saved k = rw (state-in s long, flag h, eq-eqb (getD s (credentialsAt + c * credentialSize) 0) setFlag f, ← kind-saved (getD x kindAt 0) (λ e. omega arith) (λ e. omega arith))
 
-      active : (k : ℕ) → k < 2 → (isUser (kindFrom k) || isElevation (kindFrom k)) ≡ true
+      active : (k : ℕ) → k < savedType → (isUser (kindNumbered k) || isElevation (kindNumbered k)) ≡ true
       active zero l = refl
       active (suc zero) l = refl
       active (suc (suc k)) l = absurd (omega arith)
 
-      module _ (k : getD x kindAt 0 < 2) {t : ℕ} (u : Widened (getD x sessionAt 0) t) where
-        seated : isOwned (stateOf s) (processFrom x) ≡ isChosen (getD (map sessionFrom (rows sessionCount sessionSize s)) (getD x sessionAt 0) closedSession .phase)
+      module _ (k : getD x kindAt 0 < savedType) {t : ℕ} (u : Widened (getD x sessionAt 0) t) where
+        active-there : isOwned (stateOf s) (processFrom x) ≡ isChosen (getD (map sessionFrom (rows sessionCount sessionSize s)) (getD x sessionAt 0) closedSession .phase)
         unfolding isOwned processFrom provisioned isActiveIn phaseOf
-        seated =
-            rw (state-in s long, flag h, eq-eqb (getD s (credentialsAt + c * credentialSize) 0) 1 f, active (getD x kindAt 0) k, eq-eqb (getD x sessionAt 0) (getD x sessionAt 0) refl)
+        active-there =
+            rw (state-in s long, flag h, eq-eqb (getD s (credentialsAt + c * credentialSize) 0) setFlag f, active (getD x kindAt 0) k, eq-eqb (getD x sessionAt 0) (getD x sessionAt 0) refl)
 
         pub owner-nowhere : sessionCount ≤ t → false ≡ isOwned (stateOf s) (processFrom x)
         unfolding isChosen
@@ -119,17 +115,17 @@ module _ (s x : List ℕ) (long : length s ≡ stateLength) {c : ℕ} (w : Widen
             let e : getD (map sessionFrom (rows sessionCount sessionSize s)) (getD x sessionAt 0) closedSession ≡ closedSession =
             List·getD-eq-default (map sessionFrom (rows sessionCount sessionSize s)) closedSession (omega (arith, l, u .is))
             in
-            sym (seated ∙ rw e)
+            sym (active-there ∙ rw e)
 
-        pub owner-there : t < sessionCount → eqb (getD s t 0) 2 ≡ isOwned (stateOf s) (processFrom x)
+        pub owner-there : t < sessionCount → eqb (getD s t 0) chosenByte ≡ isOwned (stateOf s) (processFrom x)
         unfolding sessionFrom
         owner-there z =
-            let p : 0 < 0 + t * 1 + 1 - (0 + t * 1) = omega arith in
-            let q : 0 + t * 1 ≡ t = omega arith in
+            let p : 0 < sessionsAt + t * sessionSize + sessionSize - (sessionsAt + t * sessionSize) = omega arith in
+            let q : sessionsAt + t * sessionSize ≡ t = omega arith in
             let e : getD (map sessionFrom (rows sessionCount sessionSize s)) (getD x sessionAt 0) closedSession .phase ≡ phaseFrom (getD s t 0) =
-            rw (← u .is, map-part sessionFrom sessionCount sessionSize sessionsAt s t closedSession z, getD-take (0 + t * 1 + 1 - (0 + t * 1)) (drop (0 + t * 1) s) 0 0 p, getD-drop (0 + t * 1) s 0 0, q, add-zero)
+            rw (← u .is, map-part sessionFrom sessionCount sessionSize sessionsAt s t closedSession z, getD-take (sessionsAt + t * sessionSize + sessionSize - (sessionsAt + t * sessionSize)) (drop (sessionsAt + t * sessionSize) s) 0 0 p, getD-drop (sessionsAt + t * sessionSize) s 0 0, q, add-zero)
             in
-            sym (seated ∙ rw e (chosen-of (getD s t 0)))
+            sym (active-there ∙ rw e (chosen-of (getD s t 0)))
 
 -- ---- each place by itself
 module _ (s x : List ℕ) {p : Bool} (e : p ≡ processFits x) where
@@ -203,4 +199,4 @@ module _ (b : List ℕ) {z : Bool} (i : z ≡ restIsFree b) where
             ∙ stand-both b (rows n placeSize (drop placesAt b))
             ∙ sym (tests ∙ rw (← i, not-false z y, ← e, not-false p t, state-in b fit-long, ← w .is, map-take processFrom n (rows places placeSize (drop placesAt b)), rows-take n places placeSize (drop placesAt b) fit-few))
 
-pub ruleset rules = (needs, length-mapped, process-credential, process-type, process-session, process-user, process-elevation, process-seated, process-saved, owner-none, owner-not, owner-saved, owner-nowhere, owner-there, place-part, stands-out, stands-owned, rows-begin, rows-on, rows-fail, rows-all, fit-free, fit-long, fit-counted, fit-owners, fit-few, fit-places)
+pub ruleset rules = (needs, length-mapped, process-credential, process-type, process-session, process-user, process-elevation, process-somewhere, process-saved, owner-none, owner-not, owner-saved, owner-nowhere, owner-there, place-part, stands-out, stands-owned, rows-begin, rows-on, rows-fail, rows-all, fit-free, fit-long, fit-counted, fit-owners, fit-few, fit-places)

@@ -7,8 +7,10 @@ ghost use Rattle.table.specs.Table.{places};
 ghost use Rattle.layout.specs.Layout.{placeSize, placesAt, stateLength, processFrom, processFits, stateOf, isOwned};
 ghost use Rattle.state_fields.specs.Stands.{stands, allFit};
 use claims::CREDENTIALS;
+use claims::LAST_CREDENTIAL;
 use claims::LAST_HANDLE;
 use claims::SESSIONS;
+use layout::CHOSEN_BYTE;
 use layout::COUNT_AT;
 use layout::CREDENTIAL_SIZE;
 use layout::CREDENTIALS_AT;
@@ -18,8 +20,16 @@ use layout::OWNER_AT;
 use layout::PLACE_SIZE;
 use layout::PLACES_AT;
 use layout::SESSION_AT;
+use layout::SET_FLAG;
+use names::ELEVATION_TYPE;
+use names::LAST_TYPE;
+use names::SAVED_TYPE;
+use names::USER_TYPE;
 
 // ---- a place by itself
+
+// A credential is a byte there.
+const LAST_OWNER: u8 = LAST_CREDENTIAL as u8;
 
 fn process_fits(row: &[u8]) -> bool
     requires { ⌜ length (now row) ≡ placeSize ⌝ }
@@ -27,20 +37,20 @@ fn process_fits(row: &[u8]) -> bool
 {
     let kind = row[KIND_AT];
     let session = row[SESSION_AT];
-    if 7 < row[OWNER_AT] {
+    if LAST_OWNER < row[OWNER_AT] {
         return false;
     }
-    if 2 < kind {
+    if LAST_TYPE < kind {
         return false;
     }
     if LAST_HANDLE < session {
         return false;
     }
-    if kind == 0 {
+    if kind == USER_TYPE {
         return true;
     }
     let next = rows::number16(row, NEXT_AT);
-    if kind == 1 {
+    if kind == ELEVATION_TYPE {
         return next == 0;
     }
     if 0 < session {
@@ -61,16 +71,16 @@ fn is_owned<'a>(s: &'a [u8], row: &'a [u8]) -> bool
     if CREDENTIALS <= credential {
         return false;
     }
-    if s[CREDENTIALS_AT + credential * CREDENTIAL_SIZE] != 1 {
+    if s[CREDENTIALS_AT + credential * CREDENTIAL_SIZE] != SET_FLAG {
         return false;
     }
-    if 2 <= kind {
+    if SAVED_TYPE <= kind {
         return true;
     }
     if SESSIONS <= session {
         return false;
     }
-    s[session] == 2
+    s[session] == CHOSEN_BYTE
 }
 
 // Whether a place may stand by itself: its fields in their ranges, its owner and its session as they must be.
@@ -107,10 +117,10 @@ fn all_stand(s: &[u8], n: usize) -> bool
 pub fn all_fit(s: &[u8]) -> bool
     ensures { λ r. ⌜ r ≡ allFit (now (s .entry)) ⌝ }
 {
-    if !state_free::rest_is_free(s) {
+    if !state_ranges::rest_is_free(s) {
         return false;
     }
-    if !state_owners::owners_fit(s) {
+    if !state_ranges::owners_fit(s) {
         return false;
     }
     all_stand(s, rows::wide(s[COUNT_AT]))

@@ -18,6 +18,7 @@ use Rattle.rows.specs.Rows.{rows}
 use Rattle.rows.proofs.Bytes.{number-part}
 use Rattle.rows.proofs.Rows.{rows-length}
 use Rattle.rows.proofs.Loops.{map-part}
+use Rattle.names.specs.Names.{kindNumbered}
 use Rattle.names.specs.declared.Credential.{Credential}
 use Rattle.names.specs.declared.Session.{Session}
 use Rattle.table.specs.Table.{standing, freePlace, size, isUser, isElevation, isActive, firstPlace, processAt, places}
@@ -37,7 +38,7 @@ use Rattle.claims.specs.declared.Phase.{Phase}
 use Rattle.claims.specs.declared.Phase.the-variants.{Closed}
 use Rattle.claims.specs.declared.SessionState.{SessionState}
 use Rattle.claims.proofs.Laws.{view-of}
-use Rattle.layout.specs.Layout.{kindAt, sessionAt, wordAt, credentialSize, nextAt, placeSize, sessionsAt, sessionSize, credentialsAt, countAt, placesAt, stateLength, phaseFrom, sessionFrom, grantsFrom, processFrom, countIn, placesIn, stateOf, kindFrom}
+use Rattle.layout.specs.Layout.{kindAt, sessionAt, wordAt, credentialSize, nextAt, placeSize, sessionsAt, sessionSize, credentialsAt, countAt, placesAt, stateLength, phaseFrom, sessionFrom, grantsFrom, processFrom, countIn, placesIn, stateOf}
 use Rattle.layout.proofs.Laws.{state-in, state-not-in}
 use Rattle.layout.proofs.Parts.{grants-part, place-part}
 
@@ -128,12 +129,12 @@ module _ (s : List ℕ) (c : Credential) where
           q ∙ sym word ∙ ap (λ (g : Grants). g .word) (sym grants-at)
 
 -- ---- a place
-not-user : (k : ℕ) → (k ≡ 0 → ⊥) → isUser (kindFrom k) ≡ false
+not-user : (k : ℕ) → (k ≡ 0 → ⊥) → isUser (kindNumbered k) ≡ false
 not-user zero n = absurd (n refl)
 not-user (suc zero) n = refl
 not-user (suc (suc k)) n = refl
 
-not-elevation : (k : ℕ) → (k ≡ 1 → ⊥) → isElevation (kindFrom k) ≡ false
+not-elevation : (k : ℕ) → (k ≡ 1 → ⊥) → isElevation (kindNumbered k) ≡ false
 not-elevation zero n = refl
 not-elevation (suc zero) n = absurd (n refl)
 not-elevation (suc (suc k)) n = refl

@@ -13,11 +13,10 @@ use Rattle.rows.specs.Bytes.{numberAt, Widened}
 use Rattle.lists.proofs.Lists.{length-mapped}
 use Rattle.rows.specs.Rows.{rows}
 use Rattle.rows.proofs.Loops.{FilledBy, filled-begin, filled-from, filled-next, filled-done}
-use Rattle.names.specs.Names.{readName, nameLength}
-use Rattle.names.proofs.Laws.{name-read}
+use Rattle.names.specs.Names.{readName, nameLength, kindNumbered}
+use Rattle.names.proofs.Laws.{name-read, kind-saved}
 use Rattle.layout.proofs.Parts.{grants-part, place-part}
 use Rattle.names.specs.declared.Kind.{Kind}
-use Rattle.names.specs.declared.Kind.the-variants.{Saved}
 use Rattle.names.specs.declared.NameRead.{NameRead}
 use Rattle.table.specs.Table.{tableOf, places}
 use Rattle.table.specs.declared.Process.{Process}
@@ -28,42 +27,37 @@ use Rattle.claims.specs.declared.Phase.{Phase}
 use Rattle.claims.specs.declared.Phase.the-variants.{Closed}
 use Rattle.claims.specs.declared.SessionState.{SessionState}
 use Rattle.claims.specs.declared.State.{State}
-use Rattle.layout.specs.Layout.{flagAt, ownerAt, kindAt, sessionAt, nameAt, wordAt, credentialSize, nextAt, placeSize, sessionsAt, sessionSize, credentialsAt, countAt, placesAt, stateLength, phaseFrom, sessionFrom, grantsFrom, processFrom, placesIn, countIn, nothingHeld, stateOf, kindFrom}
+use Rattle.layout.specs.Layout.{openedByte, chosenByte, setFlag, flagAt, ownerAt, kindAt, sessionAt, nameAt, wordAt, wordSize, credentialSize, nextAt, nextSize, placeSize, sessionsAt, sessionSize, credentialsAt, countAt, placesAt, stateLength, phaseFrom, sessionFrom, grantsFrom, processFrom, placesIn, countIn, nothingHeld, stateOf}
 use Rattle.layout.proofs.Laws.{state-in, state-not-in}
 
--- ---- phases and kinds
-pub phase-closed : (n : ℕ) → (n ≡ 1 → ⊥) → (n ≡ 2 → ⊥) → Closed ≡ phaseFrom n
+-- ---- a phase
+pub phase-closed : (n : ℕ) → (n ≡ openedByte → ⊥) → (n ≡ chosenByte → ⊥) → Closed ≡ phaseFrom n
 phase-closed zero a b = refl
 phase-closed (suc zero) a b = absurd (a refl)
 phase-closed (suc (suc zero)) a b = absurd (b refl)
 phase-closed (suc (suc (suc n))) a b = refl
-
-pub kind-saved : (n : ℕ) → (n ≡ 0 → ⊥) → (n ≡ 1 → ⊥) → Saved ≡ kindFrom n
-kind-saved zero a b = absurd (a refl)
-kind-saved (suc zero) a b = absurd (b refl)
-kind-saved (suc (suc n)) a b = refl
 
 -- ---- sessions
 module _ {s : List ℕ} {out₀ out : List SessionState} {i : ℕ} (v : FilledBy sessionFrom sessionCount sessionSize sessionsAt s out₀ out i) where
   pub session-next : i < sessionCount → {p : Phase} → p ≡ phaseFrom (getD s i 0) → FilledBy sessionFrom sessionCount sessionSize sessionsAt s out₀ (set out i (record { phase = p })) (i + 1)
   unfolding sessionFrom
   session-next h {p} e =
-      let z : 0 < 0 + i * 1 + 1 - (0 + i * 1) = omega arith in
-      let q : 0 + i * 1 ≡ i = omega arith in
-      filled-next v h (rw (getD-take (0 + i * 1 + 1 - (0 + i * 1)) (drop (0 + i * 1) s) 0 0 z, getD-drop (0 + i * 1) s 0 0, q, add-zero, e))
+      let z : 0 < sessionsAt + i * sessionSize + sessionSize - (sessionsAt + i * sessionSize) = omega arith in
+      let q : sessionsAt + i * sessionSize ≡ i = omega arith in
+      filled-next v h (rw (getD-take (sessionsAt + i * sessionSize + sessionSize - (sessionsAt + i * sessionSize)) (drop (sessionsAt + i * sessionSize) s) 0 0 z, getD-drop (sessionsAt + i * sessionSize) s 0 0, q, add-zero, e))
 
   pub session-done : sessionCount ≤ i → out ≡ map sessionFrom (rows sessionCount sessionSize s)
   session-done h = filled-done v h
 
 -- ---- grants
-pub grants-read : (x : List ℕ) {w : ℕ} → w ≡ numberAt 4 wordAt x
-    → _≡_ {A = Grants} (record { provisioned = eqb (getD x flagAt 0) 1; word = w }) (grantsFrom x)
+pub grants-read : (x : List ℕ) {w : ℕ} → w ≡ numberAt wordSize wordAt x
+    → _≡_ {A = Grants} (record { provisioned = eqb (getD x flagAt 0) setFlag; word = w }) (grantsFrom x)
 unfolding grantsFrom
 grants-read x e = rw e
 
 -- ---- places
 pub process-read : (x : List ℕ) {c : ℕ} {k : Kind} {n : ℕ} {read : NameRead}
-    → length x ≡ placeSize → Widened (getD x ownerAt 0) c → k ≡ kindFrom (getD x kindAt 0) → n ≡ numberAt 2 nextAt x → read ≡ readName (take nameLength (drop nameAt x))
+    → length x ≡ placeSize → Widened (getD x ownerAt 0) c → k ≡ kindNumbered (getD x kindAt 0) → n ≡ numberAt nextSize nextAt x → read ≡ readName (take nameLength (drop nameAt x))
     → _≡_ {A = Process} (record { credential = record { 0 = c }; kind = k; session = record { 0 = getD x sessionAt 0 }; next = n; name = read .name }) (processFrom x)
 unfolding processFrom
 process-read x h w e f g =

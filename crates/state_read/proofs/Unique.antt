@@ -4,16 +4,11 @@ use mathlib.Core.Path.{sym, _∙_}
 use Rattle.lists.proofs.Once.{OneAnswer}
 use Rattle.state_read.proofs.phase_from.Kinds as phase-from-kinds
 use Rattle.state_read.proofs.phase_from.Reads as phase-from
-use Rattle.state_read.proofs.kind_from.Kinds as kind-from-kinds
-use Rattle.state_read.proofs.kind_from.Reads as kind-from
 use Rattle.state_read.proofs.read.Kinds as read-kinds
 use Rattle.state_read.proofs.read.Reads as read
 
 pub phase-from-once : OneAnswer 0 phase-from-kinds.ps phase-from-kinds.r phase-from.Post
 phase-from-once κs a x y s t p q = p ∙ sym q
-
-pub kind-from-once : OneAnswer 0 kind-from-kinds.ps kind-from-kinds.r kind-from.Post
-kind-from-once κs a x y s t p q = p ∙ sym q
 
 pub read-once : OneAnswer 1 read-kinds.ps read-kinds.r read.Post
 read-once κs a x y s t p q = p ∙ sym q

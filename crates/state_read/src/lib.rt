@@ -3,14 +3,16 @@ ghost use mathlib.Core.Path.{_≡_};
 ghost use mathlib.Core.List.{map};
 ghost use lib.ListN.{length, drop};
 ghost use Rattle.rows.specs.Rows.{rows};
+ghost use Rattle.names.specs.Names.{kindNumbered};
 ghost use Rattle.claims.specs.Module.{closedSession, unprovisioned, sessionCount, credentialCount};
-ghost use Rattle.layout.specs.Layout.{credentialSize, placeSize, sessionSize, credentialsAt, stateLength, phaseFrom, kindFrom, sessionFrom, grantsFrom, processFrom, placesIn, nothingHeld, stateOf};
+ghost use Rattle.layout.specs.Layout.{credentialSize, placeSize, sessionSize, credentialsAt, stateLength, phaseFrom, sessionFrom, grantsFrom, processFrom, placesIn, nothingHeld, stateOf};
 use claims::CREDENTIALS;
 use claims::Grants;
 use claims::Phase;
 use claims::SESSIONS;
 use claims::SessionState;
 use claims::State;
+use layout::CHOSEN_BYTE;
 use layout::COUNT_AT;
 use layout::CREDENTIAL_SIZE;
 use layout::CREDENTIALS_AT;
@@ -18,15 +20,19 @@ use layout::FLAG_AT;
 use layout::KIND_AT;
 use layout::NAME_AT;
 use layout::NEXT_AT;
+use layout::OPENED_BYTE;
 use layout::OWNER_AT;
 use layout::PLACE_SIZE;
 use layout::PLACES_AT;
 use layout::SESSION_AT;
+use layout::SET_FLAG;
 use layout::STATE_LENGTH;
 use layout::WORD_AT;
 use names::Credential;
+use names::ELEVATION_TYPE;
 use names::Kind;
 use names::Session;
+use names::USER_TYPE;
 use table::PLACES;
 use table::Process;
 use table::Table;
@@ -37,10 +43,10 @@ use table::Table;
 pub fn phase_from(byte: u8) -> Phase
     ensures { λ r. ⌜ r ≡ phaseFrom byte ⌝ }
 {
-    if byte == 1 {
+    if byte == OPENED_BYTE {
         return Phase::Opened;
     }
-    if byte == 2 {
+    if byte == CHOSEN_BYTE {
         return Phase::Chosen;
     }
     Phase::Closed
@@ -85,7 +91,7 @@ fn grants_of(row: &[u8]) -> Grants
 {
     let word = rows::number32(row, WORD_AT);
     Grants {
-        provisioned: row[FLAG_AT] == 1,
+        provisioned: row[FLAG_AT] == SET_FLAG,
         word: word,
     }
 }
@@ -108,14 +114,14 @@ fn read_credentials(s: &[u8]) -> [Grants; CREDENTIALS]
 
 // ---- a place
 
-// The kind of a byte; a byte over 2, which is no kind's, is taken for 2.
-pub fn kind_from(byte: u8) -> Kind
-    ensures { λ r. ⌜ r ≡ kindFrom byte ⌝ }
+// The kind that has the type of a number; a number that is no type's is taken for the last.
+fn kind_numbered(number: u8) -> Kind
+    ensures { λ r. ⌜ r ≡ kindNumbered number ⌝ }
 {
-    if byte == 0 {
+    if number == USER_TYPE {
         return Kind::User;
     }
-    if byte == 1 {
+    if number == ELEVATION_TYPE {
         return Kind::Elevation;
     }
     Kind::Saved
@@ -126,7 +132,7 @@ fn process_of(row: &[u8]) -> Process
     ensures { λ r. ⌜ r ≡ processFrom (now (row .entry)) ⌝ }
 {
     let credential = rows::wide16(row[OWNER_AT]);
-    let kind = kind_from(row[KIND_AT]);
+    let kind = kind_numbered(row[KIND_AT]);
     let session = row[SESSION_AT];
     let next = rows::number16(row, NEXT_AT);
     let read = names::read_name(&row[NAME_AT..PLACE_SIZE]);

@@ -16,20 +16,21 @@ use lib.Seq.{getD-set-same, getD-set-other, drop-cons, drop-drop, take-all}
 use Rattle.rows.specs.Bytes.{isZero, Widened}
 use Rattle.lists.proofs.Lists.{length-mapped}
 use Rattle.lists.specs.Each.{Each, each-nil, each-cons, Pairs}
-use Rattle.lists.proofs.Tests.{split, clash, and-left, and-right, and-both}
+use Rattle.lists.proofs.Tests.{split, clash, and-left, and-right, and-both, or-false}
 use Rattle.lists.proofs.Each.{each-imp, pairs-imp₂}
 use Rattle.rows.specs.Rows.{rows, every, pairwise}
 use Rattle.rows.proofs.Rows.{rows-length, rows-take, map-take, row-at, pairwise-by, by-pairwise}
 use Rattle.rows.proofs.Loops.{RecordsTo, records-begin, records-on, records-fail, records-all, or-zero, map-part, and-assoc, paired-begin, paired-on, paired-fail, paired-all}
 use Rattle.names.specs.declared.Name.{Name}
 use Rattle.names.specs.declared.NameRead.{NameRead}
-use Rattle.names.specs.Names.{sameName, readName}
+use Rattle.names.specs.Names.{sameName, readName, userType, elevationType, kindNumbered}
 use Rattle.names.specs.Words.{digestOf}
-use Rattle.names.proofs.Laws.{same→name, name-last}
+use Rattle.names.proofs.Laws.{same→name, name-last, kind-saved}
+use Rattle.claims.specs.Module.{sessionCount, credentialCount}
 use Rattle.table.specs.Table.{standing, freePlace, isUser, isElevation, isActive, places}
 use Rattle.table.specs.declared.Process.{Process}
-use Rattle.layout.specs.Layout.{ownerAt, kindAt, sessionAt, nameAt, placeSize, countAt, placesAt, stateLength, kindFrom, processFrom, countIn, placesIn, stateOf, isOwned, areRivals, areApart, sound, shaped, holdsState}
-use Rattle.state_test.specs.Keys.{seatNumbered, seatOf, Seat, standingIn, Digests, Fresh, noRivals, otherNames, Unless}
+use Rattle.layout.specs.Layout.{ownerAt, kindAt, sessionAt, nameAt, placeSize, countAt, placesAt, stateLength, processFrom, countIn, placesIn, stateOf, isOwned, areRivals, areApart, sound, shaped, holdsState}
+use Rattle.state_test.specs.Keys.{userKeys, noKey, keyCount, keyNumbered, keyOf, Key, standingIn, Digests, Fresh, noRivals, otherNames, Unless}
 use Rattle.state_fields.specs.Stands.{allFit}
 use Rattle.layout.proofs.Laws.{Shape, shape, state-in}
 use Rattle.layout.proofs.Parts.{place-part}
@@ -37,7 +38,7 @@ use Rattle.layout.proofs.Parts.{place-part}
 -- ---- two places. The test of rivals, by the types' numbers and whether the sessions and the credentials agree
 abbrev rivalry : ℕ → ℕ → Bool → Bool → Bool
 rivalry k l session credential =
-    (isUser (kindFrom k) && (isUser (kindFrom l) && session && credential)) || (isElevation (kindFrom k) && (isElevation (kindFrom l) && session))
+    (isUser (kindNumbered k) && (isUser (kindNumbered l) && session && credential)) || (isElevation (kindNumbered k) && (isElevation (kindNumbered l) && session))
 
 rivalry-elsewhere : (k l : ℕ) (c : Bool) → rivalry k l false c ≡ false
 rivalry-elsewhere zero zero c = refl
@@ -57,10 +58,10 @@ rivalry-other (suc zero) (suc zero) s c n = absurd (n refl)
 rivalry-other (suc zero) (suc (suc l)) s c n = refl
 rivalry-other (suc (suc k)) l s c n = refl
 
-rivalry-same : (k : ℕ) (c : Bool) → (k ≡ 0 → ⊥) → rivalry k k true c ≡ eqb k 1
+rivalry-same : (k : ℕ) (c : Bool) → (k ≡ userType → ⊥) → rivalry k k true c ≡ eqb k elevationType
 rivalry-same zero c n = absurd (n refl)
 rivalry-same (suc zero) c n = refl
-rivalry-same (suc (suc k)) c n = sym (ne-eqb (suc (suc k)) 1 (λ e. omega arith))
+rivalry-same (suc (suc k)) c n = sym (ne-eqb (suc (suc k)) elevationType (λ e. omega arith))
 
 module _ (a b : List ℕ) where
   rivals-are : areRivals (processFrom a) (processFrom b) ≡ rivalry (getD a kindAt 0) (getD b kindAt 0) (eqb (getD b sessionAt 0) (getD a sessionAt 0)) (eqb (getD b ownerAt 0) (getD a ownerAt 0))
@@ -78,13 +79,13 @@ module _ (a b : List ℕ) where
     rivals-here : areRivals (processFrom a) (processFrom b) ≡ rivalry (getD a kindAt 0) (getD a kindAt 0) true (eqb (getD b ownerAt 0) (getD a ownerAt 0))
     rivals-here = rivals-are ∙ rw (eq-eqb (getD b sessionAt 0) (getD a sessionAt 0) (sym e), ← f)
 
-    pub rivals-users : getD a kindAt 0 ≡ 0 → eqb (getD a ownerAt 0) (getD b ownerAt 0) ≡ areRivals (processFrom a) (processFrom b)
+    pub rivals-users : getD a kindAt 0 ≡ userType → eqb (getD a ownerAt 0) (getD b ownerAt 0) ≡ areRivals (processFrom a) (processFrom b)
     rivals-users z =
         split (eqb (getD a ownerAt 0) (getD b ownerAt 0))
         (λ t. t ∙ sym (rivals-here ∙ rw (z, eq-eqb (getD b ownerAt 0) (getD a ownerAt 0) (sym (eqb-true (getD a ownerAt 0) (getD b ownerAt 0) t)))))
         (λ t. t ∙ sym (rivals-here ∙ rw (z, ne-eqb (getD b ownerAt 0) (getD a ownerAt 0) (λ q. eqb-false (getD a ownerAt 0) (getD b ownerAt 0) t (sym q)))))
 
-    pub rivals-last : (getD a kindAt 0 ≡ 0 → ⊥) → eqb (getD a kindAt 0) 1 ≡ areRivals (processFrom a) (processFrom b)
+    pub rivals-last : (getD a kindAt 0 ≡ userType → ⊥) → eqb (getD a kindAt 0) elevationType ≡ areRivals (processFrom a) (processFrom b)
     rivals-last n = sym (rivals-here ∙ rivalry-same (getD a kindAt 0) (eqb (getD b ownerAt 0) (getD a ownerAt 0)) n)
 
   module _ {r : Bool} (e : r ≡ areRivals (processFrom a) (processFrom b)) where
@@ -96,74 +97,65 @@ module _ (a b : List ℕ) where
     unfolding areApart
     apart-name t p q f = rw (← e, t, f, p, q)
 
--- ---- seats: by the type
+-- ---- keys: by the type
 module _ (row : List ℕ) {s : ℕ} (t : Widened (getD row sessionAt 0) s) where
-  pub seat-user : {c : ℕ} → Widened (getD row ownerAt 0) c → getD row kindAt 0 ≡ 0 → Seat (seatOf row) (s % 4 * 8 + c % 8)
-  unfolding seatOf
-  seat-user {c} w e = record { is = rw (e, t .is, w .is); small = omega arith }
+  pub key-user : {c : ℕ} → Widened (getD row ownerAt 0) c → getD row kindAt 0 ≡ userType → Key (keyOf row) (s % sessionCount * credentialCount + c % credentialCount)
+  unfolding keyOf
+  key-user {c} w e = record { is = rw (e, t .is, w .is); small = omega arith }
 
-  pub seat-elevation : getD row kindAt 0 ≡ 1 → Seat (seatOf row) (32 + s % 4)
-  unfolding seatOf
-  seat-elevation e = record { is = rw (e, t .is); small = omega arith }
+  pub key-elevation : getD row kindAt 0 ≡ elevationType → Key (keyOf row) (userKeys + s % sessionCount)
+  unfolding keyOf
+  key-elevation e = record { is = rw (e, t .is); small = omega arith }
 
-seat-none : (k s c : ℕ) → (k ≡ 0 → ⊥) → (k ≡ 1 → ⊥) → seatNumbered k s c ≡ 36
-seat-none zero s c n m = absurd (n refl)
-seat-none (suc zero) s c n m = absurd (m refl)
-seat-none (suc (suc k)) s c n m = refl
-
-pub seat-saved : (row : List ℕ) → (getD row kindAt 0 ≡ 0 → ⊥) → (getD row kindAt 0 ≡ 1 → ⊥) → Seat (seatOf row) 36
-unfolding seatOf
-seat-saved row n m = record { is = sym (seat-none (getD row kindAt 0) (getD row sessionAt 0) (getD row ownerAt 0) n m); small = omega arith }
+pub key-saved : (row : List ℕ) → (getD row kindAt 0 ≡ userType → ⊥) → (getD row kindAt 0 ≡ elevationType → ⊥) → Key (keyOf row) noKey
+unfolding keyOf
+key-saved row n m = record { is = rw (← kind-saved (getD row kindAt 0) n m); small = omega arith }
 
 -- rivals have one, and the same
-or-false : (b : Bool) → (b || false) ≡ b
-or-false true = refl
-or-false false = refl
-
-record OneSeat (x y : ℕ) : Type 0 where
-  one : x < 36
+record OneKey (x y : ℕ) : Type 0 where
+  one : x < noKey
   same : x ≡ y
 
-rivalry-seat : (k l s t c d : ℕ) → rivalry k l (eqb t s) (eqb d c) ≡ true → OneSeat (seatNumbered k s c) (seatNumbered l t d)
-rivalry-seat zero zero s t c d e =
+rivalry-key : (k l s t c d : ℕ) → rivalry k l (eqb t s) (eqb d c) ≡ true → OneKey (keyNumbered (kindNumbered k) s c) (keyNumbered (kindNumbered l) t d)
+rivalry-key zero zero s t c d e =
     let q : (eqb t s && eqb d c) ≡ true = sym (or-false (eqb t s && eqb d c)) ∙ e in
     record { one = omega arith; same = rw (eqb-true t s (and-left (eqb t s) (eqb d c) q), eqb-true d c (and-right (eqb t s) (eqb d c) q)) }
-rivalry-seat zero (suc zero) s t c d e = clash e refl
-rivalry-seat zero (suc (suc l)) s t c d e = clash e refl
-rivalry-seat (suc zero) zero s t c d e = clash e refl
-rivalry-seat (suc zero) (suc zero) s t c d e = record { one = omega arith; same = rw (eqb-true t s e) }
-rivalry-seat (suc zero) (suc (suc l)) s t c d e = clash e refl
-rivalry-seat (suc (suc k)) l s t c d e = clash e refl
+rivalry-key zero (suc zero) s t c d e = clash e refl
+rivalry-key zero (suc (suc l)) s t c d e = clash e refl
+rivalry-key (suc zero) zero s t c d e = clash e refl
+rivalry-key (suc zero) (suc zero) s t c d e = record { one = omega arith; same = rw (eqb-true t s e) }
+rivalry-key (suc zero) (suc (suc l)) s t c d e = clash e refl
+rivalry-key (suc (suc k)) l s t c d e = clash e refl
 
-rivals-seat : (a b : List ℕ) → areRivals (processFrom a) (processFrom b) ≡ true → OneSeat (seatOf a) (seatOf b)
-unfolding seatOf
-rivals-seat a b e = rivalry-seat (getD a kindAt 0) (getD b kindAt 0) (getD a sessionAt 0) (getD b sessionAt 0) (getD a ownerAt 0) (getD b ownerAt 0) (sym (rivals-are a b) ∙ e)
+rivals-key : (a b : List ℕ) → areRivals (processFrom a) (processFrom b) ≡ true → OneKey (keyOf a) (keyOf b)
+unfolding keyOf
+rivals-key a b e = rivalry-key (getD a kindAt 0) (getD b kindAt 0) (getD a sessionAt 0) (getD b sessionAt 0) (getD a ownerAt 0) (getD b ownerAt 0) (sym (rivals-are a b) ∙ e)
 
--- ---- the table of seats: those of the places from i on
-pub record IsSeated (seats row : List ℕ) : Type 0 where
-  pub taken : seatOf row < 36 → getD seats (seatOf row) 0 ≡ 1
+-- ---- the keys that are taken: those of the places from i on
+pub record IsTaken (taken row : List ℕ) : Type 0 where
+  pub is : keyOf row < noKey → getD taken (keyOf row) 0 ≡ 1
 
-pub record SeatedTo (s : List ℕ) (n met : ℕ) (seats : List ℕ) (i : ℕ) : Type 0 where
+pub record KeysTo (s : List ℕ) (n met : ℕ) (taken : List ℕ) (i : ℕ) : Type 0 where
   pub low : i ≤ n
   pub few : n ≤ places
-  pub long : length seats ≡ 37
-  pub each : Each (IsSeated seats) (drop i (rows n placeSize (drop placesAt s)))
+  pub long : length taken ≡ keyCount
+  pub each : Each (IsTaken taken) (drop i (rows n placeSize (drop placesAt s)))
   pub none : met ≡ 0 → pairwise noRivals (map processFrom (drop i (rows n placeSize (drop placesAt s)))) ≡ true
 
-pub seats-begin : (s : List ℕ) (n : ℕ) → n ≤ places → SeatedTo s n 0 (replicate 37 0) n
+pub keys-begin : (s : List ℕ) (n : ℕ) → n ≤ places → KeysTo s n 0 (replicate keyCount 0) n
 unfolding pairwise
-seats-begin s n h =
+keys-begin s n h =
     let l : length (rows n placeSize (drop placesAt s)) ≤ n = omega (arith, rows-length n placeSize (drop placesAt s)) in
     let z : ℕ = 0 in
     record {
       low = omega arith;
       few = h;
-      long = length-replicate 37 z;
+      long = length-replicate keyCount z;
       each = rw (drop-of-length-le (rows n placeSize (drop placesAt s)) l) each-nil;
       none = λ e. rw (drop-of-length-le (rows n placeSize (drop placesAt s)) l);
     }
 
--- a seat stays taken when another is
+-- a key stays taken when another is
 set-one : (l : List ℕ) (k j : ℕ) → getD l j 0 ≡ 1 → getD (set l k 1) j 0 ≡ 1
 set-one [] k j e = e
 set-one (x ∷ l) zero zero e = refl
@@ -171,30 +163,30 @@ set-one (x ∷ l) zero (suc j) e = e
 set-one (x ∷ l) (suc k) zero e = e
 set-one (x ∷ l) (suc k) (suc j) e = set-one l k j e
 
-seated-on : (seats : List ℕ) (x : ℕ) (row : List ℕ) → IsSeated seats row → IsSeated (set (set seats x 1) 36 0) row
-seated-on seats x row m =
-    record { taken = λ h. let n : seatOf row ≡ 36 → ⊥ = (λ e. omega arith) in getD-set-other (set seats x 1) 36 (seatOf row) 0 0 n ∙ set-one seats x (seatOf row) (m .taken h) }
+taken-on : (taken : List ℕ) (x : ℕ) (row : List ℕ) → IsTaken taken row → IsTaken (set (set taken x 1) noKey 0) row
+taken-on taken x row m =
+    record { is = λ h. let n : keyOf row ≡ noKey → ⊥ = (λ e. omega arith) in getD-set-other (set taken x 1) noKey (keyOf row) 0 0 n ∙ set-one taken x (keyOf row) (m .is h) }
 
--- a place whose seat is free is no rival of one that has its own, and of none of many
-no-rival : (seats row x : List ℕ) → getD seats (seatOf row) 0 ≡ 0 → IsSeated seats x → noRivals (processFrom row) (processFrom x) ≡ true
-no-rival seats row x z m =
+-- a place whose key is free is no rival of one whose own is taken, and of none of many
+no-rival : (taken row x : List ℕ) → getD taken (keyOf row) 0 ≡ 0 → IsTaken taken x → noRivals (processFrom row) (processFrom x) ≡ true
+no-rival taken row x z m =
     split (areRivals (processFrom row) (processFrom x))
     (λ e.
-    let o : OneSeat (seatOf row) (seatOf x) = rivals-seat row x e in
-    let t : getD seats (seatOf row) 0 ≡ 1 = rw (o .same) (m .taken (rw (← o .same) (o .one))) in
+    let o : OneKey (keyOf row) (keyOf x) = rivals-key row x e in
+    let t : getD taken (keyOf row) 0 ≡ 1 = rw (o .same) (m .is (rw (← o .same) (o .one))) in
     absurd (omega arith))
     (λ e. rw e)
 
-free-seat : (seats row : List ℕ) → getD seats (seatOf row) 0 ≡ 0 → {l : List (List ℕ)} → Each (IsSeated seats) l → every (noRivals (processFrom row)) (map processFrom l) ≡ true
+free-key : (taken row : List ℕ) → getD taken (keyOf row) 0 ≡ 0 → {l : List (List ℕ)} → Each (IsTaken taken) l → every (noRivals (processFrom row)) (map processFrom l) ≡ true
 unfolding every
-free-seat seats row z each-nil = refl
-free-seat seats row z (each-cons {x} {l} m r) = and-both (no-rival seats row x z m) (free-seat seats row z r)
+free-key taken row z each-nil = refl
+free-key taken row z (each-cons {x} {l} m r) = and-both (no-rival taken row x z m) (free-key taken row z r)
 
 -- the row of the place before those
 abbrev rowAt : List ℕ → ℕ → List ℕ
 rowAt s i = take (placesAt + i * placeSize + placeSize - (placesAt + i * placeSize)) (drop (placesAt + i * placeSize) s)
 
-module _ {s : List ℕ} {n met : ℕ} {seats : List ℕ} {left : ℕ} (v : SeatedTo s n met seats left) (h : 0 < left) where
+module _ {s : List ℕ} {n met : ℕ} {taken : List ℕ} {left : ℕ} (v : KeysTo s n met taken left) (h : 0 < left) where
   back : left - 1 + 1 ≡ left
   back = omega arith
 
@@ -207,32 +199,32 @@ module _ {s : List ℕ} {n met : ℕ} {seats : List ℕ} {left : ℕ} (v : Seate
       let w : placesAt + (left - 1) * placeSize + placeSize - (placesAt + (left - 1) * placeSize) ≡ placeSize = omega arith in
       drop-cons (rows n placeSize (drop placesAt s)) (left - 1) [] k ∙ rw (← add-one (left - 1), back, w, row-at n placeSize (drop placesAt s) (left - 1) [] before, drop-drop ((left - 1) * placeSize) placesAt s)
 
-  pub seats-on : {x : ℕ} → Seat (seatOf (rowAt s (left - 1))) x → SeatedTo s n (bitOr met (getD seats x 0)) (set (set seats x 1) 36 0) (left - 1)
+  pub keys-on : {x : ℕ} → Key (keyOf (rowAt s (left - 1))) x → KeysTo s n (bitOr met (getD taken x 0)) (set (set taken x 1) noKey 0) (left - 1)
   unfolding pairwise
-  seats-on {x} p =
+  keys-on {x} p =
       let row : List ℕ = rowAt s (left - 1) in
-      let k : x < length seats = omega (arith, v .long, p .small) in
-      let here : IsSeated (set (set seats x 1) 36 0) row =
+      let k : x < length taken = omega (arith, v .long, p .small) in
+      let here : IsTaken (set (set taken x 1) noKey 0) row =
       record {
-        taken = λ t.
-            let n : seatOf row ≡ 36 → ⊥ = (λ e. omega arith) in
-            getD-set-other (set seats x 1) 36 (seatOf row) 0 0 n ∙ rw (← p .is) (getD-set-same seats x 1 0 k);
+        is = λ t.
+            let n : keyOf row ≡ noKey → ⊥ = (λ e. omega arith) in
+            getD-set-other (set taken x 1) noKey (keyOf row) 0 0 n ∙ rw (← p .is) (getD-set-same taken x 1 0 k);
       }
       in
       record {
         low = omega (arith, v .low);
         few = v .few;
-        long = length-set (set seats x 1) 36 0 ∙ length-set seats x 1 ∙ v .long;
-        each = rw row-before (each-cons here (each-imp (seated-on seats x) (v .each)));
+        long = length-set (set taken x 1) noKey 0 ∙ length-set taken x 1 ∙ v .long;
+        each = rw row-before (each-cons here (each-imp (taken-on taken x) (v .each)));
         none = λ e.
-            let z : (isZero met && isZero (getD seats x 0)) ≡ true = sym (or-zero met (getD seats x 0)) ∙ eq-eqb (bitOr met (getD seats x 0)) 0 e in
-            let f : met ≡ 0 = eqb-true met 0 (and-left (isZero met) (isZero (getD seats x 0)) z) in
-            let g : getD seats (seatOf row) 0 ≡ 0 = rw (← p .is) (eqb-true (getD seats x 0) 0 (and-right (isZero met) (isZero (getD seats x 0)) z)) in
-            rw row-before (and-both (free-seat seats row g (v .each)) (v .none f));
+            let z : (isZero met && isZero (getD taken x 0)) ≡ true = sym (or-zero met (getD taken x 0)) ∙ eq-eqb (bitOr met (getD taken x 0)) 0 e in
+            let f : met ≡ 0 = eqb-true met 0 (and-left (isZero met) (isZero (getD taken x 0)) z) in
+            let g : getD taken (keyOf row) 0 ≡ 0 = rw (← p .is) (eqb-true (getD taken x 0) 0 (and-right (isZero met) (isZero (getD taken x 0)) z)) in
+            rw row-before (and-both (free-key taken row g (v .each)) (v .none f));
       }
 
-pub seats-all : {s : List ℕ} {n met : ℕ} {seats : List ℕ} {left : ℕ} → SeatedTo s n met seats left → left ≤ 0 → Unless (not (eqb met 0)) (pairwise noRivals (standingIn s n))
-seats-all {s} {n} {met} {seats} {left} v h =
+pub keys-all : {s : List ℕ} {n met : ℕ} {taken : List ℕ} {left : ℕ} → KeysTo s n met taken left → left ≤ 0 → Unless (not (eqb met 0)) (pairwise noRivals (standingIn s n))
+keys-all {s} {n} {met} {taken} {left} v h =
     record { passes = λ e. let z : left ≡ 0 = omega arith in sym (rw z at (v .none (eqb-true met 0 (not-false (eqb met 0) e)))) }
 
 -- ---- names: each as it stands
@@ -326,13 +318,13 @@ distinct-all {s} {n} {d} {met} {i} h g v k =
           (λ f. rw f)));
     }
 
--- ---- both keys
+-- ---- both numbers
 pub apart-keys : (l : List Process) {m k : Bool} → Unless m (pairwise noRivals l) → not m ≡ true → Unless k (pairwise otherNames l) → not k ≡ true → true ≡ pairwise areApart l
 unfolding areApart
 apart-keys l {m} {k} v p w q =
-    let seats : Pairs (λ (x y : Process). noRivals x y ≡ true) l = pairwise-by (λ x y r. r) l (sym (v .passes (not-true m p))) in
+    let keys : Pairs (λ (x y : Process). noRivals x y ≡ true) l = pairwise-by (λ x y r. r) l (sym (v .passes (not-true m p))) in
     let names : Pairs (λ (x y : Process). otherNames x y ≡ true) l = pairwise-by (λ x y r. r) l (sym (w .passes (not-true k q))) in
-    sym (by-pairwise {R = λ (x y : Process). areApart x y ≡ true} (λ x y r. r) (pairs-imp₂ (λ x y r s. and-both r s) seats names))
+    sym (by-pairwise {R = λ (x y : Process). areApart x y ≡ true} (λ x y r. r) (pairs-imp₂ (λ x y r s. and-both r s) keys names))
 
 -- the place at i with the later ones
 pub apart-begin : {f : Process → Bool} (n : ℕ) (s : List ℕ) (i : ℕ) → i < n → RecordsTo f processFrom n placeSize placesAt s (i + 1) (i + 1)
@@ -394,4 +386,4 @@ module _ (b : List ℕ) {t : Bool} (e : t ≡ allFit b) where
           let all : take (length b - 0) b ≡ b = take-all (length b - 0) b (omega arith) in
           m ∙ ap (λ (l : List ℕ). pairwise areApart (map processFrom (rows n placeSize (drop placesAt l)))) all ∙ last
 
-pub ruleset rules = (needs, length-mapped, rivals-elsewhere, rivals-other, rivals-users, rivals-last, apart-rivals, apart-name, place-part, apart-begin, apart-on, apart-fail, holds-pairs, holds-few, records-begin, records-on, records-all, paired-begin, paired-on, paired-fail, paired-all, seat-user, seat-elevation, seat-saved, seats-begin, seats-on, seats-all, name-stands, digests-begin, digests-on, digests-all, fresh-begin, fresh-on, fresh-all, distinct-begin, distinct-on, distinct-all, apart-keys, holds-unfit, fit-counted, fit-whole, fit-few)
+pub ruleset rules = (needs, length-mapped, rivals-elsewhere, rivals-other, rivals-users, rivals-last, apart-rivals, apart-name, place-part, apart-begin, apart-on, apart-fail, holds-pairs, holds-few, records-begin, records-on, records-all, paired-begin, paired-on, paired-fail, paired-all, key-user, key-elevation, key-saved, keys-begin, keys-on, keys-all, name-stands, digests-begin, digests-on, digests-all, fresh-begin, fresh-on, fresh-all, distinct-begin, distinct-on, distinct-all, apart-keys, holds-unfit, fit-counted, fit-whole, fit-few)

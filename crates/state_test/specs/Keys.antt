@@ -1,30 +1,43 @@
--- Two keys of a place: its seat, and its name's digest. Rivals have one seat, and equal names one digest. So where no two places share a key they are
+-- Two numbers of a place: its key, and its name's digest. Rivals have one key, and equal names one digest. So where no two places share either they are
 -- apart, and only where two do are the places themselves compared.
-use Prim.Native.Nat.{ℕ, zero, suc, _+_, _*_, _%_, _<_}
+use Prim.Native.Nat.{ℕ, _+_, _*_, _%_, _<_}
 use mathlib.Core.Path.{_≡_}
 use mathlib.Core.Bool.{Bool, true, false, not}
 use mathlib.Core.List.{List, map}
 use lib.ListN.{drop, getD}
 use Rattle.rows.specs.Rows.{rows, every}
-use Rattle.names.specs.Names.{sameName}
+use Rattle.names.specs.Names.{sameName, kindNumbered}
+use Rattle.names.specs.declared.Kind.{Kind}
+use Rattle.names.specs.declared.Kind.the-variants.{User, Elevation, Saved}
 use Rattle.names.specs.Words.{digestOf}
 use Rattle.table.specs.Table.{freePlace}
 use Rattle.table.specs.declared.Process.{Process}
+use Rattle.claims.specs.Module.{sessionCount, credentialCount}
 use Rattle.layout.specs.Layout.{ownerAt, kindAt, sessionAt, placeSize, placesAt, processFrom, areRivals, areApart}
 
--- by the type: of a user process its session and its credential; of an elevation its session. A saved process has none of the 36
-abbrev pub seatNumbered : ℕ → ℕ → ℕ → ℕ
-seatNumbered zero session credential = session % 4 * 8 + credential % 8
-seatNumbered (suc zero) session credential = 32 + session % 4
-seatNumbered (suc (suc kind)) session credential = 36
+-- a user process's key is that of its session and its credential, an elevation's that of its session; a saved process has none. The code has these names
+abbrev pub userKeys : ℕ
+userKeys = sessionCount * credentialCount
 
-unfoldable pub seatOf : List ℕ → ℕ
-seatOf row = seatNumbered (getD row kindAt 0) (getD row sessionAt 0) (getD row ownerAt 0)
+abbrev pub noKey : ℕ
+noKey = userKeys + sessionCount
 
--- a seat, or 36 for none
-pub record Seat (x r : ℕ) : Type 0 where
+-- how many numbers there are: the keys, and that for none
+abbrev pub keyCount : ℕ
+keyCount = noKey + 1
+
+abbrev pub keyNumbered : Kind → ℕ → ℕ → ℕ
+keyNumbered User session credential = session % sessionCount * credentialCount + credential % credentialCount
+keyNumbered Elevation session credential = userKeys + session % sessionCount
+keyNumbered Saved session credential = noKey
+
+unfoldable pub keyOf : List ℕ → ℕ
+keyOf row = keyNumbered (kindNumbered (getD row kindAt 0)) (getD row sessionAt 0) (getD row ownerAt 0)
+
+-- a key, or the number for none
+pub record Key (x r : ℕ) : Type 0 where
   pub is : r ≡ x
-  pub small : r < 37
+  pub small : r < keyCount
 
 -- the processes that stand in the first n places
 abbrev pub standingIn : List ℕ → ℕ → List Process
@@ -44,7 +57,7 @@ noRivals p q = not (areRivals p q)
 abbrev pub otherNames : Process → Process → Bool
 otherNames p q = not (sameName (p .name) (q .name))
 
--- a test passes, where no key was met
+-- a test passes, where no number was met
 pub record Unless (met test : Bool) : Type 0 where
   pub passes : met ≡ false → true ≡ test
 

@@ -4,8 +4,10 @@ ghost use Prim.Native.Nat.{_<_, _≤_};
 ghost use lib.ListN.{length};
 ghost use Rattle.rows.specs.Rows.{pairwise};
 ghost use Rattle.layout.specs.Layout.{placeSize, stateLength, processFrom, areRivals, areApart, holdsState};
-ghost use Rattle.state_test.specs.Keys.{seatOf, Seat, standingIn, Digests, Fresh, noRivals, otherNames, Unless, laterApart};
+ghost use Rattle.state_test.specs.Keys.{keyOf, Key, standingIn, Digests, Fresh, noRivals, otherNames, Unless, laterApart};
 ghost use Rattle.table.specs.Table.{places};
+use claims::CREDENTIALS;
+use claims::SESSIONS;
 use layout::COUNT_AT;
 use layout::KIND_AT;
 use layout::NAME_AT;
@@ -13,47 +15,54 @@ use layout::OWNER_AT;
 use layout::PLACE_SIZE;
 use layout::PLACES_AT;
 use layout::SESSION_AT;
+use names::ELEVATION_TYPE;
 use names::Name;
+use names::USER_TYPE;
 use table::PLACES;
 
-// ---- seats
+// ---- keys
 
-// Seats have the numbers 0 to 35. A place without one, a saved process's, has this, which is never taken.
-const NO_SEAT: usize = 36;
+// A user process's key is that of its session and its credential, an elevation's that of its session. A place without one, a saved process's, has a number
+// that is never taken.
+const USER_KEYS: usize = SESSIONS * CREDENTIALS;
 
-// The seat of a place, by remainders, so that any bytes have one.
-fn seat_of(row: &[u8]) -> usize
+const NO_KEY: usize = USER_KEYS + SESSIONS;
+
+const KEY_COUNT: usize = NO_KEY + 1;
+
+// The key of a place, by remainders, so that any bytes have one.
+fn key_of(row: &[u8]) -> usize
     requires { ⌜ length (now row) ≡ placeSize ⌝ }
-    ensures { λ r. ⌜ Seat (seatOf (now (row .entry))) r ⌝ }
+    ensures { λ r. ⌜ Key (keyOf (now (row .entry))) r ⌝ }
 {
     let kind = row[KIND_AT];
-    let session = rows::wide(row[SESSION_AT]) % 4;
-    if kind == 0 {
-        return session * 8 + rows::wide(row[OWNER_AT]) % 8;
+    let session = rows::wide(row[SESSION_AT]) % SESSIONS;
+    if kind == USER_TYPE {
+        return session * CREDENTIALS + rows::wide(row[OWNER_AT]) % CREDENTIALS;
     }
-    if kind == 1 {
-        return 32 + session;
+    if kind == ELEVATION_TYPE {
+        return USER_KEYS + session;
     }
-    NO_SEAT
+    NO_KEY
 }
 
-// Whether two places have one seat. It goes from the last place to the first, so that the table has the seats of the later ones.
-fn seats_meet(s: &[u8], n: usize) -> bool
+// Whether two places have one key. It goes from the last place to the first, so that those of the later ones are taken.
+fn keys_meet(s: &[u8], n: usize) -> bool
     requires { ⌜ length (now s) ≡ stateLength ⌝ }
     requires { ⌜ n ≤ places ⌝ }
     ensures { λ r. ⌜ Unless r (pairwise noRivals (standingIn (now (s .entry)) n)) ⌝ }
 {
     let mut met: u8 = 0;
-    let mut seats: [u8; NO_SEAT + 1] = [0; NO_SEAT + 1];
+    let mut taken: [u8; KEY_COUNT] = [0; KEY_COUNT];
     let mut left = n;
     while 0 < left {
         let i = left - 1;
         let a = PLACES_AT + i * PLACE_SIZE;
         let e = a + PLACE_SIZE;
-        let seat = seat_of(&s[a..e]);
-        met = met | seats[seat];
-        seats[seat] = 1;
-        seats[NO_SEAT] = 0;
+        let key = key_of(&s[a..e]);
+        met = met | taken[key];
+        taken[key] = 1;
+        taken[NO_KEY] = 0;
         left = i;
     }
     met != 0
@@ -136,10 +145,10 @@ fn are_rivals<'a>(a: &'a [u8], b: &'a [u8]) -> bool
     if kind != other {
         return false;
     }
-    if kind == 0 {
+    if kind == USER_TYPE {
         return a[OWNER_AT] == b[OWNER_AT];
     }
-    kind == 1
+    kind == ELEVATION_TYPE
 }
 
 fn are_apart<'a>(a: &'a [u8], b: &'a [u8]) -> bool
@@ -190,13 +199,13 @@ fn every_apart(s: &[u8], n: usize) -> bool
     true
 }
 
-// The same, by the keys first: where no two places share one, the places need not be compared.
+// The same, by keys and digests first: where no two places share one, the places need not be compared.
 fn all_apart(s: &[u8], n: usize) -> bool
     requires { ⌜ length (now s) ≡ stateLength ⌝ }
     requires { ⌜ n ≤ places ⌝ }
     ensures { λ r. ⌜ r ≡ pairwise areApart (standingIn (now (s .entry)) n) ⌝ }
 {
-    if !seats_meet(s, n) {
+    if !keys_meet(s, n) {
         if !digests_meet(s, n) {
             return true;
         }

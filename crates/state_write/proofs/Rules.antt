@@ -20,12 +20,12 @@ use Rattle.claims.specs.Module.{closedSession, unprovisioned, sessionCount, cre
 use Rattle.claims.specs.declared.Grants.{Grants}
 use Rattle.claims.specs.declared.SessionState.{SessionState}
 use Rattle.claims.specs.declared.State.{State}
-use Rattle.layout.specs.Layout.{flagAt, wordAt, credentialSize, placeSize, sessionsAt, sessionSize, credentialsAt, countAt, stateLength, phaseByte, sessionBytes, flagNumber, grantsBytes, processBytes, stateBytes, stateWritten}
+use Rattle.layout.specs.Layout.{setFlag, flagAt, wordAt, wordSize, credentialSize, placeSize, sessionsAt, sessionSize, credentialsAt, countAt, countSize, stateLength, phaseByte, sessionBytes, flagNumber, grantsBytes, processBytes, stateBytes, stateWritten}
 use Rattle.layout.proofs.Laws.{state-written, state-not-written}
 use Rattle.table.specs.Table.{places}
 
 -- ---- a flag
-pub flag-true : (f : Bool) → f ≡ true → 1 ≡ flagNumber f
+pub flag-true : (f : Bool) → f ≡ true → setFlag ≡ flagNumber f
 flag-true f e = rw e
 
 pub flag-false : (f : Bool) → f ≡ false → 0 ≡ flagNumber f
@@ -33,20 +33,17 @@ flag-false f e = rw e
 
 -- ---- a row: its fields, written one after another
 module _ (part : List ℕ) (g : Grants) (f : ℕ) (h : length part ≡ credentialSize) where
-  pub grants-same : {new : List ℕ} → new ≡ over wordAt 4 (bytesOf 4 (g .word)) (set part flagAt f) → length new ≡ length part
-  grants-same p = ap length p ∙ over-length wordAt 4 (bytesOf 4 (g .word)) (set part flagAt f) (length-bytes 4 (g .word)) ∙ length-set part flagAt f
+  pub grants-same : {new : List ℕ} → new ≡ over wordAt wordSize (bytesOf wordSize (g .word)) (set part flagAt f) → length new ≡ length part
+  grants-same p = ap length p ∙ over-length wordAt wordSize (bytesOf wordSize (g .word)) (set part flagAt f) (length-bytes wordSize (g .word)) ∙ length-set part flagAt f
 
-  pub grants-put : {new : List ℕ} → f ≡ flagNumber (g .provisioned) → new ≡ over wordAt 4 (bytesOf 4 (g .word)) (set part flagAt f) → new ≡ grantsBytes g
+  pub grants-put : {new : List ℕ} → f ≡ flagNumber (g .provisioned) → new ≡ over wordAt wordSize (bytesOf wordSize (g .word)) (set part flagAt f) → new ≡ grantsBytes g
   unfolding grantsBytes
   grants-put {new} e p =
       let flag-put : Put flagAt 1 (f ∷ []) part (set part flagAt f) = put-byte flagAt f part (omega arith) in
-      let word-put : Put wordAt 4 (bytesOf 4 (g .word)) (set part flagAt f) new = record { long = length-bytes 4 (g .word); is = p } in
+      let word-put : Put wordAt wordSize (bytesOf wordSize (g .word)) (set part flagAt f) new = record { long = length-bytes wordSize (g .word); is = p } in
       put-whole (put-next flag-put word-put (omega arith)) h ∙ rw e
 
 -- ---- the rows of an array
-pub rows-length : {A : Type 0} {enc : A → List ℕ} {k off : ℕ} {l : List A} {old new : List ℕ} {i : ℕ} → Wrote enc k off l old new i → length new ≡ length old
-rows-length v = wrote-length v
-
 pub sessions-begin : (l : List SessionState) (old : List ℕ) → length l ≡ sessionCount → length old ≡ stateLength → Wrote sessionBytes sessionSize sessionsAt l old old 0
 sessions-begin l old h k = wrote-begin sessionBytes sessionSize sessionsAt l old (rw h (omega arith))
 
@@ -57,15 +54,15 @@ module _ {l : List SessionState} {old new : List ℕ} {i : ℕ} (v : Wrote sessi
   pub sessions-next : i < sessionCount → {b : ℕ} → b ≡ phaseByte (getD l i closedSession .phase) → Wrote sessionBytes sessionSize sessionsAt l old (set new i b) (i + 1)
   unfolding sessionBytes
   sessions-next k {b} e =
-      let n : 0 + i * 1 ≡ i = omega arith in
+      let n : sessionsAt + i * sessionSize ≡ i = omega arith in
       let m : i + 1 - i ≡ 1 = omega arith in
       let r : i < length new = omega (arith, v .room, wrote-length v, rw h at (v .room)) in
       let j : i < length l = rw h k in
       let x : b ∷ [] ≡ sessionBytes (getD l i closedSession) = rw e in
-      let w : Wrote sessionBytes sessionSize sessionsAt l old (putMid (0 + i * 1) (0 + i * 1 + 1 - (0 + i * 1)) new (b ∷ [])) (i + 1) =
+      let w : Wrote sessionBytes sessionSize sessionsAt l old (putMid (sessionsAt + i * sessionSize) (sessionsAt + i * sessionSize + sessionSize - (sessionsAt + i * sessionSize)) new (b ∷ [])) (i + 1) =
       wrote-on v closedSession j x (sym (wrote-part v j))
       in
-      let q : putMid (0 + i * 1) (0 + i * 1 + 1 - (0 + i * 1)) new (b ∷ []) ≡ set new i b = rw (n, m, over-part i 1 (b ∷ []) new (omega arith)) (sym (over-set i b new r)) in
+      let q : putMid (sessionsAt + i * sessionSize) (sessionsAt + i * sessionSize + sessionSize - (sessionsAt + i * sessionSize)) new (b ∷ []) ≡ set new i b = rw (n, m, over-part i 1 (b ∷ []) new (omega arith)) (sym (over-set i b new r)) in
       rw q at w
 
   pub sessions-all : sessionCount ≤ i → Put sessionsAt (sessionCount * sessionSize) (join (map sessionBytes l)) old new
@@ -103,9 +100,9 @@ written-other old st n = sym (state-not-written old st n)
 
 pub written-all : (old : List ℕ) (st : State) {a b d : List ℕ} → length old ≡ stateLength
     → Put sessionsAt (sessionCount * sessionSize) (join (map sessionBytes (st .sessions))) old a → Put credentialsAt (credentialCount * credentialSize) (join (map grantsBytes (st .credentials))) a b
-    → d ≡ over countAt (1 + places * placeSize) (byteOf (st .table .count) ∷ join (map processBytes (st .table .places))) b → length d ≡ length b → d ≡ stateWritten old st
+    → d ≡ over countAt (countSize + places * placeSize) (byteOf (st .table .count) ∷ join (map processBytes (st .table .places))) b → length d ≡ length b → d ≡ stateWritten old st
 unfolding stateBytes
 written-all old st h p q t m =
     put-whole (put-next (put-next p q (omega arith)) (same-put t m (omega (arith, put-length p, put-length q))) (omega arith)) h ∙ rw (state-written old st h) (simp append-assoc)
 
-pub ruleset rules = (needs, length-mapped, flag-true, flag-false, grants-same, grants-put, rows-length, sessions-begin, sessions-room, sessions-next, sessions-all, credentials-begin, credentials-end, credentials-part, credentials-next, credentials-all, written-other, written-all)
+pub ruleset rules = (needs, length-mapped, flag-true, flag-false, grants-same, grants-put, wrote-length, sessions-begin, sessions-room, sessions-next, sessions-all, credentials-begin, credentials-end, credentials-part, credentials-next, credentials-all, written-other, written-all)

@@ -13,9 +13,13 @@ use claims::Phase;
 use claims::SESSIONS;
 use claims::SessionState;
 use claims::State;
+use layout::CHOSEN_BYTE;
+use layout::CLOSED_BYTE;
 use layout::CREDENTIAL_SIZE;
 use layout::CREDENTIALS_AT;
 use layout::FLAG_AT;
+use layout::OPENED_BYTE;
+use layout::SET_FLAG;
 use layout::STATE_LENGTH;
 use layout::WORD_AT;
 
@@ -25,9 +29,9 @@ fn phase_byte(phase: Phase) -> u8
     ensures { λ r. ⌜ r ≡ phaseByte phase ⌝ }
 {
     match phase {
-        Phase::Closed => 0,
-        Phase::Opened => 1,
-        Phase::Chosen => 2,
+        Phase::Closed => CLOSED_BYTE,
+        Phase::Opened => OPENED_BYTE,
+        Phase::Chosen => CHOSEN_BYTE,
     }
 }
 
@@ -49,7 +53,7 @@ fn put_sessions(s: &mut [u8], l: [SessionState; SESSIONS])
 fn flag_number(flag: bool) -> u8
     ensures { λ r. ⌜ r ≡ flagNumber flag ⌝ }
 {
-    if flag { 1 } else { 0 }
+    if flag { SET_FLAG } else { 0 }
 }
 
 fn put_grants(part: &mut [u8], g: Grants)

@@ -6,8 +6,9 @@ ghost use lib.ListN.{length};
 ghost use Rattle.lists.specs.Lists.{join};
 ghost use Rattle.rows.specs.Bytes.{byteOf};
 ghost use Rattle.rows.specs.Rows.{over, Put};
+ghost use Rattle.names.specs.Names.{kindNumber};
 ghost use Rattle.table.specs.Table.{places};
-ghost use Rattle.layout.specs.Layout.{placeSize, countAt, placesAt, stateLength, kindByte, processBytes, nextWritten};
+ghost use Rattle.layout.specs.Layout.{placeSize, countAt, countSize, placesAt, stateLength, processBytes, nextWritten};
 use layout::COUNT_AT;
 use layout::KIND_AT;
 use layout::NAME_AT;
@@ -17,20 +18,24 @@ use layout::PLACE_SIZE;
 use layout::PLACES_AT;
 use layout::SESSION_AT;
 use layout::STATE_LENGTH;
+use names::ELEVATION_TYPE;
 use names::Kind;
+use names::SAVED_TYPE;
+use names::USER_TYPE;
 use table::PLACES;
 use table::Process;
 use table::Table;
 
 // ---- a place
 
-fn kind_byte(kind: Kind) -> u8
-    ensures { λ r. ⌜ r ≡ kindByte kind ⌝ }
+// The number of its type.
+fn kind_number(kind: Kind) -> u8
+    ensures { λ r. ⌜ r ≡ kindNumber kind ⌝ }
 {
     match kind {
-        Kind::User => 0,
-        Kind::Elevation => 1,
-        Kind::Saved => 2,
+        Kind::User => USER_TYPE,
+        Kind::Elevation => ELEVATION_TYPE,
+        Kind::Saved => SAVED_TYPE,
     }
 }
 
@@ -40,7 +45,7 @@ fn put_process(part: &mut [u8], p: Process)
 {
     let kind = p.kind;
     part[OWNER_AT] = rows::byte_of(p.credential.0 as usize);
-    part[KIND_AT] = kind_byte(kind);
+    part[KIND_AT] = kind_number(kind);
     part[SESSION_AT] = p.session.0;
     rows::put_number16(part, NEXT_AT, p.next);
     names::put_name(&mut part[NAME_AT..PLACE_SIZE], p.name);
@@ -64,14 +69,14 @@ fn put_places(s: &mut [u8], l: [Process; PLACES])
 
 fn put_count(s: &mut [u8], count: usize)
     requires { ⌜ stateLength ≤ length (now s) ⌝ }
-    ensures { λ r. ⌜ Put countAt 1 (byteOf count ∷ []) (now (s .entry)) (now (s .exit)) ⌝ }
+    ensures { λ r. ⌜ Put countAt countSize (byteOf count ∷ []) (now (s .entry)) (now (s .exit)) ⌝ }
 {
     s[COUNT_AT] = rows::byte_of(count);
 }
 
 // The count and the places, in a slice that has room for a state. A shorter one stays.
 pub fn put_table(s: &mut [u8], t: Table)
-    ensures { λ r. ⌜ now (s .exit) ≡ over countAt (1 + places * placeSize) (byteOf (t .count) ∷ join (map processBytes (t .places))) (now (s .entry)) ⌝ }
+    ensures { λ r. ⌜ now (s .exit) ≡ over countAt (countSize + places * placeSize) (byteOf (t .count) ∷ join (map processBytes (t .places))) (now (s .entry)) ⌝ }
 {
     if STATE_LENGTH <= s.len() {
         let places = t.places;

@@ -2,15 +2,14 @@
 -- `h`, that a table has 12 places, is known of any table that a function was passed.
 -- Assumes nothing.
 use Prim.Native.Nat.{ℕ, _<_, _≤_}
-use mathlib.Core.Path.{_≡_, refl, sym, ap}
+use mathlib.Core.Path.{_≡_}
 use mathlib.Core.List.{List, [], _∷_, _++_}
 use native.Mathlib.Omega.{arith}
-use borrow.Author.Tests.{lt-ltb, le-ltb}
-use lib.ListN.{length, take, drop, set, length-take, length-append, length-set, take-append-drop}
+use borrow.Author.Tests.{lt-ltb}
+use lib.ListN.{length, take, drop, set, length-take, take-append-drop}
 use lib.Seq.{take-append-seam}
 use Rattle.lists.specs.Lists.{reject, removeAt}
-use Rattle.lists.proofs.Lists.{length-remove, remove-out, length-reject, length-select, length-padded, front-padded}
-use Rattle.lists.proofs.Tests.{below}
+use Rattle.lists.proofs.Lists.{length-select, length-padded, front-padded}
 use Rattle.names.specs.declared.Session.{Session}
 use Rattle.table.specs.declared.Among.{Among}
 use Rattle.table.specs.declared.Process.{Process}
@@ -25,10 +24,6 @@ standing-of l = front-padded places freePlace l
 pub whole-of : (l : List Process) → length l ≤ places → length (tableOf l .places) ≡ places
 unfolding tableOf
 whole-of l h = length-padded places freePlace l h
-
-pub count-of : (l : List Process) → tableOf l .count ≡ length l
-unfolding tableOf
-count-of l = refl
 
 -- ---- what stands in any table
 pub standing-front : (t : Table) → take (length (standing t)) (t .places) ≡ standing t
@@ -55,11 +50,6 @@ module _ (t : Table) where
   unfolding appended
   standing-appended p k = rw (lt-ltb (size t) places k) (standing-of (standing t ++ (p ∷ [])))
 
-  -- a full table takes none
-  pub standing-full : (p : Process) → places ≤ size t → standing (appended t p) ≡ standing t
-  unfolding appended
-  standing-full p k = rw (le-ltb (size t) places k) (standing-of (standing t))
-
   pub standing-replaced : (at : ℕ) (p : Process) → standing (replaced t at p) ≡ set (standing t) at p
   unfolding replaced
   standing-replaced at p = standing-of (set (standing t) at p)
@@ -71,42 +61,3 @@ module _ (t : Table) where
   pub standing-without-session : (s : Session) → standing (withoutSession t s) ≡ reject (isActiveIn s) (standing t)
   unfolding withoutSession
   standing-without-session s = standing-of (reject (isActiveIn s) (standing t))
-
--- ---- the list that each operation leaves has at most 12, so the count never passes 12 and the places stay 12
-pub record Few (t : Table) : Type 0 where
-  pub count : t .count ≤ places
-  pub whole : length (t .places) ≡ places
-  pub tidy : t ≡ tableOf (standing t)
-
-pub few-of : (l : List Process) → length l ≤ places → Few (tableOf l)
-few-of l h = record { count = rw (count-of l) h; whole = whole-of l h; tidy = ap tableOf (sym (standing-of l)) }
-
-module _ (t : Table) (h : length (t .places) ≡ places) where
-  few : length (standing t) ≤ places
-  few = standing-few t h
-
-  pub few-appended : (p : Process) → Few (appended t p)
-  unfolding appended size
-  few-appended p =
-      below (size t) places
-      (λ k. rw (lt-ltb (size t) places k) (few-of (standing t ++ (p ∷ [])) (rw length-append (omega arith))))
-      (λ k. rw (le-ltb (size t) places k) (few-of (standing t) few))
-
-  pub few-replaced : (at : ℕ) (p : Process) → Few (replaced t at p)
-  unfolding replaced
-  few-replaced at p = few-of (set (standing t) at p) (rw length-set few)
-
-  pub few-removed : (at : ℕ) → Few (removed t at)
-  unfolding removed
-  few-removed at =
-      below at (length (standing t))
-      (λ k. few-of (removeAt at (standing t)) (omega (arith, length-remove at (standing t) k, few)))
-      (λ k. rw (remove-out at (standing t) k) (few-of (standing t) few))
-
-  pub few-without-session : (s : Session) → Few (withoutSession t s)
-  unfolding withoutSession
-  few-without-session s =
-      few-of (reject (isActiveIn s) (standing t)) (omega (arith, length-reject (isActiveIn s) (standing t), few))
-
-pub few-empty : Few (tableOf [])
-few-empty = few-of [] (omega arith)

@@ -26,7 +26,7 @@ use Rattle.table.specs.declared.Among.{Among}
 use Rattle.table.specs.declared.Among.the-variants.{All, Of, SavedOf}
 use Rattle.table.specs.declared.Process.{Process}
 use Rattle.table.specs.declared.Table.{Table}
-use Rattle.table.specs.Table.{standing, size, freePlace, tableOf, processAt, isUser, isElevation, isSaved, isActive, isActiveIn, isAmong, isNamed}
+use Rattle.table.specs.Table.{places, standing, size, freePlace, tableOf, processAt, isUser, isElevation, isSaved, isActive, isActiveIn, isAmong, isNamed}
 use Rattle.table.proofs.Laws.{standing-front, size-few}
 
 -- what the logic reads past the end of an array of processes: no code makes one
@@ -34,16 +34,16 @@ abbrev pub noProcess : Process
 noProcess = record { credential = record { 0 = 0 }; kind = User; session = record { 0 = 0 }; next = 0; name = record { bytes = [] } }
 
 -- ---- the size
-module _ (t : Table) (h : length (t .places) ≡ 12) where
-  pub size-part : t .count < 12 → t .count ≡ size t
+module _ (t : Table) (h : length (t .places) ≡ places) where
+  pub size-part : t .count < places → t .count ≡ size t
   unfolding standing size
   size-part k = sym (length-take-le (t .count) (t .places) (omega arith))
 
-  pub size-all : 12 ≤ t .count → 12 ≡ size t
+  pub size-all : places ≤ t .count → places ≡ size t
   unfolding standing size
   size-all k = sym (ap length (take-all (t .count) (t .places) (omega arith)) ∙ h)
 
-pub empty-is : {z : Process} → z ≡ freePlace → _≡_ {A = Table} (record { places = replicate 12 z; count = 0 }) (tableOf [])
+pub empty-is : {z : Process} → z ≡ freePlace → _≡_ {A = Table} (record { places = replicate places z; count = 0 }) (tableOf [])
 unfolding tableOf padded
 empty-is e = rw e
 
@@ -117,13 +117,13 @@ module _ (t : Table) {n : ℕ} (e : n ≡ size t) where
   unfolding size
   front = ap (λ (m : ℕ). take m (t .places)) e ∙ standing-front t
 
-  pub small : length (t .places) ≡ 12 → n ≤ 12
+  pub small : length (t .places) ≡ places → n ≤ places
   small h = omega (arith, size-few t h)
 
 -- ---- the process at a place
 module _ (t : Table) {n at : ℕ} (e : n ≡ size t) where
-  module _ (k : at < n) (h : length (t .places) ≡ 12) where
-    pub place-low : at < 12
+  module _ (k : at < n) (h : length (t .places) ≡ places) where
+    pub place-low : at < places
     place-low = omega (arith, small t e h)
 
     -- a process has 54 bytes, by which an index is scaled

@@ -11,7 +11,7 @@ use Rattle.lists.specs.Lists.{any, firstIndex}
 use Rattle.lists.proofs.Lists.{first-low, first-passes, none-before, any-inside, any-past}
 use Rattle.lists.proofs.Tests.{below, clash, and-left, and-right}
 use Rattle.names.specs.Names.{sameName}
-use Rattle.names.proofs.Laws.{same→name, name→same}
+use Rattle.names.proofs.Laws.{same→name}
 use Rattle.names.specs.declared.Credential.{Credential}
 use Rattle.names.specs.declared.Kind.{Kind}
 use Rattle.names.specs.declared.Kind.the-variants.{User, Elevation, Saved}
@@ -19,7 +19,7 @@ use Rattle.names.specs.declared.Name.{Name}
 use Rattle.names.specs.declared.Session.{Session}
 use Rattle.table.specs.declared.Active.the-variants.{UserOf, ElevationIn}
 use Rattle.table.specs.declared.Among.{Among}
-use Rattle.table.specs.declared.Among.the-variants.{Of, SavedOf}
+use Rattle.table.specs.declared.Among.the-variants.{SavedOf}
 use Rattle.table.specs.declared.Found.the-variants.{At, Nothing}
 use Rattle.table.specs.declared.Process.{Process}
 use Rattle.table.specs.Table.{isUser, isElevation, isSaved, isIn, isOf, isActive, isAmong, isNamed, foundPlace, firstPlace}
@@ -156,14 +156,6 @@ module _ (p : Process) where
   pub named-among : (name : Name) (among : Among) → isNamed name among p ≡ true → isAmong among p ≡ true
   unfolding isNamed
   named-among name among e = and-left (isAmong among p) (sameName (p .name) name) e
-
-  pub among-named : (name : Name) (among : Among) → isAmong among p ≡ true → p .name ≡ name → isNamed name among p ≡ true
-  unfolding isNamed
-  among-named name among e q = rw (e, name→same (p .name) name q)
-
-  pub of-among : (c : Credential) → isAmong (Of c) p ≡ true → p .credential ≡ c
-  unfolding isAmong
-  of-among c e = is-of c e
 
   pub record IsSavedOf (c : Credential) : Type 0 where
     pub kind : p .kind ≡ Saved

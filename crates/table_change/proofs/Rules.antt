@@ -15,20 +15,20 @@ use Rattle.lists.proofs.Lists.{length-mapped}
 use Rattle.lists.proofs.Loops.{Cleared, cleared-none, cleared-more, cleared-all}
 use Rattle.table.specs.declared.Process.{Process}
 use Rattle.table.specs.declared.Table.{Table}
-use Rattle.table.specs.Table.{standing, size, freePlace, tableOf, appended, replaced}
+use Rattle.table.specs.Table.{places, standing, size, freePlace, tableOf, appended, replaced}
 use Rattle.table.proofs.Laws.{standing-few}
 use Rattle.table.proofs.Rules.{front, small}
 
 -- ---- the free places cleared
-pub clear : (t : Table) {n : ℕ} → n ≡ size t → length (t .places) ≡ 12 → Cleared (t .places) n freePlace (t .places) n
-clear t {n} e h = let k : n ≤ 12 = small t e h in cleared-none (t .places) n freePlace (omega arith)
+pub clear : (t : Table) {n : ℕ} → n ≡ size t → length (t .places) ≡ places → Cleared (t .places) n freePlace (t .places) n
+clear t {n} e h = let k : n ≤ places = small t e h in cleared-none (t .places) n freePlace (omega arith)
 
 pub clear-on : {l₀ : List Process} {n : ℕ} {l : List Process} {i : ℕ} {z : Process}
-    → Cleared l₀ n freePlace l i → length l₀ ≡ 12 → i < 12 → z ≡ freePlace → Cleared l₀ n freePlace (set l i z) (i + 1)
+    → Cleared l₀ n freePlace l i → length l₀ ≡ places → i < places → z ≡ freePlace → Cleared l₀ n freePlace (set l i z) (i + 1)
 clear-on v h k e = rw e (cleared-more v (omega arith))
 
 pub clear-all : (t : Table) {n : ℕ} {l : List Process} {i : ℕ}
-    → n ≡ size t → Cleared (t .places) n freePlace l i → length (t .places) ≡ 12 → 12 ≤ i → _≡_ {A = Table} (record { places = l; count = n }) (tableOf (standing t))
+    → n ≡ size t → Cleared (t .places) n freePlace l i → length (t .places) ≡ places → places ≤ i → _≡_ {A = Table} (record { places = l; count = n }) (tableOf (standing t))
 unfolding tableOf size
 clear-all t {n} {l} v w h k =
     let e : l ≡ padded (length (t .places)) freePlace (take n (t .places)) = cleared-all w (omega arith) in
@@ -43,36 +43,36 @@ module _ (l : List Process) {u : Table} (p : Process) (e : u ≡ tableOf l) wher
   unfolding tableOf
   counted = ap (λ (x : Table). x .count) e
 
-  placed : u .places ≡ padded 12 freePlace l
+  placed : u .places ≡ padded places freePlace l
   unfolding tableOf
   placed = ap (λ (x : Table). x .places) e
 
-  one-more : u .count < 12 → _≡_ {A = Table} (record { places = set (u .places) (u .count) p; count = u .count + 1 }) (tableOf (l ++ (p ∷ [])))
+  one-more : u .count < places → _≡_ {A = Table} (record { places = set (u .places) (u .count) p; count = u .count + 1 }) (tableOf (l ++ (p ∷ [])))
   unfolding tableOf padded
   one-more k =
       let m : length (l ++ (p ∷ [])) ≡ length l + 1 = length-append l (p ∷ []) in
-      let r : 12 - length l ≡ suc (12 - (length l + 1)) = omega (arith, counted) in
+      let r : places - length l ≡ suc (places - (length l + 1)) = omega (arith, counted) in
       rw (placed, counted, m, r, append-snoc) (ap (λ (x : List Process). tableWith x (length l + 1)) (set-append-seam l freePlace _ p))
 
   one-other : (at : ℕ) → at < u .count → _≡_ {A = Table} (record { places = set (u .places) at p; count = u .count }) (tableOf (set l at p))
   unfolding tableOf padded
-  one-other at k = rw (placed, counted, length-set, set-append-left l (replicate (12 - length l) freePlace) at p (omega (arith, counted)))
+  one-other at k = rw (placed, counted, length-set, set-append-left l (replicate (places - length l) freePlace) at p (omega (arith, counted)))
 
 module _ (t : Table) (p : Process) {u : Table} (e : u ≡ tableOf (standing t)) where
-  pub append-room : u .count < 12 → _≡_ {A = Table} (record { places = set (u .places) (u .count) p; count = u .count + 1 }) (appended t p)
+  pub append-room : u .count < places → _≡_ {A = Table} (record { places = set (u .places) (u .count) p; count = u .count + 1 }) (appended t p)
   unfolding appended size
-  append-room k = one-more (standing t) p e k ∙ rw (lt-ltb (length (standing t)) 12 (omega (arith, counted (standing t) p e)))
+  append-room k = one-more (standing t) p e k ∙ rw (lt-ltb (length (standing t)) places (omega (arith, counted (standing t) p e)))
 
-  pub append-full : 12 ≤ u .count → u ≡ appended t p
+  pub append-full : places ≤ u .count → u ≡ appended t p
   unfolding appended size
-  append-full k = e ∙ rw (le-ltb (length (standing t)) 12 (omega (arith, counted (standing t) p e)))
+  append-full k = e ∙ rw (le-ltb (length (standing t)) places (omega (arith, counted (standing t) p e)))
 
   pub replace-in : {at : ℕ} → at < u .count → _≡_ {A = Table} (record { places = set (u .places) at p; count = u .count }) (replaced t at p)
   unfolding replaced
   replace-in {at} k = one-other (standing t) p e at k
 
-  module _ {at : ℕ} (k : at < u .count) (h : length (t .places) ≡ 12) where
-    pub standing-low : at < 12
+  module _ {at : ℕ} (k : at < u .count) (h : length (t .places) ≡ places) where
+    pub standing-low : at < places
     standing-low = omega (arith, counted (standing t) p e, standing-few t h)
 
     pub standing-fits : Fits w64 (at * 54)

@@ -32,19 +32,19 @@ pub fn without_session(t: Table, s: Session) -> Table
 {
     let n = table::size(t);
     let places = t.places;
-    let mut kept = [table::free_place(); PLACES];
+    let mut out = [table::free_place(); PLACES];
     let mut k: usize = 0;
     let mut i: usize = 0;
     while i < n {
         let p = places[i];
         if !table::is_active_in(p, s) {
-            kept[k] = p;
+            out[k] = p;
             k += 1;
         }
         i += 1;
     }
     Table {
-        places: kept,
+        places: out,
         count: k,
     }
 }

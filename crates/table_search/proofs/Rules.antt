@@ -16,17 +16,17 @@ use Rattle.table.specs.declared.Among.{Among}
 use Rattle.table.specs.declared.Found.the-variants.{At, Nothing}
 use Rattle.table.specs.declared.Process.{Process}
 use Rattle.table.specs.declared.Table.{Table}
-use Rattle.table.specs.Table.{standing, size, isAmong, firstPlace, countAmong}
+use Rattle.table.specs.Table.{places, standing, size, isAmong, firstPlace, countAmong}
 use Rattle.table.proofs.Rules.{noProcess, front, small}
 
 -- ---- a search: it begins, goes on, stops at a hit, and ends with none
 pub record Searching (f : Process → Bool) (l : List Process) (n i : ℕ) : Type 0 where
-  pub small : n ≤ 12
+  pub small : n ≤ places
   pub passed : Passed f l n i
 
-pub begin : (f : Process → Bool) (t : Table) {n : ℕ} → n ≡ size t → length (t .places) ≡ 12 → Searching f (t .places) n 0
+pub begin : (f : Process → Bool) (t : Table) {n : ℕ} → n ≡ size t → length (t .places) ≡ places → Searching f (t .places) n 0
 begin f t {n} e h =
-    let k : n ≤ 12 = small t e h in
+    let k : n ≤ places = small t e h in
     record { small = k; passed = passed-none f (t .places) n (omega arith) }
 
 pub on : {f : Process → Bool} {l : List Process} {n i : ℕ} {b : Bool} → Searching f l n i → i < n → b ≡ f (getD l i noProcess) → b ≡ false → Searching f l n (i + 1)
@@ -46,12 +46,12 @@ module _ {f : Process → Bool} (t : Table) {n i : ℕ} (e : n ≡ size t) (v : 
 
 -- ---- those counted that are among some
 pub record Counting (f : Process → Bool) (l : List Process) (n k i : ℕ) : Type 0 where
-  pub small : n ≤ 12
+  pub small : n ≤ places
   pub counted : Counted f l n k i
 
-pub count-begin : (f : Process → Bool) (t : Table) {n : ℕ} → n ≡ size t → length (t .places) ≡ 12 → Counting f (t .places) n 0 0
+pub count-begin : (f : Process → Bool) (t : Table) {n : ℕ} → n ≡ size t → length (t .places) ≡ places → Counting f (t .places) n 0 0
 count-begin f t {n} e h =
-    let k : n ≤ 12 = small t e h in
+    let k : n ≤ places = small t e h in
     record { small = k; counted = counted-none f (t .places) n (omega arith) }
 
 module _ {f : Process → Bool} {l : List Process} {n k k′ i : ℕ} {b : Bool} (v : Counting f l n k i) (h : i < n) (e : b ≡ f (getD l i noProcess)) where

@@ -1,4 +1,5 @@
 use Prim.Native.Nat.{_-_}
+use Rattle.names.specs.Names.{nameLength}
 use Rattle.names.proofs.Rules.{Compared, rules}
 use Rattle.names.proofs.differences.Statement.{statement}
 use Rattle.names.proofs.differences.Tie as tie
@@ -7,7 +8,7 @@ abbrev Inv-loop : tie.InvT-loop
 Inv-loop x y d₀ at₀ d at = Compared x y d at
 
 abbrev μ-loop : tie.MeasureT-loop
-μ-loop x y d₀ at₀ d at = 48 - at
+μ-loop x y d₀ at₀ d at = nameLength - at
 
 loop-holds : tie.Need-loop-holds Inv-loop μ-loop
 loop-holds c = search rules

@@ -1,4 +1,5 @@
 use Prim.Native.Nat.{_-_}
+use Rattle.names.specs.Names.{nameLength}
 use Rattle.names.proofs.Rules.{StirredTo, rules}
 use Rattle.names.proofs.digest.Statement.{statement}
 use Rattle.names.proofs.digest.Tie as tie
@@ -7,7 +8,7 @@ abbrev Inv-loop : tie.InvT-loop
 Inv-loop bytes d₀ from₀ d from = StirredTo bytes d from
 
 abbrev μ-loop : tie.MeasureT-loop
-μ-loop bytes d₀ from₀ d from = 48 - from
+μ-loop bytes d₀ from₀ d from = nameLength - from
 
 loop-holds : tie.Need-loop-holds Inv-loop μ-loop
 loop-holds c = search rules

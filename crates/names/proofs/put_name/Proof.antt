@@ -1,5 +1,6 @@
 use Rattle.lists.proofs.Loops.{Copied}
 use Prim.Native.Nat.{_-_}
+use Rattle.names.specs.Names.{nameLength}
 use Rattle.names.proofs.Rules.{rules}
 use Rattle.names.proofs.put_name.Statement.{statement}
 use Rattle.names.proofs.put_name.Tie as tie
@@ -8,7 +9,7 @@ abbrev Inv-loop : tie.InvT-loop
 Inv-loop part₀ bytes i₀ part i = Copied bytes part₀ part i
 
 abbrev μ-loop : tie.MeasureT-loop
-μ-loop part₀ bytes i₀ part i = 48 - i
+μ-loop part₀ bytes i₀ part i = nameLength - i
 
 loop-holds : tie.Need-loop-holds Inv-loop μ-loop
 loop-holds c = search rules

@@ -1,5 +1,6 @@
 use Rattle.lists.proofs.Loops.{Copied}
 use Prim.Native.Nat.{_-_}
+use Rattle.names.specs.Names.{nameLength}
 use Rattle.names.proofs.Rules.{rules}
 use Rattle.names.proofs.read_name.Statement.{statement}
 use Rattle.names.proofs.read_name.Tie as tie
@@ -8,7 +9,7 @@ abbrev Inv-loop : tie.InvT-loop
 Inv-loop bytes read₀ i₀ read i = Copied bytes read₀ read i
 
 abbrev μ-loop : tie.MeasureT-loop
-μ-loop bytes read₀ i₀ read i = 48 - i
+μ-loop bytes read₀ i₀ read i = nameLength - i
 
 returns : tie.Need-returns Inv-loop μ-loop
 returns c = search rules

@@ -8,11 +8,11 @@ shared-slice-read-wide16 c = search rules
 wide16-requires : tie.Need-wide16-requires
 wide16-requires c κs = search rules
 
-shared-slice-read-kind-from : tie.Need-shared-slice-read-kind-from
-shared-slice-read-kind-from c = search rules
+shared-slice-read-kind-numbered : tie.Need-shared-slice-read-kind-numbered
+shared-slice-read-kind-numbered c = search rules
 
-kind-from-requires : tie.Need-kind-from-requires
-kind-from-requires c κs = search rules
+kind-numbered-requires : tie.Need-kind-numbered-requires
+kind-numbered-requires c κs = search rules
 
 shared-slice-read-session : tie.Need-shared-slice-read-session
 shared-slice-read-session c = search rules
@@ -41,8 +41,8 @@ process-of-spec =
     (tie.spec
     shared-slice-read-wide16
     wide16-requires
-    shared-slice-read-kind-from
-    kind-from-requires
+    shared-slice-read-kind-numbered
+    kind-numbered-requires
     shared-slice-read-session
     number16-requires
     sub-read-name

@@ -2,8 +2,8 @@ use Rattle.state_test.proofs.Rules.{rules}
 use Rattle.state_test.proofs.all_apart.Statement.{statement}
 use Rattle.state_test.proofs.all_apart.Tie as tie
 
-seats-meet-requires : tie.Need-seats-meet-requires
-seats-meet-requires c κs = search rules
+keys-meet-requires : tie.Need-keys-meet-requires
+keys-meet-requires c κs = search rules
 
 digests-meet-requires : tie.Need-digests-meet-requires
 digests-meet-requires c κs = search rules
@@ -20,4 +20,4 @@ returns-2 c = search rules
 pub all-apart-spec : {M : Type 1} → statement M
 all-apart-spec =
     tie.close
-    (tie.spec seats-meet-requires digests-meet-requires returns every-apart-requires returns-2)
+    (tie.spec keys-meet-requires digests-meet-requires returns every-apart-requires returns-2)

@@ -11,8 +11,8 @@ byte-of-requires c κs = search rules
 slice-write-part : tie.Need-slice-write-part
 slice-write-part c = search rules
 
-kind-byte-requires : tie.Need-kind-byte-requires
-kind-byte-requires c κs = search rules
+kind-number-requires : tie.Need-kind-number-requires
+kind-number-requires c κs = search rules
 
 slice-write-part-2 : tie.Need-slice-write-part-2
 slice-write-part-2 c = search rules
@@ -48,7 +48,7 @@ put-process-spec =
     cast-byte-of
     byte-of-requires
     slice-write-part
-    kind-byte-requires
+    kind-number-requires
     slice-write-part-2
     slice-write-part-3
     put-number16-requires

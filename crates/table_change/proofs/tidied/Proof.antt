@@ -1,15 +1,15 @@
 use Rattle.lists.proofs.Loops.{Cleared}
-use Rattle.table.specs.Table.{freePlace}
+use Rattle.table.specs.Table.{places, freePlace}
 use Prim.Native.Nat.{_-_}
 use Rattle.table_change.proofs.Rules.{rules}
 use Rattle.table_change.proofs.tidied.Statement.{statement}
 use Rattle.table_change.proofs.tidied.Tie as tie
 
 abbrev Inv-loop : tie.InvT-loop
-Inv-loop n places₀ i₀ places i = Cleared places₀ n freePlace places i
+Inv-loop n l₀ i₀ l i = Cleared l₀ n freePlace l i
 
 abbrev μ-loop : tie.MeasureT-loop
-μ-loop n places₀ i₀ places i = 12 - i
+μ-loop n l₀ i₀ l i = places - i
 
 size-requires : tie.Need-size-requires Inv-loop μ-loop
 size-requires c κs = search rules

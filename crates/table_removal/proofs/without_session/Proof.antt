@@ -1,5 +1,5 @@
-use Rattle.lists.proofs.Loops.{Kept}
-use Rattle.table.specs.Table.{isActiveIn, freePlace}
+use Rattle.lists.proofs.Loops.{Sifted}
+use Rattle.table.specs.Table.{places, isActiveIn, freePlace}
 use Prim.Native.Nat.{_-_}
 use mathlib.Core.Logic.{⊎-elim}
 use Rattle.table_removal.proofs.Rules.{rules}
@@ -7,10 +7,10 @@ use Rattle.table_removal.proofs.without_session.Statement.{statement}
 use Rattle.table_removal.proofs.without_session.Tie as tie
 
 abbrev Inv-loop : tie.InvT-loop
-Inv-loop s n places kept₀ k₀ i₀ kept k i = Kept (isActiveIn s) places n 12 freePlace kept k i
+Inv-loop s n l out₀ k₀ i₀ out k i = Sifted (isActiveIn s) l n places freePlace out k i
 
 abbrev μ-loop : tie.MeasureT-loop
-μ-loop s n places kept₀ k₀ i₀ kept k i = n - i
+μ-loop s n l out₀ k₀ i₀ out k i = n - i
 
 size-requires : tie.Need-size-requires Inv-loop μ-loop
 size-requires c κs = search rules
@@ -30,11 +30,11 @@ array-copy-out-p c = search rules
 is-active-in-requires : tie.Need-is-active-in-requires Inv-loop μ-loop
 is-active-in-requires c κs = search rules
 
-mul-kept : tie.Need-mul-kept Inv-loop μ-loop
-mul-kept c = search rules
+mul-out : tie.Need-mul-out Inv-loop μ-loop
+mul-out c = search rules
 
-array-set-from-kept : tie.Need-array-set-from-kept Inv-loop μ-loop
-array-set-from-kept c = search rules
+array-set-from-out : tie.Need-array-set-from-out Inv-loop μ-loop
+array-set-from-out c = search rules
 
 add-k : tie.Need-add-k Inv-loop μ-loop
 add-k c = search rules
@@ -63,8 +63,8 @@ without-session-spec =
     mul-p
     array-copy-out-p
     is-active-in-requires
-    mul-kept
-    array-set-from-kept
+    mul-out
+    array-set-from-out
     add-k
     add-i
     loop-less

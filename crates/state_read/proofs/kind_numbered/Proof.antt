@@ -1,0 +1,15 @@
+use Rattle.state_read.proofs.Rules.{rules}
+use Rattle.state_read.proofs.kind_numbered.Statement.{statement}
+use Rattle.state_read.proofs.kind_numbered.Tie as tie
+
+returns : tie.Need-returns
+returns c = search rules
+
+returns-2 : tie.Need-returns-2
+returns-2 c = search rules
+
+returns-3 : tie.Need-returns-3
+returns-3 c = search rules
+
+pub kind-numbered-spec : {M : Type 1} → statement M
+kind-numbered-spec = tie.close (tie.spec returns returns-2 returns-3)

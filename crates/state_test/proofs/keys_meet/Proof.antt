@@ -1,0 +1,76 @@
+use Rattle.state_test.proofs.Rules.{KeysTo, rules}
+use Rattle.state_test.proofs.keys_meet.Statement.{statement}
+use Rattle.state_test.proofs.keys_meet.Tie as tie
+
+abbrev Inv-loop : tie.InvT-loop
+Inv-loop s n met₀ taken₀ left₀ met taken left = KeysTo s n met taken left
+
+abbrev μ-loop : tie.MeasureT-loop
+μ-loop s n met₀ taken₀ left₀ met taken left = left
+
+loop-holds : tie.Need-loop-holds Inv-loop μ-loop
+loop-holds c = search rules
+
+sub-i : tie.Need-sub-i Inv-loop μ-loop
+sub-i c = search rules
+
+mul-a : tie.Need-mul-a Inv-loop μ-loop
+mul-a c = search rules
+
+add-a : tie.Need-add-a Inv-loop μ-loop
+add-a c = search rules
+
+add-e : tie.Need-add-e Inv-loop μ-loop
+add-e c = search rules
+
+sub-key-of : tie.Need-sub-key-of Inv-loop μ-loop
+sub-key-of c = search rules
+
+part-key-of-start : tie.Need-part-key-of-start Inv-loop μ-loop
+part-key-of-start c = search rules
+
+part-key-of-end : tie.Need-part-key-of-end Inv-loop μ-loop
+part-key-of-end c = search rules
+
+key-of-requires : tie.Need-key-of-requires Inv-loop μ-loop
+key-of-requires c κs = search rules
+
+array-read-met : tie.Need-array-read-met Inv-loop μ-loop
+array-read-met c = search rules
+
+array-write-taken : tie.Need-array-write-taken Inv-loop μ-loop
+array-write-taken c = search rules
+
+array-write-taken-2 : tie.Need-array-write-taken-2 Inv-loop μ-loop
+array-write-taken-2 c = search rules
+
+loop-less : tie.Need-loop-less Inv-loop μ-loop
+loop-less c = search rules
+
+loop-again : tie.Need-loop-again Inv-loop μ-loop
+loop-again c = search rules
+
+returns : tie.Need-returns Inv-loop μ-loop
+returns c = search rules
+
+pub keys-meet-spec : {M : Type 1} → statement M
+keys-meet-spec =
+    tie.close
+    (tie.spec
+    Inv-loop
+    μ-loop
+    loop-holds
+    sub-i
+    mul-a
+    add-a
+    add-e
+    sub-key-of
+    part-key-of-start
+    part-key-of-end
+    key-of-requires
+    array-read-met
+    array-write-taken
+    array-write-taken-2
+    loop-less
+    loop-again
+    returns)
