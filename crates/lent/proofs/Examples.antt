@@ -39,7 +39,7 @@ use Rattle.resumed.specs.Changes.{hasSaved, touchesImage, changesImage, newest}
 use Rattle.resumed.proofs.Examples.{opened, image, examples, grants, saving, others, resuming, kept-between}
 use Rattle.entries_image.specs.Entries.{imageNumber, ImageEntry, restoreNumber, RestoreEntry}
 use Rattle.lent.specs.Lent.{Slices, Response, Made, Called, Listed, Renewed, Restored, Entered, called, renewed, restored, Chain, none, then, Since, begun, since}
-use Rattle.lent.specs.Hosted.{Happening, Enters, PowerCycle, Hosted, none, kept, written, cycled, sinceAll}
+use Rattle.lent.specs.Hosted.{Happening, Enters, PowerCycle, Hosted, none, unwritten, written, cycled, sinceAll}
 use Rattle.lent.proofs.Images.{image-written}
 use Rattle.lent.proofs.Theorems.{held, back, fine-number, fine-bytes}
 
@@ -170,7 +170,7 @@ host st v (s ∷ steps) (each-cons f fits) e {image} {end} {last} {rest} k =
     in
     split (changesImage st (s .call) (number st (s .call)))
     (λ c. written entered (image-on next is) (subst (λ l. Hosted (lent next) l (map entering steps ++ rest) last end) (sym (image-there next is)) (go true c)))
-    (λ c. kept entered (rw (back st v, ← number-is) c) (go false c))
+    (λ c. unwritten entered (rw (back st v, ← number-is) c) (go false c))
 
 -- P is started, counts a record and one that is refused after its claim, and is saved, which is written. Other calls change nothing of that; the power goes; a module is
 -- made from it in whatever slice of that length, and P goes on: 2 is refused with 9, and 3 is accepted

@@ -28,7 +28,7 @@ use Rattle.resumed.specs.Changes.{changesImage}
 use Rattle.resumed.proofs.Changes.{image-kept}
 use Rattle.entries_image.specs.Entries.{ImageEntry, RestoreEntry}
 use Rattle.lent.specs.Lent.{Slices, Made, Entered, called, list-called, renewed, restored, Since, begun, reached, noting, Holds, cycledSince}
-use Rattle.lent.specs.Hosted.{entryChanges, Happening, Hosted, none, kept, written, cycled, sinceAll, IsNewest}
+use Rattle.lent.specs.Hosted.{entryChanges, Happening, Hosted, none, unwritten, written, cycled, sinceAll, IsNewest}
 use Rattle.lent.proofs.Images.{restore-refused, image-written, image-of, restored-image}
 use Rattle.lent.proofs.Theorems.{not-fine-bytes, Goes, goes-is, goes-state, made-number, made-bytes, goes-holds, goes-restored-done, goes-on, goes-fresh, goes-again}
 
@@ -60,7 +60,7 @@ unfolding sinceAll
 newest-by {b} w g is none =
     let h : Holds w b = goes-holds w b g in
     record { holds = h; bytes = is; image = image-of w {last = b} (goes-state w b g) h is }
-newest-by w g is (kept {entry = entry} e h k) = newest-by (noting entry w) (goes-on w g e) (is ∙ sym (entry-keeps w g e h)) k
+newest-by w g is (unwritten {entry = entry} e h k) = newest-by (noting entry w) (goes-on w g e) (is ∙ sym (entry-keeps w g e h)) k
 newest-by w g is (written {after = after} {entry = entry} e i k) =
     let on : Goes (noting entry w) after = goes-on w g e in
     newest-by (noting entry w) on (image-written i (goes-state (noting entry w) after on)) k

@@ -46,9 +46,9 @@ module _ (b : List ℕ) (g : Bytes b) (h : holdsState b ≡ true) where
   same = one-form b h g
 
   -- where nothing is counted
-  kept-left : (call : Call) → refusedAfter st call ≡ false → stateBytes (left st call) ≡ b
+  unspent-left : (call : Call) → refusedAfter st call ≡ false → stateBytes (left st call) ≡ b
   unfolding left
-  kept-left call r = rw r same
+  unspent-left call r = rw r same
 
   unclaimed-charged : (w : Protection) → ((s : Session) (u : UserClaim) → w ≢ Under s (ByUser u)) → stateBytes (charged st w) ≡ b
   unfolding charged counted
@@ -113,7 +113,7 @@ module _ {fine : Bool} {before : List ℕ} {call : Call} {n : ℕ} {after : List
   entry-refused =
       record {
         unmade = unmade;
-        kept = λ r. by-made (λ m. made m ∙ kept-left before g (holds m) call r) unmade;
+        unspent = λ r. by-made (λ m. made m ∙ unspent-left before g (holds m) call r) unmade;
         unclaimed = λ w. by-made (λ m. made m ∙ unclaimed-left before g (holds m) call w) unmade;
         spent = λ s u p m r. rw (made m) (spent-left before g (holds m) call s u p r);
       }

@@ -31,7 +31,7 @@ pub data Happening : Type 0 where
 pub data Hosted : Slices → List ℕ → List Happening → Slices → List ℕ → Type 0 where
   none : {slices : Slices} {image : List ℕ} → Hosted slices image [] slices image
   -- an entry that leaves the image as it was: none is written
-  kept : {before after last : Slices} {image newest : List ℕ} {entry : Made} {happenings : List Happening}
+  unwritten : {before after last : Slices} {image newest : List ℕ} {entry : Made} {happenings : List Happening}
       → Entered before entry after → entryChanges before entry ≡ false
       → Hosted after image happenings last newest
       → Hosted before image (Enters entry ∷ happenings) last newest

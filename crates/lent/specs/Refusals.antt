@@ -26,7 +26,7 @@ pub record Refused (fine : Bool) (before : List ℕ) (call : Call) (after : List
   -- no call was made: for its flags or lengths, or because the slice holds no state
   pub unmade : isMade fine before ≡ false → after ≡ before
   -- refused ahead of its claim or by its claim; and any call that is not under a user claim
-  pub kept : refusedAfter (stateOf before) call ≡ false → after ≡ before
+  pub unspent : refusedAfter (stateOf before) call ≡ false → after ≡ before
   pub unclaimed : ((s : Session) (u : UserClaim) → protection call ≢ Under s (ByUser u)) → after ≡ before
   -- refused after its claim, a user's: the next number of the claim's process
   pub spent : (s : Session) (u : UserClaim) → protection call ≡ Under s (ByUser u) → isMade fine before ≡ true → refusedAfter (stateOf before) call ≡ true
