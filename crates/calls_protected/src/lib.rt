@@ -18,6 +18,7 @@ use claims::State;
 use names::Credential;
 use names::Name;
 use table::Among;
+use table::Found;
 
 // ---- end
 
@@ -76,6 +77,16 @@ pub fn reach(by: Admission) -> Among
     Among::Of(c)
 }
 
+fn has_named(st: State, name: Name, among: Among) -> bool
+    ensures { λ r. ⌜ r ≡ hasNamed st name among ⌝ }
+{
+    let t = st.table;
+    match table_search::find_named(t, name, among) {
+        Found::At(_) => true,
+        Found::Nothing => false,
+    }
+}
+
 pub fn kill_number(st: State, by: Admission, name: Name) -> u8
     ensures { λ r. ⌜ r ≡ by .number ▸ No.noProcess unless hasNamed st name (reachBy (by .word) (by .credential)) ⌝ }
 {
@@ -83,7 +94,7 @@ pub fn kill_number(st: State, by: Admission, name: Name) -> u8
         return by.number;
     }
     let among = reach(by);
-    if !calls_table::has_named(st, name, among) {
+    if !has_named(st, name, among) {
         return NO_PROCESS; // to a stranger's name too, so that nobody learns that it exists
     }
     DONE

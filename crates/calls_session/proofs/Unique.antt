@@ -2,18 +2,18 @@
 -- Assumes nothing.
 use mathlib.Core.Path.{sym, _∙_}
 use Rattle.lists.proofs.Once.{OneAnswer}
-use Rattle.calls_session.proofs.open_number.Kinds as open-number-kinds
-use Rattle.calls_session.proofs.open_number.Reads as open-number
-use Rattle.calls_session.proofs.close_number.Kinds as close-number-kinds
-use Rattle.calls_session.proofs.close_number.Reads as close-number
-use Rattle.calls_session.proofs.select_number.Kinds as select-number-kinds
-use Rattle.calls_session.proofs.select_number.Reads as select-number
+use Rattle.calls_session.proofs.open_session.Kinds as open-session-kinds
+use Rattle.calls_session.proofs.open_session.Reads as open-session
+use Rattle.calls_session.proofs.close_session.Kinds as close-session-kinds
+use Rattle.calls_session.proofs.close_session.Reads as close-session
+use Rattle.calls_session.proofs.select_version.Kinds as select-version-kinds
+use Rattle.calls_session.proofs.select_version.Reads as select-version
 
-pub open-number-once : OneAnswer 0 open-number-kinds.ps open-number-kinds.r open-number.Post
-open-number-once κs a x y s t p q = p ∙ sym q
+pub open-session-once : OneAnswer 0 open-session-kinds.ps open-session-kinds.r open-session.Post
+open-session-once κs a x y s t p q = p ∙ sym q
 
-pub close-number-once : OneAnswer 0 close-number-kinds.ps close-number-kinds.r close-number.Post
-close-number-once κs a x y s t p q = p ∙ sym q
+pub close-session-once : OneAnswer 0 close-session-kinds.ps close-session-kinds.r close-session.Post
+close-session-once κs a x y s t p q = p ∙ sym q
 
-pub select-number-once : OneAnswer 0 select-number-kinds.ps select-number-kinds.r select-number.Post
-select-number-once κs a x y s t p q = p ∙ sym q
+pub select-version-once : OneAnswer 0 select-version-kinds.ps select-version-kinds.r select-version.Post
+select-version-once κs a x y s t p q = p ∙ sym q

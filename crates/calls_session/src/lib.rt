@@ -1,14 +1,18 @@
-// What open, close and select ask of a session: their tests in their order, and the number that each answers.
+// Open, close and select: state in by value, answer and state out by value. Each asks its tests, in their order, for the number, and does what it does where that is 0.
 ghost use mathlib.Core.Path.{_≡_};
-ghost use Rattle.calls.specs.Calls.{Open, Close, Select, isVersion, number};
+ghost use Rattle.calls.specs.Calls.{Open, Close, Select, isVersion, number, outcome};
+use calls::Outcome;
 use claims::ARGUMENT;
 use claims::DONE;
+use claims::Phase;
 use claims::SESSION;
 use claims::State;
 use claims::VERSION;
 use names::Session;
 
-pub fn open_number(st: State, s: Session) -> u8
+// ---- open
+
+fn open_number(st: State, s: Session) -> u8
     ensures { λ r. ⌜ r ≡ number st (Open s) ⌝ }
 {
     if !claims::is_handle(s) {
@@ -20,7 +24,19 @@ pub fn open_number(st: State, s: Session) -> u8
     DONE
 }
 
-pub fn close_number(st: State, s: Session) -> u8
+pub fn open_session(st: State, s: Session) -> Outcome
+    ensures { λ r. ⌜ r ≡ outcome st (Open s) ⌝ }
+{
+    let n = open_number(st, s);
+    if n != DONE {
+        return effects::refused(st, n);
+    }
+    effects::accepted(effects::with_phase(st, s, Phase::Opened))
+}
+
+// ---- close
+
+fn close_number(st: State, s: Session) -> u8
     ensures { λ r. ⌜ r ≡ number st (Close s) ⌝ }
 {
     if !claims::is_handle(s) {
@@ -32,13 +48,27 @@ pub fn close_number(st: State, s: Session) -> u8
     DONE
 }
 
+pub fn close_session(st: State, s: Session) -> Outcome
+    ensures { λ r. ⌜ r ≡ outcome st (Close s) ⌝ }
+{
+    let n = close_number(st, s);
+    if n != DONE {
+        return effects::refused(st, n);
+    }
+    let t = st.table;
+    let left = effects::with_table(st, table_removal::without_session(t, s));
+    effects::accepted(effects::with_phase(left, s, Phase::Closed))
+}
+
+// ---- select
+
 fn is_version(byte: u8) -> bool
     ensures { λ r. ⌜ r ≡ isVersion byte ⌝ }
 {
     byte == 0x10
 }
 
-pub fn select_number(st: State, s: Session, byte: u8) -> u8
+fn select_number(st: State, s: Session, byte: u8) -> u8
     ensures { λ r. ⌜ r ≡ number st (Select s byte) ⌝ }
 {
     if !claims::is_handle(s) {
@@ -51,4 +81,15 @@ pub fn select_number(st: State, s: Session, byte: u8) -> u8
         return VERSION;
     }
     DONE
+}
+
+// Choosing 0x10 a second time is done, and changes nothing.
+pub fn select_version(st: State, s: Session, byte: u8) -> Outcome
+    ensures { λ r. ⌜ r ≡ outcome st (Select s byte) ⌝ }
+{
+    let n = select_number(st, s, byte);
+    if n != DONE {
+        return effects::refused(st, n);
+    }
+    effects::accepted(effects::with_phase(st, s, Phase::Chosen))
 }

@@ -1,11 +1,14 @@
-// What start, continue, elevate and drop ask: their tests in their order, and the number that each answers.
+// Start, continue, elevate and drop: state in by value, answer and state out by value. Start and elevate ask their tests for the number, and append a process where
+// that is 0. Continue and drop go on from the place at which their test finds the process.
 ghost use mathlib.Core.Path.{_≡_};
 ghost use Rattle.claims.specs.Numbers.{_when_, _unless_, _▸_};
 ghost use Rattle.claims.specs.Numbers as No;
 ghost use Rattle.claims.specs.Module.{isCredential, provisioned};
 ghost use Rattle.claims.specs.Claim.{entered};
+ghost use Rattle.table.specs.Table.{processAt, replaced};
 ghost use Rattle.table.specs.declared.Among.the-variants.{All};
-ghost use Rattle.calls.specs.Calls.{Start, Continue, Elevate, Drop, isFull, hasNamed, number};
+ghost use Rattle.calls.specs.Calls.{Start, Continue, Elevate, Drop, isFull, hasNamed, number, withTable, activated, outcome};
+use calls::Outcome;
 use claims::ALREADY_ACTIVE;
 use claims::ARGUMENT;
 use claims::CREDENTIAL;
@@ -20,6 +23,8 @@ use names::Name;
 use names::Session;
 use table::Active;
 use table::Among;
+use table::Found;
+use table::PLACES;
 
 // The tests that start, continue and elevate begin with.
 fn known_number(st: State, s: Session, c: Credential) -> u8
@@ -42,45 +47,76 @@ fn known_number(st: State, s: Session, c: Credential) -> u8
 fn new_number(st: State, name: Name) -> u8
     ensures { λ r. ⌜ r ≡ No.nameTaken when hasNamed st name All ▸ No.full when isFull st ⌝ }
 {
-    if calls_table::has_named(st, name, Among::All) {
+    let t = st.table;
+    if let Found::At(_) = table_search::find_named(t, name, Among::All) {
         return NAME_TAKEN;
     }
-    if calls_table::is_full(st) {
+    if PLACES <= table::size(t) {
         return FULL;
     }
     DONE
 }
 
-pub fn start_number(st: State, s: Session, c: Credential, name: Name) -> u8
+// ---- start
+
+fn start_number(st: State, s: Session, c: Credential, name: Name) -> u8
     ensures { λ r. ⌜ r ≡ number st (Start s c name) ⌝ }
 {
     let known = known_number(st, s, c);
     if known != DONE {
         return known;
     }
-    if calls_table::has_active(st, Active::UserOf(s, c)) {
+    let t = st.table;
+    if let Found::At(_) = table_search::find_active(t, Active::UserOf(s, c)) {
         return ALREADY_ACTIVE;
     }
     new_number(st, name)
 }
 
-pub fn continue_number(st: State, s: Session, c: Credential, name: Name) -> u8
-    ensures { λ r. ⌜ r ≡ number st (Continue s c name) ⌝ }
+pub fn start(st: State, s: Session, c: Credential, name: Name) -> Outcome
+    ensures { λ r. ⌜ r ≡ outcome st (Start s c name) ⌝ }
+{
+    let n = start_number(st, s, c, name);
+    if n != DONE {
+        return effects::refused(st, n);
+    }
+    let t = st.table;
+    effects::accepted(effects::with_table(
+        st,
+        table_change::appended(t, effects::user_process(s, c, name)),
+    ))
+}
+
+// ---- continue
+
+fn continued(st: State, s: Session, at: usize) -> State
+    ensures { λ r. ⌜ r ≡ withTable st (replaced (st .table) at (activated s (processAt (st .table) at))) ⌝ }
+{
+    let t = st.table;
+    let p = table::process_at(t, at);
+    effects::with_table(st, table_change::replaced(t, at, effects::activated(p, s)))
+}
+
+pub fn continue_saved(st: State, s: Session, c: Credential, name: Name) -> Outcome
+    ensures { λ r. ⌜ r ≡ outcome st (Continue s c name) ⌝ }
 {
     let known = known_number(st, s, c);
     if known != DONE {
-        return known;
+        return effects::refused(st, known);
     }
-    if !calls_table::has_named(st, name, Among::SavedOf(c)) {
-        return NO_PROCESS;
+    let t = st.table;
+    let Found::At(at) = table_search::find_named(t, name, Among::SavedOf(c)) else {
+        return effects::refused(st, NO_PROCESS);
+    };
+    if let Found::At(_) = table_search::find_active(t, Active::UserOf(s, c)) {
+        return effects::refused(st, ALREADY_ACTIVE);
     }
-    if calls_table::has_active(st, Active::UserOf(s, c)) {
-        return ALREADY_ACTIVE;
-    }
-    DONE
+    effects::accepted(continued(st, s, at))
 }
 
-pub fn elevate_number(st: State, s: Session, c: Credential, name: Name, verdict: bool) -> u8
+// ---- elevate
+
+fn elevate_number(st: State, s: Session, c: Credential, name: Name, verdict: bool) -> u8
     ensures { λ r. ⌜ r ≡ number st (Elevate s c name verdict) ⌝ }
 {
     let known = known_number(st, s, c);
@@ -90,21 +126,39 @@ pub fn elevate_number(st: State, s: Session, c: Credential, name: Name, verdict:
     if !verdict {
         return VERDICT;
     }
-    if calls_table::has_active(st, Active::ElevationIn(s)) {
+    let t = st.table;
+    if let Found::At(_) = table_search::find_active(t, Active::ElevationIn(s)) {
         return ALREADY_ACTIVE;
     }
     new_number(st, name)
 }
 
-pub fn drop_number(st: State, s: Session) -> u8
-    ensures { λ r. ⌜ r ≡ number st (Drop s) ⌝ }
+pub fn elevate(st: State, s: Session, c: Credential, name: Name, verdict: bool) -> Outcome
+    ensures { λ r. ⌜ r ≡ outcome st (Elevate s c name verdict) ⌝ }
+{
+    let n = elevate_number(st, s, c, name, verdict);
+    if n != DONE {
+        return effects::refused(st, n);
+    }
+    let t = st.table;
+    effects::accepted(effects::with_table(
+        st,
+        table_change::appended(t, effects::elevation(s, c, name)),
+    ))
+}
+
+// ---- drop
+
+pub fn drop_elevation(st: State, s: Session) -> Outcome
+    ensures { λ r. ⌜ r ≡ outcome st (Drop s) ⌝ }
 {
     let entry = claims::entered(st, s);
     if entry != DONE {
-        return entry;
+        return effects::refused(st, entry);
     }
-    if !calls_table::has_active(st, Active::ElevationIn(s)) {
-        return NO_PROCESS;
-    }
-    DONE
+    let t = st.table;
+    let Found::At(at) = table_search::find_active(t, Active::ElevationIn(s)) else {
+        return effects::refused(st, NO_PROCESS);
+    };
+    effects::accepted(effects::with_table(st, table_removal::removed(t, at)))
 }

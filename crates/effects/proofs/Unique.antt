@@ -20,8 +20,6 @@ use Rattle.effects.proofs.elevation.Kinds as elevation-kinds
 use Rattle.effects.proofs.elevation.Reads as elevation
 use Rattle.effects.proofs.activated.Kinds as activated-kinds
 use Rattle.effects.proofs.activated.Reads as activated
-use Rattle.effects.proofs.saved.Kinds as saved-kinds
-use Rattle.effects.proofs.saved.Reads as saved
 use Rattle.effects.proofs.ended.Kinds as ended-kinds
 use Rattle.effects.proofs.ended.Reads as ended
 use Rattle.effects.proofs.fresh.Kinds as fresh-kinds
@@ -53,9 +51,6 @@ elevation-once κs a x y s t p q = p ∙ sym q
 
 pub activated-once : OneAnswer 0 activated-kinds.ps activated-kinds.r activated.Post
 activated-once κs a x y s t p q = p ∙ sym q
-
-pub saved-once : OneAnswer 0 saved-kinds.ps saved-kinds.r saved.Post
-saved-once κs a x y s t p q = p ∙ sym q
 
 pub ended-once : OneAnswer 0 ended-kinds.ps ended-kinds.r ended.Post
 ended-once κs a x y s t p q = p ∙ sym q

@@ -139,7 +139,7 @@ pub fn activated(kept: Process, s: Session) -> Process
     }
 }
 
-pub fn saved(p: Process) -> Process
+fn saved(p: Process) -> Process
     ensures { λ r. ⌜ r ≡ saved p ⌝ }
 {
     let c = p.credential;

@@ -29,7 +29,7 @@ pub extern "C" fn slavotuk_open(state: &mut [u8], session: u32) -> u32
     let st = state_read::read(state);
     state_store::store(
         state,
-        outcomes_session::open_session(st, arguments::session_of(session)),
+        calls_session::open_session(st, arguments::session_of(session)),
     )
 }
 
@@ -43,7 +43,7 @@ pub extern "C" fn slavotuk_close(state: &mut [u8], session: u32) -> u32
     let st = state_read::read(state);
     state_store::store(
         state,
-        outcomes_session::close_session(st, arguments::session_of(session)),
+        calls_session::close_session(st, arguments::session_of(session)),
     )
 }
 
@@ -57,7 +57,7 @@ pub extern "C" fn slavotuk_select(state: &mut [u8], session: u32, version: u32) 
     let st = state_read::read(state);
     state_store::store(
         state,
-        outcomes_session::select_version(
+        calls_session::select_version(
             st,
             arguments::session_of(session),
             rows::byte_of(version as usize),
@@ -81,7 +81,7 @@ pub extern "C" fn slavotuk_start(
     let st = state_read::read(state);
     state_store::store(
         state,
-        outcomes_unprotected::start(
+        calls_unprotected::start(
             st,
             arguments::session_of(session),
             arguments::credential_of(credential),
@@ -106,7 +106,7 @@ pub extern "C" fn slavotuk_continue(
     let st = state_read::read(state);
     state_store::store(
         state,
-        outcomes_unprotected::continue_saved(
+        calls_unprotected::continue_saved(
             st,
             arguments::session_of(session),
             arguments::credential_of(credential),
@@ -135,7 +135,7 @@ pub extern "C" fn slavotuk_elevate(
     let st = state_read::read(state);
     state_store::store(
         state,
-        outcomes_unprotected::elevate(
+        calls_unprotected::elevate(
             st,
             arguments::session_of(session),
             arguments::credential_of(credential),
@@ -155,7 +155,7 @@ pub extern "C" fn slavotuk_drop(state: &mut [u8], session: u32) -> u32
     let st = state_read::read(state);
     state_store::store(
         state,
-        outcomes_unprotected::drop_elevation(st, arguments::session_of(session)),
+        calls_unprotected::drop_elevation(st, arguments::session_of(session)),
     )
 }
 

@@ -1,6 +1,6 @@
 // The protected calls that end a process: state in by value, answer and state out by value. Each asks its tests for the number, counts the claim where it passed, and does what it does where the number is 0.
 ghost use mathlib.Core.Path.{_≡_};
-ghost use Rattle.calls.specs.Calls.{End, Kill, outcome};
+ghost use Rattle.calls.specs.Calls.{End, Kill, namedPlace, outcome};
 use calls::Outcome;
 use claims::Claim;
 use claims::DONE;
@@ -8,6 +8,7 @@ use claims::State;
 use claims::UserClaim;
 use names::Name;
 use names::Session;
+use table::Among;
 
 // ---- end
 
@@ -26,6 +27,13 @@ pub fn end(st: State, s: Session, u: UserClaim, keep: bool) -> Outcome
 
 // ---- kill
 
+fn named_place(st: State, name: Name, among: Among) -> usize
+    ensures { λ r. ⌜ r ≡ namedPlace st name among ⌝ }
+{
+    let t = st.table;
+    table::found_place(table_search::find_named(t, name, among), table::size(t))
+}
+
 pub fn kill(st: State, s: Session, claim: Claim, name: Name) -> Outcome
     ensures { λ r. ⌜ r ≡ outcome st (Kill s claim name) ⌝ }
 {
@@ -35,7 +43,7 @@ pub fn kill(st: State, s: Session, claim: Claim, name: Name) -> Outcome
     if n != DONE {
         return effects::refused_claim(next, n, claim);
     }
-    let at = calls_table::named_place(st, name, calls_protected::reach(by));
+    let at = named_place(st, name, calls_protected::reach(by));
     let t = next.table;
     effects::accepted(effects::with_table(next, table_removal::removed(t, at)))
 }

@@ -2,15 +2,10 @@
 -- Assumes nothing.
 use mathlib.Core.Path.{sym, _∙_}
 use Rattle.lists.proofs.Once.{OneAnswer}
-use Rattle.outcomes_standing.proofs.record.Kinds as record-kinds
-use Rattle.outcomes_standing.proofs.record.Reads as record-reads
 use Rattle.outcomes_standing.proofs.list.Kinds as list-kinds
 use Rattle.outcomes_standing.proofs.list.Reads as list
 use Rattle.outcomes_standing.proofs.set_word.Kinds as set-word-kinds
 use Rattle.outcomes_standing.proofs.set_word.Reads as set-word
-
-pub record-once : OneAnswer 0 record-kinds.ps record-kinds.r record-reads.Post
-record-once κs a x y s t p q = p ∙ sym q
 
 pub list-once : OneAnswer 0 list-kinds.ps list-kinds.r list.Post
 list-once κs a x y s t p q = p ∙ sym q

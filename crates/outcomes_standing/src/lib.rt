@@ -1,29 +1,14 @@
-// The protected calls that leave every process standing: state in by value, answer and state out by value. Each asks its tests for the number, counts the claim where it passed, and does what it does where the number is 0.
+// List and set word, which leave every process standing: state in by value, answer and state out by value. Each asks its tests for the number, counts the claim where it passed, and does what it does where the number is 0.
 ghost use mathlib.Core.Path.{_≡_};
-ghost use Rattle.calls.specs.Calls.{Record, SetWord, outcome, listed};
+ghost use Rattle.calls.specs.Calls.{SetWord, outcome, listed};
 use calls::Listed;
 use calls::Outcome;
 use calls::Wanted;
 use claims::Claim;
-use claims::Class;
 use claims::DONE;
 use claims::State;
 use names::Credential;
 use names::Session;
-
-// ---- record
-
-pub fn record(st: State, s: Session, claim: Claim, class: Class) -> Outcome
-    ensures { λ r. ⌜ r ≡ outcome st (Record s claim class) ⌝ }
-{
-    let by = claim_admission::admit(st, s, claim);
-    let n = calls_protected::record_number(by, class);
-    let counted = claim_count::charged_by(st, claim, by, n);
-    if n != DONE {
-        return effects::refused_claim(counted, n, claim);
-    }
-    effects::accepted(counted)
-}
 
 // ---- list
 

@@ -1,48 +1,47 @@
-// Document 01's worked steps 1 to 13, with the numbers as order 3 corrects them, through the compiled calls: a line for each step, with the number of each
-// call. Then step 13 by refusals, and the relay's attack. What it writes is compared with the file stdout beside it.
-use calls::Outcome;
-use calls::Wanted;
-use claims::Claim;
-use claims::Class;
-use claims::Grants;
-use claims::State;
-use claims::UserClaim;
+// Document 01's worked steps 1 to 13, with the numbers as order 3 corrects them, through the entries, on a state that is lent: a line for each step, with the
+// number of each call. Then step 13 by refusals, and the relay's attack. What it writes is compared with the file stdout beside it.
+use claims::CREDENTIALS;
+use claims::DONE;
+use claims::NOT_GRANTED;
+use claims::SPENT;
+use layout::STATE_LENGTH;
 use libc::STDOUT_FILENO;
-use names::Credential;
-use names::Name;
-use names::Session;
+use names::NAME_LENGTH;
 
 // 16 zero bytes, 31 of one value and a last one.
-fn name(most: u8, last: u8) -> Name {
-    let mut bytes = [0u8; 48];
+fn name(most: u8, last: u8) -> [u8; NAME_LENGTH] {
+    let mut bytes = [0u8; NAME_LENGTH];
     let mut i: usize = 16;
     while i < 47 {
         bytes[i] = most;
         i += 1;
     }
     bytes[47] = last;
-    Name { bytes: bytes }
+    bytes
 }
 
-fn p() -> Name {
+fn p() -> [u8; NAME_LENGTH] {
     name(0x11, 0x11)
 }
 
-fn q() -> Name {
+fn q() -> [u8; NAME_LENGTH] {
     name(0x22, 0x22)
 }
 
-fn r() -> Name {
+fn r() -> [u8; NAME_LENGTH] {
     name(0x11, 0x12)
 }
 
-fn by(c: u16, number: u16) -> UserClaim {
-    UserClaim {
-        credential: Credential(c),
-        number: number,
-        verdict: true,
-    }
-}
+// What the entries take: the kind of a claim, its verdict, whether a process is kept, the wanted credential of a listing of all.
+const USER: u32 = 0;
+
+const YES: u32 = 1;
+
+const NO: u32 = 0;
+
+const KEPT: u32 = 1;
+
+const ALL: u32 = 65535;
 
 fn begin(step: u64) {
     io::print_decimal(STDOUT_FILENO, step);
@@ -58,224 +57,204 @@ fn end_line() {
     io::write_all(STDOUT_FILENO, b"\n");
 }
 
-// Writes the number of an outcome, and hands on its state.
-fn told(outcome: Outcome) -> State {
-    let answer = outcome.answer;
-    say(wide(calls::answer_number(answer)));
-    outcome.state
+// Writes the number that an entry answered.
+fn told(n: u32) {
+    say(n as u64);
 }
 
-fn wide(n: u8) -> u64 {
-    n as u64
+fn open(state: &mut [u8], s: u32) {
+    told(entries_unprotected::slavotuk_open(state, s));
 }
 
-fn record(st: State, c: u16, number: u16, class: u8) -> State {
-    told(outcomes_standing::record(st, Session(0), Claim::ByUser(by(c, number)), Class(class)))
+fn select(state: &mut [u8], s: u32, version: u32) {
+    told(entries_unprotected::slavotuk_select(state, s, version));
 }
 
-fn start(st: State, s: u8, c: u16, n: Name) -> State {
-    told(outcomes_unprotected::start(st, Session(s), Credential(c), n))
+fn start(state: &mut [u8], s: u32, c: u32, name: &[u8]) {
+    told(entries_unprotected::slavotuk_start(state, s, c, name));
 }
 
-fn kill(st: State, s: u8, c: u16, number: u16, n: Name) -> State {
-    told(outcomes_ending::kill(st, Session(s), Claim::ByUser(by(c, number)), n))
+fn continue_saved(state: &mut [u8], s: u32, c: u32, name: &[u8]) {
+    told(entries_unprotected::slavotuk_continue(state, s, c, name));
+}
+
+fn record(state: &mut [u8], c: u32, number: u16, class: u32) {
+    told(entries_protected::slavotuk_record(state, 0, USER, c, number, YES, class));
+}
+
+fn kill(state: &mut [u8], s: u32, c: u32, number: u16, name: &[u8]) {
+    told(entries_protected::slavotuk_kill(state, s, USER, c, number, YES, name));
+}
+
+// The number of a listing of all, and the length of its message.
+fn list(state: &mut [u8], number: u16, response: &mut [u8]) {
+    let mut long: usize = 0;
+    told(entries_protected::slavotuk_list(
+        state,
+        0,
+        USER,
+        0,
+        number,
+        YES,
+        ALL,
+        response,
+        &mut long,
+    ));
+    say(long as u64);
 }
 
 // "Credentials 0 (word 15) and 1 (word 16) are provisioned."
-fn fresh() -> State {
-    let mut pairs = [Grants {
-        provisioned: false,
-        word: 0,
-    }; 8];
-    pairs[0] = Grants {
-        provisioned: true,
-        word: 15,
-    };
-    pairs[1] = Grants {
-        provisioned: true,
-        word: 16,
-    };
-    effects::fresh(pairs)
+fn fresh(state: &mut [u8]) {
+    let mut provisioned = [0u8; CREDENTIALS];
+    let mut words = [0u32; CREDENTIALS];
+    provisioned[0] = 1;
+    words[0] = 15;
+    provisioned[1] = 1;
+    words[1] = 16;
+    entries_unprotected::slavotuk_fresh(state, &provisioned, &words);
 }
 
-fn step1(st: State) -> State {
+fn step1(state: &mut [u8]) {
     begin(1);
-    let a = told(outcomes_session::open_session(st, Session(4)));
-    let b = told(outcomes_session::open_session(a, Session(0)));
-    let c = told(outcomes_session::open_session(b, Session(0)));
+    open(state, 4);
+    open(state, 0);
+    open(state, 0);
     end_line();
-    c
 }
 
-fn step2(st: State) -> State {
+fn step2(state: &mut [u8]) {
     begin(2);
-    let a = start(st, 0, 0, p());
-    let b = told(outcomes_session::select_version(a, Session(0), 0x20));
-    let c = told(outcomes_session::select_version(b, Session(0), 0x10));
-    let d = told(outcomes_session::select_version(c, Session(0), 0x10));
+    start(state, 0, 0, &p());
+    select(state, 0, 0x20);
+    select(state, 0, 0x10);
+    select(state, 0, 0x10);
     end_line();
-    d
 }
 
-fn step3(st: State) -> State {
+fn step3(state: &mut [u8]) {
     begin(3);
-    let a = start(st, 0, 2, p());
-    let b = start(a, 0, 0, p());
-    let c = start(b, 0, 1, p());
+    start(state, 0, 2, &p());
+    start(state, 0, 0, &p());
+    start(state, 0, 1, &p());
     end_line();
-    c
 }
 
-fn step4(st: State) -> State {
+fn step4(state: &mut [u8]) {
     begin(4);
-    let a = start(st, 0, 1, r());
-    let b = start(a, 0, 1, p());
+    start(state, 0, 1, &r());
+    start(state, 0, 1, &p());
     end_line();
-    b
 }
 
-fn step5(st: State) -> State {
+fn step5(state: &mut [u8]) {
     begin(5);
-    let a = record(st, 1, 0, 4);
-    let b = record(a, 1, 0, 4);
+    record(state, 1, 0, 4);
+    record(state, 1, 0, 4);
     end_line();
-    b
 }
 
-fn step6(st: State) -> State {
+fn step6(state: &mut [u8]) {
     begin(6);
-    let unsigned = UserClaim {
-        credential: Credential(1),
-        number: 1,
-        verdict: false,
-    };
-    let a = told(outcomes_standing::record(st, Session(0), Claim::ByUser(unsigned), Class(4)));
-    let b = record(a, 1, 1, 5);
-    let c = record(b, 1, 2, 4);
+    told(entries_protected::slavotuk_record(state, 0, USER, 1, 1, NO, 4));
+    record(state, 1, 1, 5);
+    record(state, 1, 2, 4);
     end_line();
-    c
 }
 
-fn step7(st: State) -> State {
+fn step7(state: &mut [u8]) {
     begin(7);
-    let a = record(st, 1, 3, 3);
-    let b = record(a, 1, 3, 31);
+    record(state, 1, 3, 3);
+    record(state, 1, 3, 31);
     end_line();
-    b
 }
 
-fn step8(st: State) -> State {
+fn step8(state: &mut [u8]) {
     begin(8);
-    let a = kill(st, 0, 1, 4, p());
-    let b = kill(a, 0, 1, 5, q());
+    kill(state, 0, 1, 4, &p());
+    kill(state, 0, 1, 5, &q());
     end_line();
-    b
 }
 
-fn step9(st: State) -> State {
+fn step9(state: &mut [u8]) {
     begin(9);
-    let a = kill(st, 0, 0, 0, r());
-    let b = record(a, 1, 2, 4);
+    kill(state, 0, 0, 0, &r());
+    record(state, 1, 2, 4);
     end_line();
-    b
 }
 
-// The number of each listing, and the length of its message.
-fn list(st: State, number: u16, room: usize) -> State {
-    let listed = outcomes_standing::list(
-        st,
-        Session(0),
-        Claim::ByUser(by(0, number)),
-        Wanted::Every,
-        room,
-    );
-    let length = listed.length;
-    let outcome = listed.outcome;
-    let next = told(outcome);
-    say(length as u64);
-    next
-}
-
-fn step10(st: State) -> State {
+fn step10(state: &mut [u8]) {
     begin(10);
-    let a = list(st, 1, 54);
-    let b = list(a, 2, 55);
+    let mut short = [0u8; 54];
+    list(state, 1, &mut short);
+    let mut enough = [0u8; 55];
+    list(state, 2, &mut enough);
     end_line();
-    b
+}
+
+fn next_number(state: &[u8]) -> u64 {
+    let st = state_read::read(state);
+    let t = st.table;
+    let one = table::process_at(t, 0);
+    one.next as u64
+}
+
+fn standing(state: &[u8]) -> u64 {
+    let st = state_read::read(state);
+    let t = st.table;
+    table::size(t) as u64
 }
 
 // The numbers, and the next number of the one process.
-fn step11(st: State) -> State {
+fn step11(state: &mut [u8]) {
     begin(11);
-    let a = told(outcomes_ending::end(st, Session(0), by(0, 3), true));
-    let b = told(outcomes_session::open_session(a, Session(1)));
-    let c = told(outcomes_session::select_version(b, Session(1), 0x10));
-    let d = told(outcomes_unprotected::continue_saved(c, Session(1), Credential(0), q()));
-    let e = told(outcomes_unprotected::continue_saved(d, Session(1), Credential(0), p()));
-    let t = e.table;
-    let one = table::process_at(t, 0);
-    say(one.next as u64);
+    told(entries_protected::slavotuk_end(state, 0, 0, 3, YES, KEPT));
+    open(state, 1);
+    select(state, 1, 0x10);
+    continue_saved(state, 1, 0, &q());
+    continue_saved(state, 1, 0, &p());
+    say(next_number(state));
     end_line();
-    e
 }
 
 // Eleven saved processes of credential 0 beside the active one: twelve stand.
-fn fill(st: State) -> State {
-    let mut next = st;
+fn fill(state: &mut [u8]) {
     let mut i: u8 = 0;
     while i < 11 {
-        let started = outcomes_unprotected::start(next, Session(0), Credential(0), name(0x33, i));
-        let one = started.state;
-        let ended = outcomes_ending::end(one, Session(0), by(0, 0), true);
-        next = ended.state;
+        entries_unprotected::slavotuk_start(state, 0, 0, &name(0x33, i));
+        entries_protected::slavotuk_end(state, 0, 0, 0, YES, KEPT);
         i += 1;
     }
-    next
 }
 
-fn step12(st: State) -> State {
+fn step12(state: &mut [u8]) {
     begin(12);
-    let a = fill(st);
-    let t = a.table;
-    say(table::size(t) as u64);
-    let b = start(a, 0, 1, r());
-    let c = kill(b, 1, 0, 4, name(0x33, 5));
-    let d = start(c, 0, 1, r());
+    fill(state);
+    say(standing(state));
+    start(state, 0, 1, &r());
+    kill(state, 1, 0, 4, &name(0x33, 5));
+    start(state, 0, 1, &r());
     end_line();
-    d
 }
 
 // Numbers 0 to 65,534 of credential 1, each in turn, with that class: how many get that number.
-fn spend(st: State, class: u8, number: u8) -> State {
-    let mut next = st;
+fn spend(state: &mut [u8], class: u32, number: u32) {
     let mut got: u64 = 0;
     let mut i: u16 = 0;
     while i < 65535 {
-        let outcome = outcomes_standing::record(
-            next,
-            Session(0),
-            Claim::ByUser(by(1, i)),
-            Class(class),
-        );
-        let answer = outcome.answer;
-        next = outcome.state;
-        if calls::answer_number(answer) == number {
+        if entries_protected::slavotuk_record(state, 0, USER, 1, i, YES, class) == number {
             got += 1;
         }
         i += 1;
     }
     say(got);
-    next
 }
 
 // Then every number: how many get 13.
-fn spent(st: State) {
+fn spent(state: &mut [u8]) {
     let mut refused: u64 = 0;
     let mut i: u16 = 0;
     loop {
-        let outcome = outcomes_standing::record(st, Session(0), Claim::ByUser(by(1, i)), Class(4));
-        let answer = outcome.answer;
-        if calls::answer_number(answer) == claims::SPENT {
+        if entries_protected::slavotuk_record(state, 0, USER, 1, i, YES, 4) == SPENT as u32 {
             refused += 1;
         }
         if i == 65535 {
@@ -286,31 +265,51 @@ fn spent(st: State) {
     say(refused);
 }
 
-fn step13(st: State, class: u8, number: u8) {
+fn step13(state: &mut [u8], class: u32, number: u8) {
     begin(13);
-    let a = spend(st, class, number);
-    spent(a);
+    spend(state, class, number as u32);
+    spent(state);
     end_line();
 }
 
 // A kill that has got 6 is sent again, once the named process has started.
-fn relay(st: State) {
+fn relay(state: &mut [u8]) {
     io::write_all(STDOUT_FILENO, b"relay:");
-    let a = told(outcomes_session::open_session(st, Session(0)));
-    let b = told(outcomes_session::select_version(a, Session(0), 0x10));
-    let c = start(b, 0, 0, p());
-    let d = kill(c, 0, 0, 0, q());
-    let e = start(d, 0, 1, q());
-    kill(e, 0, 0, 0, q());
+    open(state, 0);
+    select(state, 0, 0x10);
+    start(state, 0, 0, &p());
+    kill(state, 0, 0, 0, &q());
+    start(state, 0, 1, &q());
+    kill(state, 0, 0, 0, &q());
     end_line();
 }
 
+fn steps1_to_6(state: &mut [u8]) {
+    step1(state);
+    step2(state);
+    step3(state);
+    step4(state);
+    step5(state);
+    step6(state);
+}
+
+fn steps7_to_12(state: &mut [u8]) {
+    step7(state);
+    step8(state);
+    step9(state);
+    step10(state);
+    step11(state);
+    step12(state);
+}
+
 fn main() {
-    let a = step4(step3(step2(step1(fresh()))));
-    let b = step8(step7(step6(step5(a))));
-    let c = step11(step10(step9(b)));
-    let d = step12(c);
-    step13(d, 4, claims::DONE);
-    step13(d, 5, claims::NOT_GRANTED);
-    relay(fresh());
+    let mut state = [0u8; STATE_LENGTH];
+    fresh(&mut state);
+    steps1_to_6(&mut state);
+    steps7_to_12(&mut state);
+    let mut refused = state;
+    step13(&mut state, 4, DONE);
+    step13(&mut refused, 5, NOT_GRANTED);
+    fresh(&mut state);
+    relay(&mut state);
 }

@@ -1,5 +1,5 @@
 use Rattle.calls.specs.Calls.{number}
-use Rattle.calls.proofs.Rules.{rules}
+use Rattle.calls_unprotected.proofs.Rules.{rules}
 use Rattle.calls_unprotected.proofs.elevate_number.Statement.{statement}
 use Rattle.calls_unprotected.proofs.elevate_number.Tie as tie
 
@@ -14,12 +14,18 @@ returns-2 : tie.Need-returns-2
 unfolding number
 returns-2 c = search rules
 
-has-active-requires : tie.Need-has-active-requires
-has-active-requires c κs = search rules
+find-active-requires : tie.Need-find-active-requires
+find-active-requires c κs = search rules
+
+enum-told : tie.Need-enum-told
+enum-told c = search rules
 
 returns-3 : tie.Need-returns-3
 unfolding number
 returns-3 c = search rules
+
+enum-told-2 : tie.Need-enum-told-2
+enum-told-2 c = search rules
 
 new-number-requires : tie.Need-new-number-requires
 new-number-requires c κs = search rules
@@ -35,7 +41,9 @@ elevate-number-spec =
     known-number-requires
     returns
     returns-2
-    has-active-requires
+    find-active-requires
+    enum-told
     returns-3
+    enum-told-2
     new-number-requires
     returns-4)

@@ -1,4 +1,4 @@
-use Rattle.calls.proofs.Rules.{rules}
+use Rattle.calls_unprotected.proofs.Rules.{rules}
 use Rattle.calls_unprotected.proofs.known_number.Statement.{statement}
 use Rattle.calls_unprotected.proofs.known_number.Tie as tie
 

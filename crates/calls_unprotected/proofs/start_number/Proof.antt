@@ -1,5 +1,5 @@
 use Rattle.calls.specs.Calls.{number}
-use Rattle.calls.proofs.Rules.{rules}
+use Rattle.calls_unprotected.proofs.Rules.{rules}
 use Rattle.calls_unprotected.proofs.start_number.Statement.{statement}
 use Rattle.calls_unprotected.proofs.start_number.Tie as tie
 
@@ -10,12 +10,18 @@ returns : tie.Need-returns
 unfolding number
 returns c = search rules
 
-has-active-requires : tie.Need-has-active-requires
-has-active-requires c κs = search rules
+find-active-requires : tie.Need-find-active-requires
+find-active-requires c κs = search rules
+
+enum-told : tie.Need-enum-told
+enum-told c = search rules
 
 returns-2 : tie.Need-returns-2
 unfolding number
 returns-2 c = search rules
+
+enum-told-2 : tie.Need-enum-told-2
+enum-told-2 c = search rules
 
 new-number-requires : tie.Need-new-number-requires
 new-number-requires c κs = search rules
@@ -30,7 +36,9 @@ start-number-spec =
     (tie.spec
     known-number-requires
     returns
-    has-active-requires
+    find-active-requires
+    enum-told
     returns-2
+    enum-told-2
     new-number-requires
     returns-3)

@@ -1,13 +1,15 @@
-use Prim.Native.Nat.{_≤_, _-_}
+use Prim.Native.Nat.{_-_, _≤_}
+use mathlib.Core.Path.{_≡_}
+use lib.ListN.{length}
 use borrow.Author.Needs.{needs}
 use Rattle.steps.proofs.fill.Statement.{statement}
 use Rattle.steps.proofs.fill.Tie as tie
 
 abbrev Inv-loop : tie.InvT-loop
-Inv-loop next₀ i₀ next i = i ≤ 11
+Inv-loop state₀ i₀ state i = (i ≤ 11) × (length state ≡ length state₀)
 
 abbrev μ-loop : tie.MeasureT-loop
-μ-loop next₀ i₀ next i = 11 - i
+μ-loop state₀ i₀ state i = 11 - i
 
 loop-holds : tie.Need-loop-holds Inv-loop μ-loop
 loop-holds c = search needs
@@ -15,14 +17,14 @@ loop-holds c = search needs
 name-requires : tie.Need-name-requires Inv-loop μ-loop
 name-requires c κs = search needs
 
-start-requires : tie.Need-start-requires Inv-loop μ-loop
-start-requires c κs = search needs
+slice-aggregate-slavotuk-start : tie.Need-slice-aggregate-slavotuk-start Inv-loop μ-loop
+slice-aggregate-slavotuk-start c = search needs
 
-by-requires : tie.Need-by-requires Inv-loop μ-loop
-by-requires c κs = search needs
+slavotuk-start-requires : tie.Need-slavotuk-start-requires Inv-loop μ-loop
+slavotuk-start-requires c κs = search needs
 
-end-requires : tie.Need-end-requires Inv-loop μ-loop
-end-requires c κs = search needs
+slavotuk-end-requires : tie.Need-slavotuk-end-requires Inv-loop μ-loop
+slavotuk-end-requires c κs = search needs
 
 add-i : tie.Need-add-i Inv-loop μ-loop
 add-i c = search needs
@@ -32,6 +34,9 @@ loop-less c = search needs
 
 loop-again : tie.Need-loop-again Inv-loop μ-loop
 loop-again c = search needs
+
+same-length : tie.Need-same-length Inv-loop μ-loop
+same-length c = search needs
 
 returns : tie.Need-returns Inv-loop μ-loop
 returns c = search needs
@@ -44,10 +49,11 @@ fill-spec =
     μ-loop
     loop-holds
     name-requires
-    start-requires
-    by-requires
-    end-requires
+    slice-aggregate-slavotuk-start
+    slavotuk-start-requires
+    slavotuk-end-requires
     add-i
     loop-less
     loop-again
+    same-length
     returns)

@@ -1,4 +1,6 @@
 use Prim.Native.Nat.{_≤_, _-_}
+use mathlib.Core.Path.{_≡_}
+use lib.ListN.{length}
 use mathlib.Core.Logic.{⊎-elim}
 use native.Mathlib.Omega.{arith}
 use borrow.Author.Needs.{needs}
@@ -6,22 +8,16 @@ use Rattle.steps.proofs.spend.Statement.{statement}
 use Rattle.steps.proofs.spend.Tie as tie
 
 abbrev Inv-loop : tie.InvT-loop
-Inv-loop class number next₀ got₀ i₀ next got i = (i ≤ 65535) × (got ≤ i)
+Inv-loop state₀ class number got₀ i₀ state got i = (i ≤ 65535) × (got ≤ i) × (length state ≡ length state₀)
 
 abbrev μ-loop : tie.MeasureT-loop
-μ-loop class number next₀ got₀ i₀ next got i = 65535 - i
+μ-loop state₀ class number got₀ i₀ state got i = 65535 - i
 
 loop-holds : tie.Need-loop-holds Inv-loop μ-loop
 loop-holds c = search needs
 
-by-requires : tie.Need-by-requires Inv-loop μ-loop
-by-requires c κs = search needs
-
-record-requires : tie.Need-record-requires Inv-loop μ-loop
-record-requires c κs = search needs
-
-answer-number-requires : tie.Need-answer-number-requires Inv-loop μ-loop
-answer-number-requires c κs = search needs
+slavotuk-record-requires : tie.Need-slavotuk-record-requires Inv-loop μ-loop
+slavotuk-record-requires c κs = search needs
 
 add-got : tie.Need-add-got Inv-loop μ-loop
 add-got c = search needs
@@ -38,6 +34,9 @@ loop-again c = ⊎-elim (λ w. omega arith) (λ w. omega arith) (c .if1 .came)
 say-requires : tie.Need-say-requires Inv-loop μ-loop
 say-requires c κs = search needs
 
+same-length : tie.Need-same-length Inv-loop μ-loop
+same-length c = search needs
+
 returns : tie.Need-returns Inv-loop μ-loop
 returns c = search needs
 
@@ -48,12 +47,11 @@ spend-spec =
     Inv-loop
     μ-loop
     loop-holds
-    by-requires
-    record-requires
-    answer-number-requires
+    slavotuk-record-requires
     add-got
     add-i
     loop-less
     loop-again
     say-requires
+    same-length
     returns)

@@ -1,4 +1,6 @@
 use Prim.Native.Nat.{_≤_, _-_}
+use mathlib.Core.Path.{_≡_}
+use lib.ListN.{length}
 use mathlib.Core.Logic.{⊎-elim}
 use native.Mathlib.Omega.{arith}
 use borrow.Author.Needs.{needs}
@@ -6,22 +8,19 @@ use Rattle.steps.proofs.spent.Statement.{statement}
 use Rattle.steps.proofs.spent.Tie as tie
 
 abbrev Inv-loop : tie.InvT-loop
-Inv-loop st refused₀ i₀ refused i = (i ≤ 65535) × (refused ≤ i)
+Inv-loop state₀ refused₀ i₀ state refused i = (i ≤ 65535) × (refused ≤ i) × (length state ≡ length state₀)
 
 abbrev μ-loop : tie.MeasureT-loop
-μ-loop st refused₀ i₀ refused i = 65535 - i
+μ-loop state₀ refused₀ i₀ state refused i = 65535 - i
 
 loop-holds : tie.Need-loop-holds Inv-loop μ-loop
 loop-holds c = search needs
 
-by-requires : tie.Need-by-requires Inv-loop μ-loop
-by-requires c κs = search needs
+slavotuk-record-requires : tie.Need-slavotuk-record-requires Inv-loop μ-loop
+slavotuk-record-requires c κs = search needs
 
-record-requires : tie.Need-record-requires Inv-loop μ-loop
-record-requires c κs = search needs
-
-answer-number-requires : tie.Need-answer-number-requires Inv-loop μ-loop
-answer-number-requires c κs = search needs
+cast-if1 : tie.Need-cast-if1 Inv-loop μ-loop
+cast-if1 c = search needs
 
 add-refused : tie.Need-add-refused Inv-loop μ-loop
 add-refused c = search needs
@@ -38,6 +37,9 @@ loop-again c = ⊎-elim (λ w. omega arith) (λ w. omega arith) (c .before .if1 
 say-requires : tie.Need-say-requires Inv-loop μ-loop
 say-requires c κs = search needs
 
+same-length : tie.Need-same-length Inv-loop μ-loop
+same-length c = search needs
+
 returns : tie.Need-returns Inv-loop μ-loop
 returns c = search needs
 
@@ -48,12 +50,12 @@ spent-spec =
     Inv-loop
     μ-loop
     loop-holds
-    by-requires
-    record-requires
-    answer-number-requires
+    slavotuk-record-requires
+    cast-if1
     add-refused
     add-i
     loop-less
     loop-again
     say-requires
+    same-length
     returns)

@@ -1,0 +1,34 @@
+use Rattle.calls.specs.Calls.{protection}
+use Rattle.calls.proofs.Rules.{rules}
+use Rattle.calls_session.proofs.open_session.Statement.{statement}
+use Rattle.calls_session.proofs.open_session.Tie as tie
+
+open-number-requires : tie.Need-open-number-requires
+open-number-requires c κs = search rules
+
+refused-requires : tie.Need-refused-requires
+refused-requires c κs = search rules
+
+returns : tie.Need-returns
+unfolding protection
+returns c = search rules
+
+with-phase-requires : tie.Need-with-phase-requires
+with-phase-requires c κs = search rules
+
+accepted-requires : tie.Need-accepted-requires
+accepted-requires c κs = search rules
+
+returns-2 : tie.Need-returns-2
+returns-2 c = search rules
+
+pub open-session-spec : {M : Type 1} → statement M
+open-session-spec =
+    tie.close
+    (tie.spec
+    open-number-requires
+    refused-requires
+    returns
+    with-phase-requires
+    accepted-requires
+    returns-2)
