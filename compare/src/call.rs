@@ -73,9 +73,9 @@ impl fmt::Display for Answer {
 /// The session handle, of the entries that take one.
 pub fn session_mut(call: &mut Call) -> Option<&mut u32> {
     match call {
-        Call::Open { session }
-        | Call::Close { session }
-        | Call::Drop { session }
+        Call::Open { session, .. }
+        | Call::Close { session, .. }
+        | Call::Drop { session, .. }
         | Call::Select { session, .. }
         | Call::Start { session, .. }
         | Call::Continue { session, .. }

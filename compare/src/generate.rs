@@ -213,7 +213,10 @@ impl Generator {
     /// A fresh that is mostly refused, so that the state lives on.
     fn wrong_fresh(&mut self) -> Call {
         let mut call = self.fresh();
-        if let Call::Fresh { provisioned, words } = &mut call {
+        if let Call::Fresh {
+            provisioned, words, ..
+        } = &mut call
+        {
             match self.random.below(8) {
                 0 => {}
                 1 => provisioned.truncate(self.random.below(8)),

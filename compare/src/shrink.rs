@@ -184,7 +184,9 @@ fn plainer_calls(call: &Call) -> Vec<Call> {
     };
     let mut plainer = vec![change(&plain_elevated_claim)];
     match call {
-        Call::Fresh { provisioned, words } => {
+        Call::Fresh {
+            provisioned, words, ..
+        } => {
             for (at, held) in provisioned.iter().zip(words).enumerate() {
                 let held = (*held.0, *held.1);
                 let pairs = [(0, 0), (1, 0), (1, 15), (1, 16), (1, 31)];
@@ -243,7 +245,10 @@ fn plain_elevated_claim(call: &mut Call) {
 }
 
 fn set_pair(call: &mut Call, at: usize, pair: (u8, u32)) {
-    if let Call::Fresh { provisioned, words } = call {
+    if let Call::Fresh {
+        provisioned, words, ..
+    } = call
+    {
         (provisioned[at], words[at]) = pair;
     }
 }

@@ -34,8 +34,8 @@ macro_rules! printed {
     ($f:ident $value:ident word: u32) => {
         write!($f, " word {:#x}", $value)
     };
-    ($f:ident $value:ident words: &[u32]) => {
-        write!($f, " words {:x?}", $value)
+    ($f:ident $value:ident $name:ident: &[u32]) => {
+        write!($f, " {} {:x?}", stringify!($name), $value)
     };
     ($f:ident $value:ident $name:ident: &[u8]) => {
         write!($f, " {} {}", stringify!($name), Bytes($value))
