@@ -22,14 +22,14 @@ use Rattle.table.specs.declared.Table.{Table}
 use Rattle.table.proofs.Laws.{standing-of, whole-of, standing-appended, standing-replaced, standing-removed, standing-without-session}
 use Rattle.table.proofs.Searched.{user-of, named-among, saved-of}
 use Rattle.claims.specs.Module.{closedSession, phaseOf, isChosen, unprovisioned, provisioned, activePlace, activeProcess}
-use Rattle.claims.specs.Claim.{claimant}
+use Rattle.claims.specs.Claim.{checked}
 use Rattle.claims.specs.declared.Claim.{Claim}
 use Rattle.claims.specs.declared.Claim.the-variants.{Elevated, ByUser}
 use Rattle.claims.specs.declared.Grants.{Grants}
 use Rattle.claims.specs.declared.Phase.{Phase}
 use Rattle.claims.specs.declared.State.{State}
 use Rattle.claims.specs.declared.UserClaim.{UserClaim}
-use Rattle.calls.specs.Calls.{Call, Open, Close, Drop, Select, Start, Continue, Elevate, End, Record, ListProcesses, Kill, SetWord, withTable, withPhase, withWord, userProcess, elevation, activated, saved, oneMore, namedPlace, reach, counted, ended, effect, taken, fresh}
+use Rattle.calls.specs.Calls.{Call, Open, Close, Drop, Select, Start, Continue, Elevate, End, Record, ListProcesses, Kill, SetWord, withTable, withPhase, withGrants, userProcess, elevation, activated, saved, oneMore, namedPlace, reach, counted, ended, effect, taken, fresh}
 use Rattle.calls.specs.Run.{step, run}
 use Rattle.facts.specs.Facts.{processes, Rules, FormedGrants, FormedProcess, IsState}
 use Rattle.facts.proofs.Laws.{provisioned-low, chosen-low}
@@ -116,7 +116,7 @@ module _ (P : Process → Type 0) (st : State) where
     each-effect (Record s claim class) f b = each-counted s claim f
     each-effect (ListProcesses s claim wanted room) f b = each-counted s claim f
     each-effect (Kill s claim name) f b =
-        let among : Among = reach st (claimant st s claim) in
+        let among : Among = reach (checked st s claim) in
         let i : ℕ = namedPlace st name among in
         let stands = stands-counted st s claim (f .admission) (isNamed name among) (named-more name among) i (f .stands) in
         rw (standing-removed (counted st s claim .table) i) (each-remove i (stands .inside) (each-counted s claim (f .admission)))
@@ -160,18 +160,17 @@ module _ {F : Type 0} where
         tidy = λ h. h;
       }
 
-  around-word : (st : State) (c : Credential) (word : ℕ) → provisioned st c ≡ true → (F → IsWord word) → Around F st (withWord st c word)
+  around-grants : (st : State) (c : Credential) (new : Grants) → provisioned st c ≡ true → new .provisioned ≡ true → (F → FormedGrants new) → Around F st (withGrants st c new)
   unfolding provisioned
-  around-word st c word owner small =
-      let new : Grants = record { provisioned = true; word = word } in
+  around-grants st c new owner still formed =
       record {
         sessions = refl;
         owners =
             record {
               as-many = length-set (st .credentials) (c .0) new;
-              same = λ d. same-set (λ (g : Grants). g .provisioned) (st .credentials) (c .0) (d .0) unprovisioned new (sym owner);
+              same = λ d. same-set (λ (g : Grants). g .provisioned) (st .credentials) (c .0) (d .0) unprovisioned new (still ∙ sym owner);
             };
-        words = λ f v. each-set (c .0) new v (record { word = small f; kept = λ e. clash refl e });
+        words = λ f v. each-set (c .0) new v (formed f);
         tidy = λ h. h;
       }
 
@@ -199,7 +198,7 @@ around st (Record s claim class) f = around-counted st s claim
 around st (ListProcesses s claim wanted room) f = around-counted st s claim
 around st (Kill s claim name) f = around-then (around-counted st s claim) (around-table (counted st s claim) _ (tidy-of _))
 around st (SetWord s claim c word) f =
-    around-then (around-counted st s claim) (around-word (counted st s claim) c word (around-counted {F = Fits (SetWord s claim c word)} st s claim .owners .same c ∙ f .owner) (λ w. w))
+    around-then (around-counted st s claim) (around-grants (counted st s claim) c _ (around-counted {F = Fits (SetWord s claim c word)} st s claim .owners .same c ∙ f .owner) refl (λ w. record { word = w; kept = λ e. clash refl e }))
 
 pub owners-step : (st : State) (call : Call) → SameOwners st (step st call)
 owners-step st call =

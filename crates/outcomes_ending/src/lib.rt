@@ -15,9 +15,9 @@ pub fn end(st: State, s: Session, u: UserClaim, keep: bool) -> Outcome
     ensures { λ r. ⌜ r ≡ outcome st (End s u keep) ⌝ }
 {
     let claim = Claim::ByUser(u);
-    let by = claim_admission::admit(st, s, claim);
+    let by = claim_admission::check(st, s, claim);
     let n = calls_protected::end_number(by, keep);
-    let counted = claim_count::charged_by(st, claim, by, n);
+    let counted = claim_count::charged_by(st, by, n);
     if n != DONE {
         return effects::refused_claim(counted, n, claim);
     }
@@ -29,13 +29,13 @@ pub fn end(st: State, s: Session, u: UserClaim, keep: bool) -> Outcome
 pub fn kill(st: State, s: Session, claim: Claim, name: Name) -> Outcome
     ensures { λ r. ⌜ r ≡ outcome st (Kill s claim name) ⌝ }
 {
-    let by = claim_admission::admit(st, s, claim);
-    let n = calls_protected::kill_number(st, by, name);
-    let next = claim_count::charged_by(st, claim, by, n);
+    let by = claim_admission::check(st, s, claim);
+    let tested = calls_protected::kill_number(st, by, name);
+    let n = tested.number;
+    let next = claim_count::charged_by(st, by, n);
     if n != DONE {
         return effects::refused_claim(next, n, claim);
     }
-    let at = calls_table::named_place(st, name, calls_protected::reach(by));
     let t = next.table;
-    effects::accepted(effects::with_table(next, table_removal::removed(t, at)))
+    effects::accepted(effects::with_table(next, table_removal::removed(t, tested.place)))
 }

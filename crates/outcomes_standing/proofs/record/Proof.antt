@@ -3,8 +3,8 @@ use Rattle.claim_count.proofs.Rules.{rules}
 use Rattle.outcomes_standing.proofs.record.Statement.{statement}
 use Rattle.outcomes_standing.proofs.record.Tie as tie
 
-admit-requires : tie.Need-admit-requires
-admit-requires c κs = search rules
+check-requires : tie.Need-check-requires
+check-requires c κs = search rules
 
 record-number-requires : tie.Need-record-number-requires
 record-number-requires c κs = search rules
@@ -29,7 +29,7 @@ pub record-spec : {M : Type 1} → statement M
 record-spec =
     tie.close
     (tie.spec
-    admit-requires
+    check-requires
     record-number-requires
     charged-by-requires
     refused-claim-requires
