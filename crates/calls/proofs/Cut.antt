@@ -9,66 +9,54 @@ use borrow.Author.Tests.{eqb-true, eqb-false, eq-eqb, ne-eqb}
 use Rattle.lists.proofs.Tests.{split, and-left}
 use Rattle.names.specs.declared.Session.{Session}
 use Rattle.claims.specs.Numbers.{_when_, _unless_, _▸_}
-use Rattle.claims.specs.Module.{provisioned, granted}
-use Rattle.claims.specs.Claim.{claimant, admission, passedBy}
-use Rattle.claims.specs.declared.Admission.{Admission}
+use Rattle.claims.specs.Claim.{checked, admitted, grantNumber, passedBy}
+use Rattle.claims.specs.declared.Checked.{Checked}
 use Rattle.claims.specs.declared.Claim.{Claim}
+use Rattle.claims.specs.declared.Class.{Class}
 use Rattle.claims.specs.declared.State.{State}
-use Rattle.claims.proofs.Laws.{stop, pass, rows, by-when, by-unless, by-then, clear-first, clear-rest}
-use Rattle.calls.specs.Calls.{Call, Open, Close, Drop, Select, Start, Continue, Elevate, End, Record, ListProcesses, Kill, SetWord, setWords, hasNamed, lacksSaving, mayList, isShort, reach, number, counted, effect, Free, Under, protection, aheadNumber, protectedNumber, passes, refusedAfter, charged, left, outcome}
+use Rattle.claims.proofs.Laws.{stop, pass, rows, by-when, by-unless, by-then, by-grant, clear-first, clear-rest, checked-number}
+use Rattle.calls.specs.Calls.{Call, Open, Close, Drop, Select, Start, Continue, Elevate, End, Record, ListProcesses, Kill, SetWord, listOthers, saveOwn, setWords, Protection, Free, Under, protection, Tests, endTests, recordTests, listTests, killTests, setWordTests, tests, asked, numberUnder, number, counted, effect, aheadNumber, protectedNumber, passes, refusedAfter, charged, left, outcome}
 use Rattle.calls.specs.declared.Outcome.{Outcome}
-use Rattle.calls.proofs.Laws.{outcome-done, refusal-leaves, checked-number}
+use Rattle.calls.proofs.Laws.{outcome-done, refusal-leaves}
 
--- the tests after the claim's
-rest : State → Call → ℕ
-rest st (Open s) = 0
-rest st (Close s) = 0
-rest st (Drop s) = 0
-rest st (Select s byte) = 0
-rest st (Start s c name) = 0
-rest st (Continue s c name) = 0
-rest st (Elevate s c name verdict) = 0
-rest st (End s u keep) = 10 when lacksSaving st (u .credential) keep
-rest st (Record s claim class) = 10 unless granted st (claimant st s claim) class
-rest st (ListProcesses s claim wanted room) = 10 unless mayList st (claimant st s claim) wanted ▸ 15 when isShort st wanted room
-rest st (Kill s claim name) = 6 unless hasNamed st name (reach st (claimant st s claim))
-rest st (SetWord s claim c word) = 10 unless granted st (claimant st s claim) setWords ▸ 5 unless provisioned st c
+module _ (st : State) where
+  -- the tests after the claim's, of a call that carries one
+  rest : Protection → Tests → ℕ
+  rest Free t = 0
+  rest (Under s claim) t = t .after (checked st s claim)
 
-alone : (n : ℕ) → n ≡ n ▸ 0 ▸ 0
-unfolding _▸_
-alone n = split (eqb n 0) (λ e. rw e (eqb-true n 0 e)) (λ e. rw e)
+  alone : (n : ℕ) → n ≡ n ▸ 0 ▸ 0
+  unfolding _▸_
+  alone n = split (eqb n 0) (λ e. rw e (eqb-true n 0 e)) (λ e. rw e)
 
-number-cut : (st : State) (call : Call) → number st call ≡ aheadNumber st call ▸ protectedNumber st (protection call) ▸ rest st call
-unfolding number aheadNumber protectedNumber protection rest _▸_
-number-cut st (Open s) = alone _
-number-cut st (Close s) = alone _
-number-cut st (Drop s) = alone _
-number-cut st (Select s byte) = alone _
-number-cut st (Start s c name) = alone _
-number-cut st (Continue s c name) = alone _
-number-cut st (Elevate s c name verdict) = alone _
-number-cut st (End s u keep) = refl
-number-cut st (Record s claim class) = refl
-number-cut st (ListProcesses s claim wanted room) = refl
-number-cut st (Kill s claim name) = refl
-number-cut st (SetWord s claim c word) = refl
+  cut : (w : Protection) (t : Tests) → numberUnder st w t ≡ t .ahead ▸ protectedNumber st w ▸ rest w t
+  unfolding numberUnder asked protectedNumber admitted rest
+  cut Free t = alone (t .ahead)
+  cut (Under s claim) t = refl
 
 -- ---- whether the claim passed
 module _ (st : State) (call : Call) where
-  -- up to the claim's, that one too
+  -- up to the claim's, that one too; and those after it
   abbrev pub upTo : ℕ
   upTo = aheadNumber st call ▸ protectedNumber st (protection call)
 
-  in-two : number st call ≡ upTo ▸ rest st call
-  in-two = number-cut st call ∙ sym (rows (aheadNumber st call) (protectedNumber st (protection call)) (rest st call))
+  abbrev after : ℕ
+  after = rest st (protection call) (tests st call)
 
-  number-passed : passes st call ≡ true → number st call ≡ rest st call
+  in-three : number st call ≡ aheadNumber st call ▸ protectedNumber st (protection call) ▸ after
+  unfolding number aheadNumber
+  in-three = cut st (protection call) (tests st call)
+
+  in-two : number st call ≡ upTo ▸ after
+  in-two = in-three ∙ sym (rows (aheadNumber st call) (protectedNumber st (protection call)) after)
+
+  number-passed : passes st call ≡ true → number st call ≡ after
   unfolding passes
-  number-passed p = in-two ∙ pass (rest st call) (eqb-true upTo 0 p)
+  number-passed p = in-two ∙ pass after (eqb-true upTo 0 p)
 
   pub number-stop : passes st call ≡ false → number st call ≡ upTo
   unfolding passes
-  number-stop p = in-two ∙ stop (rest st call) (eqb-false upTo 0 p)
+  number-stop p = in-two ∙ stop after (eqb-false upTo 0 p)
 
   -- a call whose claim did not pass is refused, and leaves the state as it was
   pub number-stopped : passes st call ≡ false → number st call ≡ 0 → ⊥
@@ -111,6 +99,18 @@ module _ (st : State) (call : Call) where
   unfolding left charged
   left-free f = split (refusedAfter st call) (λ e. rw (e, f)) (λ e. rw e)
 
+-- what an accepted call under a claim says: no test ahead of the claim's held, nor one of the claim's, nor one after it
+pub record Accepted (st : State) (call : Call) (s : Session) (claim : Claim) : Type 0 where
+  pub ahead : aheadNumber st call ≡ 0
+  pub claim-passed : admitted st s claim ≡ 0
+  pub after : tests st call .after (checked st s claim) ≡ 0
+
+pub accepted : (st : State) (call : Call) {s : Session} {claim : Claim} → protection call ≡ Under s claim → number st call ≡ 0 → Accepted st call s claim
+unfolding number numberUnder asked aheadNumber admitted
+accepted st call w z =
+    let e = rw w at z in
+    record { ahead = clear-first _ _ e; claim-passed = clear-first _ _ (clear-rest _ _ e); after = clear-rest _ _ (clear-rest _ _ e) }
+
 -- what a call leaves that does nothing but count its claim, accepted or refused afterwards
 pub only-counted : (st : State) (call : Call) {s : Session} {claim : Claim} → protection call ≡ Under s claim → effect st call ≡ counted st s claim → passes st call ≡ true
     → outcome st call .state ≡ counted st s claim
@@ -128,7 +128,7 @@ module _ (st : State) where
   some-unless false h = refl
 
   pub ahead-one : (call : Call) {s : Session} {claim : Claim} → protection call ≡ Under s claim → (aheadNumber st call ≡ 0 → ⊥) → aheadNumber st call ≡ 1
-  unfolding protection aheadNumber
+  unfolding protection aheadNumber endTests recordTests listTests killTests setWordTests
   ahead-one (Open s) e h = cc
   ahead-one (Close s) e h = cc
   ahead-one (Drop s) e h = cc
@@ -144,25 +144,33 @@ module _ (st : State) where
 
 -- what holds of 0, 5, 6, 10 and 15 holds of the tests after a claim, so of the number of a call whose claim passed
 module _ (P : ℕ → Type 0) (none : P 0) (p5 : P 5) (p6 : P 6) (p10 : P 10) (p15 : P 15) (st : State) where
-  rest-by : (call : Call) → P (rest st call)
+  grant-by : (by : Checked) (class : Class) → P (grantNumber by class)
+  grant-by = by-grant P none p10
+
+  after-by : (call : Call) (by : Checked) → P (tests st call .after by)
+  unfolding tests endTests recordTests listTests killTests setWordTests
+  after-by (Open s) by = none
+  after-by (Close s) by = none
+  after-by (Drop s) by = none
+  after-by (Select s byte) by = none
+  after-by (Start s c name) by = none
+  after-by (Continue s c name) by = none
+  after-by (Elevate s c name verdict) by = none
+  after-by (End s u keep) by = by-when P none _ _ (grant-by by saveOwn)
+  after-by (Record s claim class) by = grant-by by class
+  after-by (ListProcesses s claim wanted room) by = by-then P _ _ (by-unless P none _ _ (grant-by by listOthers)) (by-when P none 15 _ p15)
+  after-by (Kill s claim name) by = by-unless P none 6 _ p6
+  after-by (SetWord s claim c word) by = by-then P _ _ (grant-by by setWords) (by-unless P none 5 _ p5)
+
+  rest-by : (w : Protection) (call : Call) → P (rest st w (tests st call))
   unfolding rest
-  rest-by (Open s) = none
-  rest-by (Close s) = none
-  rest-by (Drop s) = none
-  rest-by (Select s byte) = none
-  rest-by (Start s c name) = none
-  rest-by (Continue s c name) = none
-  rest-by (Elevate s c name verdict) = none
-  rest-by (End s u keep) = by-when P none 10 _ p10
-  rest-by (Record s claim class) = by-unless P none 10 _ p10
-  rest-by (ListProcesses s claim wanted room) = by-then P _ _ (by-unless P none 10 _ p10) (by-when P none 15 _ p15)
-  rest-by (Kill s claim name) = by-unless P none 6 _ p6
-  rest-by (SetWord s claim c word) = by-then P _ _ (by-unless P none 10 _ p10) (by-unless P none 5 _ p5)
+  rest-by Free call = none
+  rest-by (Under s claim) call = after-by call (checked st s claim)
 
   pub passed-number-by : (call : Call) → passes st call ≡ true → P (number st call)
-  passed-number-by call p = subst P (sym (number-passed st call p)) (rest-by call)
+  passed-number-by call p = subst P (sym (number-passed st call p)) (rest-by (protection call) call)
 
-module _ (st : State) (call : Call) {s : Session} {claim : Claim} (w : protection call ≡ Under s claim) {by : Admission} (a : by ≡ admission st s claim) where
+module _ (st : State) (call : Call) {s : Session} {claim : Claim} (w : protection call ≡ Under s claim) {by : Checked} (a : by ≡ checked st s claim) where
   prot-is : protectedNumber st (protection call) ≡ by .number
   unfolding protectedNumber
   prot-is = rw (w, checked-number st s claim a)
@@ -180,7 +188,7 @@ module _ (st : State) (call : Call) {s : Session} {claim : Claim} (w : protectio
       rw (z, eq-eqb _ _ e, passed-number-by (λ n. eqb n 1 ≡ false) refl refl refl refl refl st call p))
       (λ y.
       let h : aheadNumber st call ≡ 0 → ⊥ = eqb-false _ _ y in
-      let n : number st call ≡ 1 = number-cut st call ∙ stop _ h ∙ ahead-one st call w h in
+      let n : number st call ≡ 1 = in-three st call ∙ stop _ h ∙ ahead-one st call w h in
       let e : aheadNumber st call ▸ protectedNumber st (protection call) ≡ 1 = stop _ h ∙ ahead-one st call w h in
       rw (z, n, e)))
       (λ z.

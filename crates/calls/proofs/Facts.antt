@@ -20,22 +20,26 @@ use Rattle.table.specs.declared.Among.the-variants.{All, Of}
 use Rattle.table.specs.declared.Process.{Process}
 use Rattle.claims.specs.Numbers as No
 use Rattle.claims.specs.Numbers.{_when_, _unless_, _▸_}
-use Rattle.claims.specs.Module.{isHandle, closedSession, phaseOf, isClosed, isChosen, provisioned, granted, hasActive, activeProcess}
-use Rattle.claims.specs.Claim.{phaseNumber, entered, elevatedNumber, isSpent, turnNumber, userNumber, claimNumber, admitted, claimant}
+use Rattle.claims.specs.Module.{isHandle, closedSession, phaseOf, isClosed, isChosen, grantsOf, provisioned, lookup, hasActive, activeProcess}
+use Rattle.claims.specs.Claim.{phaseNumber, entered, claimed, speaker, claimView, isSpent, turnNumber, claimNumber, checkNumber, checkOf, checked, admitted, lookupNumber, grantNumber}
+use Rattle.claims.specs.declared.Checked.{Checked}
 use Rattle.claims.specs.declared.Claim.{Claim}
 use Rattle.claims.specs.declared.Claim.the-variants.{Elevated, ByUser}
+use Rattle.claims.specs.declared.ClaimView.{ClaimView}
+use Rattle.claims.specs.declared.Class.{Class}
 use Rattle.claims.specs.declared.Grants.{Grants}
+use Rattle.claims.specs.declared.Lookup.the-variants.{NotGranted}
 use Rattle.claims.specs.declared.Phase.{Phase}
 use Rattle.claims.specs.declared.Phase.the-variants.{Chosen}
 use Rattle.claims.specs.declared.SessionState.{SessionState}
 use Rattle.claims.specs.declared.State.{State}
 use Rattle.claims.specs.declared.UserClaim.{UserClaim}
-use Rattle.claims.proofs.Laws.{unless-false, clear-first, clear-rest, clear-when, clear-unless, by-when, by-unless, by-then}
+use Rattle.claims.proofs.Laws.{unless-false, clear-first, clear-rest, clear-when, clear-unless, by-when, by-unless, by-then, by-grant, passed-check, passed-user}
 use Rattle.calls.specs.declared.Answer.the-variants.{Done, RefusedClaim}
 use Rattle.calls.specs.declared.Outcome.{Outcome}
-use Rattle.calls.specs.Calls.{Call, Open, Close, Select, Start, Continue, Elevate, Drop, End, Record, ListProcesses, Kill, SetWord, killOthers, isVersion, hasNamed, reach, number, counted, effect, protection, aheadNumber, protectedNumber, passes, charged, left, answerNumber, refusal, outcome, fresh}
+use Rattle.calls.specs.Calls.{Call, Open, Close, Select, Start, Continue, Elevate, Drop, End, Record, ListProcesses, Kill, SetWord, killOthers, isVersion, hasNamed, reach, endTests, recordTests, listTests, killTests, setWordTests, asked, number, counted, effect, protection, aheadNumber, protectedNumber, passes, charged, left, answerNumber, refusal, outcome, fresh}
 use Rattle.calls.specs.Run.{step}
-use Rattle.calls.proofs.Cut.{left-passed, left-stopped}
+use Rattle.calls.proofs.Cut.{left-passed, left-stopped, accepted}
 use Rattle.calls.proofs.Laws.{outcome-done, outcome-refused, answer-number}
 
 -- ---- a number is 0 to 15, so a refusal's is 1 to 15
@@ -63,19 +67,31 @@ small-turn : (next : ℕ) (u : UserClaim) → turnNumber next u ≤ 15
 unfolding turnNumber
 small-turn next u = search small
 
-small-claim : (st : State) (s : Session) (claim : Claim) → claimNumber st s claim ≤ 15
-unfolding claimNumber elevatedNumber userNumber
-small-claim st s Elevated = search small
-small-claim st s (ByUser u) = search (small, small-turn)
+small-claim : (claim : Claim) (view : ClaimView) → claimNumber claim view ≤ 15
+unfolding claimNumber
+small-claim Elevated view = search small
+small-claim (ByUser u) view = search (small, small-turn)
 
-small-admitted : (st : State) (s : Session) (claim : Claim) → admitted st s claim ≤ 15
-unfolding admitted
-small-admitted st s claim = search (small, small-entered, small-claim)
+small-checked : (st : State) (s : Session) (claim : Claim) → checked st s claim .number ≤ 15
+unfolding checked checkOf checkNumber phaseNumber
+small-checked st s claim = search (small, small-claim) depth 12
 
-ruleset smalls = (small, small-entered, small-admitted)
+small-grant : (by : Checked) (class : Class) → grantNumber by class ≤ 15
+small-grant = by-grant Small (omega arith) (omega arith)
+
+small-none : 0 ≤ 15
+small-none = omega arith
+
+small-granted : (by : Checked) (class : Class) (b : Bool) → (grantNumber by class when b) ≤ 15
+small-granted by class b = by-when Small (omega arith) _ b (small-grant by class)
+
+small-others : (by : Checked) (class : Class) (b : Bool) → (grantNumber by class unless b) ≤ 15
+small-others by class b = by-unless Small (omega arith) _ b (small-grant by class)
+
+ruleset smalls = (small, small-entered, small-checked, small-grant, small-none, small-granted, small-others)
 
 pub number-small : (st : State) (call : Call) → number st call ≤ 15
-unfolding number
+unfolding number asked endTests recordTests listTests killTests setWordTests
 number-small st (Open s) = search smalls
 number-small st (Close s) = search smalls
 number-small st (Select s byte) = search smalls
@@ -145,10 +161,10 @@ module _ (st : State) (s : Session) (byte : ℕ) (e : number st (Select s byte) 
 -- ---- "A stranger's name and an unknown one get the same answer."
 
 -- a kill of a name that the claim does not reach
-module _ (st : State) (s : Session) (claim : Claim) (name : Name) (h : hasNamed st name (reach st (claimant st s claim)) ≡ false) where
+module _ (st : State) (s : Session) (claim : Claim) (name : Name) (h : hasNamed st name (reach (checked st s claim)) ≡ false) where
   unreached : number st (Kill s claim name) ≡ admitted st s claim ▸ 6
-  unfolding number
-  unreached = ap (λ (n : ℕ). admitted st s claim ▸ n) (unless-false 6 h)
+  unfolding number asked killTests admitted _▸_
+  unreached = rw (unless-false 6 h)
 
   six : _≡_ {A = ℕ} 6 0 → ⊥
   six e = omega arith
@@ -158,7 +174,7 @@ module _ (st : State) (s : Session) (claim : Claim) (name : Name) (h : hasNamed 
 
   -- whatever the name: what it leaves, and its answer
   unreached-left : left st (Kill s claim name) ≡ cond (eqb (admitted st s claim) 0) (counted st s claim) st
-  unfolding passes protection aheadNumber protectedNumber charged _▸_
+  unfolding passes protection aheadNumber killTests protectedNumber charged _▸_
   unreached-left =
       split (eqb (admitted st s claim) 0) (λ e. rw e (left-passed st (Kill s claim name) e unreached-not)) (λ e. rw e (left-stopped st (Kill s claim name) e))
 
@@ -166,9 +182,9 @@ module _ (st : State) (s : Session) (claim : Claim) (name : Name) (h : hasNamed 
   unfolding refusal protection
   refused = outcome-refused st (Kill s claim name) unreached-not ∙ rw (unreached-left, unreached)
 
-module _ (st : State) (s : Session) (claim : Claim) (c : Credential) (mine : claimant st s claim ≡ c) (lacks : granted st c killOthers ≡ false) where
-  own : reach st (claimant st s claim) ≡ Of c
-  unfolding reach granted
+module _ (st : State) (s : Session) (claim : Claim) (c : Credential) (mine : speaker st s claim ≡ c) (lacks : lookup (grantsOf st c) killOthers ≡ NotGranted) where
+  own : reach (checked st s claim) ≡ Of c
+  unfolding reach checked checkOf claimView grantNumber lookupNumber
   own = rw (mine, lacks)
 
   -- what no process has, none of the credential's has
@@ -227,19 +243,12 @@ module _ (st : State) where
   is-chosen s e = clear-unless No.noVersion tt _ (clear-rest _ _ (clear-rest _ _ e))
 
   pub needs : (s : Session) (claim : Claim) → admitted st s claim ≡ 0 → Needs st s claim
-  unfolding admitted claimNumber elevatedNumber userNumber turnNumber
-  needs s Elevated e = clear-unless No.noProcess tt _ (clear-rest _ _ (clear-rest _ _ e))
+  unfolding claimed
+  needs s Elevated e = passed-check st s Elevated e .active
   needs s (ByUser u) e =
-      let user = clear-rest _ _ (clear-rest _ _ e) in
-      let turn = clear-rest _ _ (clear-rest _ _ user) in
-      record {
-        chosen = is-chosen s (clear-first _ _ (clear-rest _ _ e));
-        owner = clear-unless No.credential tt _ (clear-first _ _ user);
-        active = clear-unless No.noProcess tt _ (clear-first _ _ (clear-rest _ _ user));
-        unspent = clear-when No.spent tt _ (clear-first _ _ turn);
-        turn = eqb-true _ _ (clear-unless No.outOfTurn tt _ (clear-first _ _ (clear-rest _ _ turn)));
-        yes = clear-unless No.verdict tt _ (clear-rest _ _ (clear-rest _ _ turn));
-      }
+      let check = passed-check st s (ByUser u) e in
+      let user = passed-user st s u e in
+      record { chosen = check .chosen; owner = user .owner; active = check .active; unspent = user .unspent; turn = user .turn; yes = user .yes }
 
   -- an accepted call had a yes, and never that alone
   pub verdict-needs : (call : Call) → number st call ≡ 0 → VerdictNeeds st call
@@ -257,11 +266,11 @@ module _ (st : State) where
         yes = clear-unless No.verdict tt _ (clear-first _ _ (clear-rest _ _ rest));
       }
   verdict-needs (Drop s) e = tt
-  verdict-needs (End s u keep) e = needs s (ByUser u) (clear-first _ _ e)
-  verdict-needs (Record s claim class) e = needs s claim (clear-first _ _ (clear-rest _ _ e))
-  verdict-needs (ListProcesses s claim wanted room) e = needs s claim (clear-first _ _ (clear-rest _ _ e))
-  verdict-needs (Kill s claim name) e = needs s claim (clear-first _ _ e)
-  verdict-needs (SetWord s claim c word) e = needs s claim (clear-first _ _ (clear-rest _ _ e))
+  verdict-needs (End s u keep) e = needs s (ByUser u) (accepted st (End s u keep) refl e .claim-passed)
+  verdict-needs (Record s claim class) e = needs s claim (accepted st (Record s claim class) refl e .claim-passed)
+  verdict-needs (ListProcesses s claim wanted room) e = needs s claim (accepted st (ListProcesses s claim wanted room) refl e .claim-passed)
+  verdict-needs (Kill s claim name) e = needs s claim (accepted st (Kill s claim name) refl e .claim-passed)
+  verdict-needs (SetWord s claim c word) e = needs s claim (accepted st (SetWord s claim c word) refl e .claim-passed)
 
 -- ---- a fresh module "has all sessions closed and no process"
 closed-at : (n : ℕ) → isClosed (getD (replicate 4 closedSession) n closedSession .phase) ≡ true

@@ -2,13 +2,13 @@
 -- Assumes nothing.
 use Prim.Native.Nat.{ℕ, _+_, _*_, _<_, _≤_}
 use mathlib.Core.Path.{_≡_, refl, sym, ap, _∙_}
-use mathlib.Core.Bool.{Bool, true, false, not, _&&_, _||_}
+use mathlib.Core.Bool.{Bool, true, false, not}
 use mathlib.Core.List.{List, []}
 use native.Mathlib.Omega.{arith}
-use lib.Dec.{eqb, ltb, leb}
+use lib.Dec.{T, eqb, ltb, leb}
 use lib.ListN.{length, getD, set, replicate, length-map}
 use lib.Seq.{set-out}
-use borrow.Author.Tests.{eqb-false, eq-eqb, ne-eqb, le-leb, lt-leb}
+use borrow.Author.Tests.{eqb-false, ne-eqb, le-leb, lt-leb, lt-ltb, le-ltb, not-true, not-false}
 use mir.Val.{Fits}
 use mir.Syntax.{w16, w64}
 use Rattle.lists.proofs.Loops.{Mapped, mapped-none, mapped-more, mapped-all}
@@ -26,30 +26,32 @@ use Rattle.table.specs.declared.Process.{Process}
 use Rattle.table.specs.declared.Table.{Table}
 use Rattle.table.proofs.Laws.{count-few}
 use Rattle.table.proofs.Searched.{found-at, found-none, found-place}
-use Rattle.claims.specs.Numbers.{_▸_}
-use Rattle.claims.specs.Module.{isCredential, provisioned, wordGrants, granted, closedSession, unprovisioned, hasActive, activePlace, activeProcess}
-use Rattle.claims.specs.Claim.{isSpent, turnNumber, userNumber, claimNumber, admitted, claimant, claimed, admission}
-use Rattle.claims.specs.declared.Admission.{Admission}
+use Rattle.claims.specs.Numbers.{_when_, _unless_, _▸_}
+use Rattle.claims.specs.Module.{isCredential, closedSession, unprovisioned, hasActive, activePlace, activeProcess}
+use Rattle.claims.specs.Claim.{isSpent, claimed, placed, checked, grantNumber}
+use Rattle.claims.specs.declared.Checked.{Checked}
 use Rattle.claims.specs.declared.Claim.{Claim}
 use Rattle.claims.specs.declared.Claim.the-variants.{Elevated, ByUser}
 use Rattle.claims.specs.declared.Class.{Class}
 use Rattle.claims.specs.declared.Grants.{Grants}
 use Rattle.claims.specs.declared.Phase.{Phase}
 use Rattle.claims.specs.declared.Phase.the-variants.{Closed, Opened, Chosen}
+use Rattle.claims.specs.declared.Placed.{Placed}
 use Rattle.claims.specs.declared.State.{State}
 use Rattle.claims.specs.declared.UserClaim.{UserClaim}
-use Rattle.claims.proofs.Laws.{clear-first, clear-rest, clear-when, stop, pass, rows, admission-place}
-use Rattle.claims.proofs.Rules.{rules as claim-rules}
+use Rattle.claims.proofs.Laws.{clear-first, clear-rest, stop, pass, rows, when-true, when-false, unless-true, unless-false, passed-user, checked-number, checked-place}
+use Rattle.claims.proofs.Rules.{rules as claim-rules, nonzero}
 use Rattle.calls.specs.declared.Answer.{Answer}
 use Rattle.calls.specs.declared.Answer.the-variants.{Done, Refused}
 use Rattle.calls.specs.declared.Listed.{Listed}
+use Rattle.calls.specs.declared.Measured.{Measured}
 use Rattle.calls.specs.declared.Outcome.{Outcome}
 use Rattle.calls.specs.declared.Wanted.{Wanted}
 use Rattle.calls.specs.declared.Wanted.the-variants.{Every, Only}
 use Rattle.calls.specs.Listing.{amongOf, rowsOf, messageLength}
-use Rattle.calls.specs.Calls.{Call, Open, Close, Select, Start, Continue, Elevate, Drop, End, Record, ListProcesses, Kill, SetWord, saveOwn, listOthers, killOthers, isDevice, isVersion, isWanted, isFull, hasNamed, namedPlace, lacksSaving, isOwn, mayList, isShort, reachBy, reach, number, withTable, withPhase, withWord, userProcess, elevation, activated, saved, oneMore, counted, ended, effect, Protection, Free, protection, left, refusal, outcome, listed, taken, fresh}
+use Rattle.calls.specs.Calls.{Call, Open, Close, Select, Start, Continue, Elevate, Drop, End, Record, ListProcesses, Kill, SetWord, killOthers, isDevice, isVersion, isWanted, isFull, hasNamed, namedPlace, isOwn, isShort, reach, Protection, Free, protection, Tests, endTests, recordTests, listTests, killTests, setWordTests, tests, asked, number, withTable, withPhase, withGrants, userProcess, elevation, activated, saved, oneMore, counted, ended, effect, left, refusal, outcome, measured, listed, taken, fresh}
 use Rattle.calls.proofs.Cut.{left-free}
-use Rattle.calls.proofs.Laws.{outcome-done, outcome-refused, checked-number, checked-reach, record-number, list-number, kill-number, set-word-number, end-number}
+use Rattle.calls.proofs.Laws.{outcome-done, outcome-refused, number-by}
 
 -- ---- a call: refused with its number, or done
 module _ (st : State) (call : Call) {n : ℕ} {r : Outcome} (e : n ≡ number st call) where
@@ -64,14 +66,14 @@ module _ (st : State) (call : Call) {n : ℕ} {r : Outcome} (e : n ≡ number st
   pub by-effect : {x : State} → n ≡ 0 → r ≡ record { state = x; answer = Done } → x ≡ effect st call → r ≡ outcome st call
   by-effect z w q = w ∙ rw (outcome-done st call (sym e ∙ z), q)
 
--- ---- what an accepted row of tests says of a part of it
-pub clear-begin : {n a : ℕ} (b : ℕ) → n ≡ a ▸ b → n ≡ 0 → a ≡ 0
-clear-begin {n} {a} b e z = clear-first a b (sym e ∙ z)
+-- ---- two and three tests that were asked together, with others behind them
+module _ {n : ℕ} (a b m : ℕ) (e : n ≡ a ▸ b) where
+  pub both-stop : (n ≡ 0 → ⊥) → n ≡ a ▸ b ▸ m
+  both-stop h = e ∙ sym (stop m (λ z. h (e ∙ z))) ∙ rows a b m
 
-pub clear-second : {n : ℕ} (a : ℕ) {b : ℕ} (c : ℕ) → n ≡ a ▸ b ▸ c → n ≡ 0 → b ≡ 0
-clear-second a {b} c e z = clear-first b c (clear-rest a (b ▸ c) (sym e ∙ z))
+  pub both-pass : {r : ℕ} → n ≡ 0 → r ≡ m → r ≡ a ▸ b ▸ m
+  both-pass z q = q ∙ sym (pass m (sym e ∙ z)) ∙ rows a b m
 
--- ---- three tests that were asked together, with others behind them
 module _ {n : ℕ} (a b c m : ℕ) (e : n ≡ a ▸ b ▸ c) where
   together : (a ▸ b ▸ c) ▸ m ≡ a ▸ b ▸ c ▸ m
   together = rows a (b ▸ c) m ∙ ap (λ (x : ℕ). a ▸ x) (rows b c m)
@@ -86,8 +88,8 @@ module _ {n : ℕ} (a b c m : ℕ) (e : n ≡ a ▸ b ▸ c) where
 pub phase-outside : (st : State) (s : Session) (phase : Phase) → length (st .sessions) ≡ 4 → 4 ≤ s .0 → st ≡ withPhase st s phase
 phase-outside st s phase h k = rw (set-out (st .sessions) (s .0) (record { phase = phase }) (omega arith))
 
-pub word-outside : (st : State) (c : Credential) (word : ℕ) → length (st .credentials) ≡ 8 → 8 ≤ c .0 → st ≡ withWord st c word
-word-outside st c word h k = rw (set-out (st .credentials) (c .0) (record { provisioned = true; word = word }) (omega arith))
+pub grants-outside : (st : State) (c : Credential) (grants : Grants) → length (st .credentials) ≡ 8 → 8 ≤ c .0 → st ≡ withGrants st c grants
+grants-outside st c grants h k = rw (set-out (st .credentials) (c .0) grants (omega arith))
 
 -- ---- what the tests ask of the table
 module _ (st : State) (which : Active) {f : Found} (e : f ≡ firstPlace (isActive which) (standing (st .table))) where
@@ -116,6 +118,21 @@ module _ (st : State) (name : Name) (among : Among) {f : Found} (e : f ≡ first
   unfolding namedPlace size
   named-placed w q = q ∙ rw (w, e) (found-place (isNamed name among) (standing (st .table)))
 
+module _ (st : State) (name : Name) (by : Checked) {among : Among} {f : Found} (a : among ≡ reach by) (e : f ≡ firstPlace (isNamed name among) (standing (st .table))) where
+  pub kill-none : (n : ℕ) → f ≡ Nothing → n ≡ n unless hasNamed st name (reach by)
+  kill-none n q = sym (unless-false n (rw (← a) (sym (named-none st name among e q))))
+
+  pub kill-found : (n : ℕ) {k : ℕ} → f ≡ At k → 0 ≡ n unless hasNamed st name (reach by)
+  kill-found n q = sym (unless-true n (rw (← a) (sym (named-some st name among e q))))
+
+  pub kill-place : {k : ℕ} → f ≡ At k → k ≡ namedPlace st name (reach by)
+  unfolding namedPlace
+  kill-place q = found-at (isNamed name among) (standing (st .table)) (sym e ∙ q) .is ∙ rw a
+
+pub kill-at : (st : State) (name : Name) (by : Checked) {p : Placed} → p ≡ placed (asked (killTests st name) by) (namedPlace st name (reach by)) → p .number ≡ 0 → p .place ≡ namedPlace st name (reach by)
+unfolding placed
+kill-at st name by e z = let n : asked (killTests st name) by ≡ 0 = sym (ap (λ (p : Placed). p .number) e) ∙ z in rw (e, n)
+
 pub full-is : (st : State) {n : ℕ} → n ≡ size (st .table) → leb 12 n ≡ isFull st
 unfolding isFull
 full-is st e = rw e
@@ -134,12 +151,28 @@ module _ (class : Class) where
   unfolding isDevice
   device-low h = rw (lt-leb 4 (class .0) h)
 
-module _ (word : ℕ) {keep : Bool} where
-  pub saving-kept : {b : Bool} → keep ≡ true → b ≡ wordGrants word saveOwn → not b ≡ keep && not (wordGrants word saveOwn)
-  saving-kept k e = rw (k, e)
+-- a test that is asked for on a condition
+module _ (m : ℕ) (b : Bool) where
+  pub asked-when : {n : ℕ} → not b ≡ false → n ≡ m → n ≡ m when b
+  unfolding _when_
+  asked-when h e = rw (not-false b h) e
 
-  pub saving-not : keep ≡ false → keep ≡ keep && not (wordGrants word saveOwn)
-  saving-not k = rw k
+  pub not-asked : not b ≡ true → 0 ≡ m when b
+  unfolding _when_
+  not-asked h = rw (not-true b h)
+
+  pub asked-unless : {n : ℕ} {a : Bool} → a ≡ b → a ≡ false → n ≡ m → n ≡ m unless b
+  unfolding _unless_
+  asked-unless q h e = rw (← q, h) e
+
+  pub own-unless : {a : Bool} → a ≡ b → a ≡ true → 0 ≡ m unless b
+  unfolding _unless_
+  own-unless q h = rw (← q, h)
+
+-- no test ahead of the claim's
+pub none-ahead : (m : ℕ) {r : ℕ} → r ≡ m → r ≡ 0 ▸ m
+unfolding _▸_
+none-ahead m e = e
 
 module _ {wanted : Wanted} where
   pub wanted-every : wanted ≡ Every → true ≡ isWanted wanted
@@ -165,13 +198,6 @@ module _ {wanted : Wanted} where
     unfolding isOwn
     own-only e = rw e
 
-module _ (word : ℕ) (c : Credential) (wanted : Wanted) {a : Bool} (e : a ≡ isOwn c wanted) where
-  pub list-own : a ≡ true → a ≡ isOwn c wanted || wordGrants word listOthers
-  list-own h = rw (sym e ∙ h) h
-
-  pub list-others : {b : Bool} → a ≡ false → b ≡ wordGrants word listOthers → b ≡ isOwn c wanted || wordGrants word listOthers
-  list-others h q = q ∙ rw (sym e ∙ h)
-
 -- ---- the listing's length
 module _ (st : State) (wanted : Wanted) {among : Among} {n : ℕ} (a : among ≡ amongOf wanted) (e : n ≡ countAmong (st .table) among) where
   few : length (st .table .places) ≡ 12 → n ≤ 12
@@ -187,34 +213,48 @@ module _ (st : State) (wanted : Wanted) {among : Among} {n : ℕ} (a : among ≡
   unfolding messageLength rowsOf countAmong
   length-is = rw (length-map, ← a, e)
 
-pub short-is : (st : State) (wanted : Wanted) (room : ℕ) {n : ℕ} → n ≡ messageLength (length (rowsOf st wanted)) → ltb room n ≡ isShort st wanted room
-unfolding isShort
-short-is st wanted room e = rw e
+module _ (st : State) (wanted : Wanted) (room k : ℕ) {n : ℕ} (e : n ≡ messageLength (length (rowsOf st wanted))) where
+  pub short-room : room < n → k ≡ k when isShort st wanted room
+  unfolding isShort
+  short-room h = sym (when-true k (rw (← e) (lt-ltb room n h)))
 
--- ---- whom a kill reaches
-module _ (word : ℕ) (c : Credential) {b : Bool} (e : b ≡ wordGrants word killOthers) where
-  pub reach-all : b ≡ true → All ≡ reachBy word c
-  reach-all h = rw (sym e ∙ h)
+  pub enough-room : n ≤ room → 0 ≡ k when isShort st wanted room
+  unfolding isShort
+  enough-room h = sym (when-false k (rw (← e) (le-ltb room n h)))
 
-  pub reach-own : b ≡ false → Of c ≡ reachBy word c
-  reach-own h = rw (sym e ∙ h)
+-- a listing that is refused, and one that has its length
+module _ (m long : ℕ) where
+  pub measured-done : {k : ℕ} → 0 ≡ m → k ≡ long → _≡_ {A = Measured} (record { number = 0; length = k }) (measured m long)
+  unfolding measured
+  measured-done e q = rw (← e, q)
 
-pub named-among : (st : State) (name : Name) {a among : Among} {b : Bool} → a ≡ among → b ≡ hasNamed st name a → b ≡ hasNamed st name among
-named-among st name e q = q ∙ rw e
+  module _ {r : Measured} {n : ℕ} (q : r ≡ record { number = n; length = 0 }) where
+    pub refused-measured : (n ≡ 0 → ⊥) → n ≡ m → r ≡ measured m long
+    unfolding measured
+    refused-measured h e = q ∙ rw (← e, ne-eqb n 0 h)
+
+    pub number-measured : T (ltb 0 n) → n ≡ m → r ≡ measured m long
+    number-measured some e = refused-measured (nonzero some) e
+
+-- ---- whom a kill reaches, and what its search says
+module _ (by : Checked) {n : ℕ} (e : n ≡ grantNumber by killOthers) where
+  pub reach-all : n ≡ 0 → All ≡ reach by
+  unfolding reach
+  reach-all h = rw (← e, h)
+
+  pub reach-own : (n ≡ 0 → ⊥) → Of (by .credential) ≡ reach by
+  unfolding reach
+  reach-own h = rw (← e, ne-eqb n 0 h)
 
 -- ---- the claim counted
 module _ (st : State) (s : Session) where
-  module _ (u : UserClaim) {by : Admission} (e : by ≡ admission st s (ByUser u)) (z : by .number ≡ 0) where
+  module _ (u : UserClaim) {by : Checked} (e : by ≡ checked st s (ByUser u)) (z : by .number ≡ 0) where
     unspent : isSpent (activeProcess st (UserOf s (u .credential)) .next) ≡ false
-    unfolding admitted claimNumber userNumber turnNumber
-    unspent =
-        let p : Process = activeProcess st (UserOf s (u .credential)) in
-        let a : admitted st s (ByUser u) ≡ 0 = sym (checked-number st s (ByUser u) e) ∙ z in
-        clear-when 13 tt (isSpent (p .next)) (clear-first _ _ (clear-rest _ _ (clear-rest _ _ (clear-rest _ _ (clear-rest _ _ a)))))
+    unspent = passed-user st s u (sym (checked-number st s (ByUser u) e) ∙ z) .unspent
 
     pub claim-place : by .place ≡ activePlace st (UserOf s (u .credential))
     unfolding claimed
-    claim-place = rw e (admission-place st s (ByUser u) (sym (checked-number st s (ByUser u) e) ∙ z))
+    claim-place = checked-place st s (ByUser u) e z
 
     pub next-fits : {p : Process} → p ≡ processAt (st .table) (by .place) → p .next < 65536 → Fits w16 (p .next + 1)
     unfolding isSpent activeProcess
@@ -233,11 +273,8 @@ module _ (st : State) (s : Session) where
     unfolding counted
     counted-elevated e = rw e
 
-    pub counted-user : {u : UserClaim} {r : State} → claim ≡ ByUser u → r ≡ counted st s (ByUser u) → r ≡ counted st s claim
-    counted-user e q = q ∙ rw e
-
-    pub admission-user : (u : UserClaim) {by : Admission} → claim ≡ ByUser u → by ≡ admission st s claim → by ≡ admission st s (ByUser u)
-    admission-user u e z = rw (← e) z
+    pub checked-user : (u : UserClaim) {by : Checked} → claim ≡ ByUser u → by ≡ checked st s claim → by ≡ checked st s (ByUser u)
+    checked-user u e z = rw (← e) z
 
 -- ---- the process at a place saved or removed
 module _ (st : State) (at : ℕ) {keep : Bool} {t : Table} {r : State} where
@@ -301,19 +338,19 @@ module _ (st : State) {x : State} where
     effect-drop s a b = w ∙ rw (b, a)
 
   module _ {y : State} where
-    pub effect-end : (s : Session) (u : UserClaim) (keep : Bool) {by : Admission} → by ≡ admission st s (ByUser u) → by .number ≡ 0
+    pub effect-end : (s : Session) (u : UserClaim) (keep : Bool) {by : Checked} → by ≡ checked st s (ByUser u) → by .number ≡ 0
         → y ≡ counted st s (ByUser u) → x ≡ ended y (by .place) keep → x ≡ effect st (End s u keep)
     unfolding effect
     effect-end s u keep e z b c = c ∙ rw (b, claim-place st s u e z)
 
     module _ (s : Session) (claim : Claim) (e : y ≡ counted st s claim) where
-      pub effect-kill : (name : Name) {by : Admission} {among : Among} {at : ℕ} {t : Table}
-          → by ≡ admission st s claim → among ≡ reachBy (by .word) (by .credential) → at ≡ namedPlace st name among → t ≡ removed (y .table) at → x ≡ withTable y t
+      pub effect-kill : (name : Name) {by : Checked} {at : ℕ} {t : Table}
+          → by ≡ checked st s claim → at ≡ namedPlace st name (reach by) → t ≡ removed (y .table) at → x ≡ withTable y t
           → x ≡ effect st (Kill s claim name)
       unfolding effect
-      effect-kill name a b d f g = g ∙ rw (f, d, b ∙ checked-reach st s claim a, e)
+      effect-kill name a d f g = g ∙ rw (f, d, a, e)
 
-      pub effect-set-word : (c : Credential) (word : ℕ) → x ≡ withWord y c word → x ≡ effect st (SetWord s claim c word)
+      pub effect-set-word : (c : Credential) (word : ℕ) → x ≡ withGrants y c (record { provisioned = true; word = word }) → x ≡ effect st (SetWord s claim c word)
       unfolding effect
       effect-set-word c word a = a ∙ rw e
 
@@ -321,11 +358,54 @@ module _ (st : State) {x : State} where
   unfolding effect
   effect-record s claim class e = e
 
-module _ (st : State) (s : Session) (claim : Claim) (wanted : Wanted) (room : ℕ) {n : ℕ} {o : Outcome} (e : n ≡ number st (ListProcesses s claim wanted room)) where
-  pub list-done : {x : State} {m : ℕ} → n ≡ 0 → x ≡ counted st s claim → o ≡ record { state = x; answer = Done } → m ≡ messageLength (length (rowsOf st wanted)) → _≡_ {A = Listed} (record { outcome = o; length = m }) (listed st s claim wanted room)
-  unfolding listed effect
-  list-done h a q m =
-      let z : number st (ListProcesses s claim wanted room) ≡ 0 = sym e ∙ h in
-      rw (q, a, m, outcome-done st (ListProcesses s claim wanted room) z, eq-eqb (number st (ListProcesses s claim wanted room)) 0 z)
+-- ---- the number of a protected call, by what the check of its claim came to; and that the claim passed, where it is 0
+module _ (st : State) (s : Session) (claim : Claim) {by : Checked} (e : by ≡ checked st s claim) where
+  pub record-number : {n : ℕ} (class : Class) → n ≡ asked (recordTests class) by → n ≡ number st (Record s claim class)
+  unfolding tests protection
+  record-number class q = number-by st (Record s claim class) refl e q
 
-pub ruleset rules = (claim-rules, by-refusal, by-effect, clear-begin, clear-second, known-stop, known-pass, phase-outside, word-outside, active-none, active-some, active-placed, named-none, named-some, named-placed, full-is, version-is, device-high, device-low, saving-kept, saving-not, wanted-every, wanted-only, among-every, among-only, own-every, own-only, list-own, list-others, length-fits, length-whole, length-is, short-is, reach-all, reach-own, named-among, next-fits, counted-is, counted-elevated, counted-user, admission-user, ended-kept, ended-removed, taken-whole, taken-zero, mapped-none, take-on, fresh-is, effect-open, effect-select, effect-close, effect-start, effect-elevate, effect-continue, effect-drop, effect-end, effect-kill, effect-set-word, effect-record, list-done, record-number, list-number, kill-number, set-word-number, end-number)
+  pub set-word-number : {n : ℕ} (c : Credential) (word : ℕ) → n ≡ asked (setWordTests st c) by → n ≡ number st (SetWord s claim c word)
+  unfolding tests protection
+  set-word-number c word q = number-by st (SetWord s claim c word) refl e q
+
+  pub kill-number : {p : Placed} (name : Name) → p ≡ placed (asked (killTests st name) by) (namedPlace st name (reach by)) → p .number ≡ number st (Kill s claim name)
+  unfolding tests protection placed
+  kill-number name q = rw q (number-by st (Kill s claim name) refl e refl)
+
+  pub list-number : {m : Measured} (wanted : Wanted) (room : ℕ) → m ≡ measured (asked (listTests st wanted room) by) (messageLength (length (rowsOf st wanted)))
+      → m .number ≡ number st (ListProcesses s claim wanted room)
+  unfolding tests protection measured
+  list-number wanted room q = rw q (number-by st (ListProcesses s claim wanted room) refl e refl)
+
+pub end-number : (st : State) (s : Session) (u : UserClaim) {by : Checked} → by ≡ checked st s (ByUser u) → {n : ℕ} (keep : Bool)
+    → n ≡ asked (endTests keep) by → n ≡ number st (End s u keep)
+unfolding tests protection
+end-number st s u e keep q = number-by st (End s u keep) refl e q
+
+module _ (by : Checked) (t : Tests) where
+  pub asked-clear : {n : ℕ} → n ≡ asked t by → n ≡ 0 → by .number ≡ 0
+  unfolding asked
+  asked-clear e z = clear-first _ _ (clear-rest _ _ (sym e ∙ z))
+
+  pub placed-clear : {p : Placed} (at : ℕ) → p ≡ placed (asked t by) at → p .number ≡ 0 → by .number ≡ 0
+  unfolding placed
+  placed-clear at e z = asked-clear (ap (λ (p : Placed). p .number) e) z
+
+  pub measured-clear : {m : Measured} (long : ℕ) → m ≡ measured (asked t by) long → m .number ≡ 0 → by .number ≡ 0
+  unfolding measured
+  measured-clear long e z = asked-clear (ap (λ (m : Measured). m .number) e) z
+
+-- ---- the outcome of a list call, by what its tests came to
+pub list-is : (st : State) (s : Session) (claim : Claim) (wanted : Wanted) (room : ℕ) {by : Checked} {m : Measured} {o : Outcome} → by ≡ checked st s claim
+    → m ≡ measured (asked (listTests st wanted room) by) (messageLength (length (rowsOf st wanted))) → o ≡ outcome st (ListProcesses s claim wanted room)
+    → _≡_ {A = Listed} (record { outcome = o; length = m .length }) (listed st s claim wanted room)
+unfolding listed
+list-is st s claim wanted room {by} a e q =
+    let n : asked (listTests st wanted room) by ≡ number st (ListProcesses s claim wanted room) = unfold tests protection in number-by st (ListProcesses s claim wanted room) refl a refl in
+    rw (q, e, n)
+
+pub effect-list : (st : State) {x : State} (s : Session) (claim : Claim) (wanted : Wanted) (room : ℕ) → x ≡ counted st s claim → x ≡ effect st (ListProcesses s claim wanted room)
+unfolding effect
+effect-list st s claim wanted room e = e
+
+pub ruleset rules = (claim-rules, by-refusal, by-effect, both-stop, both-pass, known-stop, known-pass, phase-outside, grants-outside, active-none, active-some, active-placed, named-none, named-some, named-placed, full-is, version-is, device-high, device-low, asked-when, not-asked, asked-unless, own-unless, none-ahead, wanted-every, wanted-only, among-every, among-only, own-every, own-only, length-fits, length-whole, length-is, short-room, enough-room, measured-done, refused-measured, number-measured, reach-all, reach-own, kill-none, kill-found, kill-place, kill-at, next-fits, counted-is, counted-elevated, checked-user, ended-kept, ended-removed, taken-whole, taken-zero, mapped-none, take-on, fresh-is, effect-open, effect-select, effect-close, effect-start, effect-elevate, effect-continue, effect-drop, effect-end, effect-kill, effect-set-word, effect-record, effect-list, record-number, list-number, kill-number, set-word-number, end-number, asked-clear, placed-clear, measured-clear, list-is)

@@ -11,10 +11,10 @@ use Rattle.names.specs.Names.{sameBytes, sameName}
 use Rattle.names.specs.declared.Credential.{Credential}
 use Rattle.names.specs.declared.Name.{Name}
 use Rattle.names.specs.declared.Session.{Session}
-use Rattle.table.specs.Table.{standing, size, tableOf, processAt, isActive, isActiveIn, isAmong, isNamed, appended, replaced, removed, withoutSession}
+use Rattle.table.specs.Table.{standing, size, tableOf, processAt, firstPlace, isActive, isActiveIn, isAmong, isNamed, appended, replaced, removed, withoutSession}
 use Rattle.claims.specs.Numbers.{_when_, _unless_, _▸_}
-use Rattle.claims.specs.Module.{isHandle, phaseOf, isClosed, isChosen, isCredential, provisioned, wordOf, wordGrants, granted, hasActive, activePlace, activeProcess}
-use Rattle.claims.specs.Claim.{phaseNumber, entered, isClaim, elevatedNumber, isSpent, turnNumber, userNumber, claimNumber, admitted, elevatedCredential, claimant}
+use Rattle.claims.specs.Module.{isHandle, phaseOf, isClosed, isChosen, isCredential, grantsOf, provisioned, wordGrants, lookup, hasActive, activePlace, activeProcess}
+use Rattle.claims.specs.Claim.{phaseNumber, entered, claimed, speaker, claimView, isClaim, isSpent, turnNumber, claimNumber, checkNumber, placed, checkOf, checked, admitted, lookupNumber, grantNumber}
 use Rattle.claims.specs.declared.Claim.{Claim}
 use Rattle.claims.specs.declared.Claim.the-variants.{ByUser}
 use Rattle.claims.specs.declared.Class.{Class}
@@ -22,7 +22,7 @@ use Rattle.claims.specs.declared.Grants.{Grants}
 use Rattle.claims.specs.declared.State.{State}
 use Rattle.claims.specs.declared.UserClaim.{UserClaim}
 use Rattle.calls.specs.Listing.{rowsOf, messageLength, listing}
-use Rattle.calls.specs.Calls.{Call, isDevice, isVersion, isWanted, isFull, hasNamed, namedPlace, lacksSaving, isOwn, mayList, isShort, reach, number, counted, ended, effect, protection, aheadNumber, protectedNumber, passes, refusedAfter, charged, left, refusal, outcome, taken, fresh}
+use Rattle.calls.specs.Calls.{Call, isDevice, isVersion, isWanted, isFull, hasNamed, namedPlace, isOwn, isShort, reach, endTests, recordTests, listTests, killTests, setWordTests, tests, asked, numberUnder, number, counted, ended, effect, protection, aheadNumber, protectedNumber, passes, refusedAfter, charged, left, refusal, outcome, taken, fresh}
 use Rattle.calls.specs.Run.{step, run, numbers}
 
 -- "P is 16 zero bytes then 32 of 0x11; Q is 16 zero bytes then 32 of 0x22; R is P with its last byte 0x12."
@@ -93,5 +93,5 @@ after st steps = run st (callsOf steps)
 
 -- all that a worked sequence computes with: who says `unfolding computed` has it open
 unfoldable pub computed : Type 1
-unfolding any firstIndex reject select join removeAt padded bytesOf sameBytes sameName standing size tableOf processAt isActive isActiveIn isAmong isNamed appended replaced removed withoutSession _when_ _unless_ _▸_ isHandle phaseOf isClosed isChosen isCredential provisioned wordOf wordGrants granted hasActive activePlace activeProcess phaseNumber entered isClaim elevatedNumber isSpent turnNumber userNumber claimNumber admitted elevatedCredential claimant rowsOf messageLength listing isDevice isVersion isWanted isFull hasNamed namedPlace lacksSaving isOwn mayList isShort reach number counted ended effect protection aheadNumber protectedNumber passes refusedAfter charged left refusal outcome taken fresh step run numbers
+unfolding any firstIndex reject select join removeAt padded bytesOf sameBytes sameName standing size tableOf processAt firstPlace isActive isActiveIn isAmong isNamed appended replaced removed withoutSession _when_ _unless_ _▸_ isHandle phaseOf isClosed isChosen isCredential grantsOf provisioned wordGrants lookup hasActive activePlace activeProcess phaseNumber entered claimed speaker claimView isClaim isSpent turnNumber claimNumber checkNumber placed checkOf checked admitted lookupNumber grantNumber rowsOf messageLength listing isDevice isVersion isWanted isFull hasNamed namedPlace isOwn isShort reach endTests recordTests listTests killTests setWordTests tests asked numberUnder number counted ended effect protection aheadNumber protectedNumber passes refusedAfter charged left refusal outcome taken fresh step run numbers
 computed = Type 0

@@ -1,6 +1,6 @@
 -- "Calls, with the order of their checks": of each call the tests in their order, each with its number, and what it does where none holds
 use Prim.Native.Nat.{ℕ, _+_}
-use mathlib.Core.Bool.{Bool, true, false, cond, not, _&&_, _||_}
+use mathlib.Core.Bool.{Bool, true, false, cond, not, _&&_}
 use mathlib.Core.List.{List, [], _∷_, map}
 use lib.Dec.{eqb, ltb, leb}
 use lib.ListN.{length, set, replicate}
@@ -18,8 +18,9 @@ use Rattle.table.specs.declared.Process.{Process}
 use Rattle.table.specs.declared.Table.{Table}
 use Rattle.claims.specs.Numbers as No
 use Rattle.claims.specs.Numbers.{_when_, _unless_, _▸_}
-use Rattle.claims.specs.Module.{isHandle, closedSession, phaseOf, isClosed, isCredential, unprovisioned, provisioned, wordOf, wordGrants, granted, hasActive, activePlace, activeProcess}
-use Rattle.claims.specs.Claim.{entered, admitted, claimant}
+use Rattle.claims.specs.Module.{isHandle, closedSession, phaseOf, isClosed, isCredential, provisioned, hasActive, activePlace, activeProcess}
+use Rattle.claims.specs.Claim.{entered, checked, admitted, grantNumber}
+use Rattle.claims.specs.declared.Checked.{Checked}
 use Rattle.claims.specs.declared.Claim.{Claim}
 use Rattle.claims.specs.declared.Claim.the-variants.{Elevated, ByUser}
 use Rattle.claims.specs.declared.Class.{Class}
@@ -31,6 +32,7 @@ use Rattle.claims.specs.declared.UserClaim.{UserClaim}
 use Rattle.calls.specs.declared.Answer.{Answer}
 use Rattle.calls.specs.declared.Answer.the-variants.{Done, Refused, RefusedClaim}
 use Rattle.calls.specs.declared.Listed.{Listed}
+use Rattle.calls.specs.declared.Measured.{Measured}
 use Rattle.calls.specs.declared.Outcome.{Outcome}
 use Rattle.calls.specs.declared.Wanted.{Wanted}
 use Rattle.calls.specs.declared.Wanted.the-variants.{Every, Only}
@@ -88,91 +90,143 @@ hasNamed st name among = any (isNamed name among) (standing (st .table))
 unfoldable pub namedPlace : State → Name → Among → ℕ
 namedPlace st name among = firstIndex (isNamed name among) (standing (st .table))
 
--- "10 if keep and class 2 is clear"
-abbrev pub lacksSavingBy : ℕ → Bool → Bool
-lacksSavingBy word keep = keep && not (wordGrants word saveOwn)
-
-unfoldable pub lacksSaving : State → Credential → Bool → Bool
-lacksSaving st c keep = lacksSavingBy (wordOf st c) keep
-
--- "10 if wanted differs from the claim's credential and class 0 is clear (a credential may always list its own)"
+-- "a credential may always list its own"
 unfoldable pub isOwn : Credential → Wanted → Bool
 isOwn c Every = false
 isOwn c (Only wanted) = eqb (wanted .0) (c .0)
-
-abbrev pub mayListBy : ℕ → Credential → Wanted → Bool
-mayListBy word c wanted = isOwn c wanted || wordGrants word listOthers
-
-unfoldable pub mayList : State → Credential → Wanted → Bool
-mayList st c wanted = mayListBy (wordOf st c) c wanted
 
 -- "response buffer too short"
 unfoldable pub isShort : State → Wanted → ℕ → Bool
 isShort st wanted room = ltb room (messageLength (length (rowsOf st wanted)))
 
 -- "It may kill its own credential's processes of every type, and all when class 1 is granted."
-abbrev pub reachBy : ℕ → Credential → Among
-reachBy word c = cond (wordGrants word killOthers) All (Of c)
+unfoldable pub reach : Checked → Among
+reach by = cond (eqb (grantNumber by killOthers) No.done) All (Of (by .credential))
 
-unfoldable pub reach : State → Credential → Among
-reach st c = reachBy (wordOf st c) c
+-- ---- "A protected call carries a claim.": the claim of a call, with the session in which it is made
+pub data Protection : Type 0 where
+  Free : Protection
+  Under : Session → Claim → Protection
 
--- ---- the number: that of the first test that holds, 0 where none does
-unfoldable pub number : State → Call → ℕ
-number st (Open s) =
-    No.argument unless isHandle s
-    ▸ No.session unless isClosed (phaseOf st s)
-number st (Close s) =
-    No.argument unless isHandle s
-    ▸ No.session when isClosed (phaseOf st s)
-number st (Select s byte) =
-    No.argument unless isHandle s
-    ▸ No.session when isClosed (phaseOf st s)
-    ▸ No.version unless isVersion byte
-number st (Start s c name) =
+unfoldable pub protection : Call → Protection
+protection (Open s) = Free
+protection (Close s) = Free
+protection (Drop s) = Free
+protection (Select s byte) = Free
+protection (Start s c name) = Free
+protection (Continue s c name) = Free
+protection (Elevate s c name verdict) = Free
+protection (End s u keep) = Under s (ByUser u)
+protection (Record s claim class) = Under s claim
+protection (ListProcesses s claim wanted room) = Under s claim
+protection (Kill s claim name) = Under s claim
+protection (SetWord s claim c word) = Under s claim
+
+-- ---- the tests of a call, in the page's order: those ahead of the check of its claim, and those after it by what the check hands on; all are ahead where it
+-- carries none
+pub record Tests : Type 0 where
+  pub ahead : ℕ
+  pub after : Checked → ℕ
+
+infix 15 _▸claim▸_
+abbrev pub _▸claim▸_ : ℕ → (Checked → ℕ) → Tests
+n ▸claim▸ after = record { ahead = n; after = after }
+
+abbrev pub alone : ℕ → Tests
+alone n = n ▸claim▸ λ by. No.done
+
+-- "End (session, user claim, keep): claim; 10 if keep and class 2 is clear."
+unfoldable pub endTests : Bool → Tests
+endTests keep = No.done ▸claim▸ λ by. grantNumber by saveOwn when keep
+
+-- "Record (session, claim, class): claim; 10."
+unfoldable pub recordTests : Class → Tests
+recordTests class =
+    No.argument unless isDevice class
+    ▸claim▸ λ by. grantNumber by class
+
+-- "List (session, claim, wanted): claim; 10 if wanted differs from the claim's credential and class 0 is clear ..; 15."
+unfoldable pub listTests : State → Wanted → ℕ → Tests
+listTests st wanted room =
+    No.argument unless isWanted wanted
+    ▸claim▸ λ by.
+    grantNumber by listOthers unless isOwn (by .credential) wanted
+    ▸ No.room when isShort st wanted room
+
+-- "Kill (session, claim, name): claim; 6 if no process that this claim may kill has the name."
+unfoldable pub killTests : State → Name → Tests
+killTests st name = No.done ▸claim▸ λ by. No.noProcess unless hasNamed st name (reach by)
+
+-- "Set word (session, claim, credential, word): claim; 10 by class 3; 5."
+unfoldable pub setWordTests : State → Credential → Tests
+setWordTests st c =
     No.argument unless isCredential c
+    ▸claim▸ λ by.
+    grantNumber by setWords
+    ▸ No.credential unless provisioned st c
+
+unfoldable pub tests : State → Call → Tests
+tests st (Open s) =
+    alone
+    (No.argument unless isHandle s
+    ▸ No.session unless isClosed (phaseOf st s))
+tests st (Close s) =
+    alone
+    (No.argument unless isHandle s
+    ▸ No.session when isClosed (phaseOf st s))
+tests st (Select s byte) =
+    alone
+    (No.argument unless isHandle s
+    ▸ No.session when isClosed (phaseOf st s)
+    ▸ No.version unless isVersion byte)
+tests st (Start s c name) =
+    alone
+    (No.argument unless isCredential c
     ▸ entered st s
     ▸ No.credential unless provisioned st c
     ▸ No.alreadyActive when hasActive st (UserOf s c)
     ▸ No.nameTaken when hasNamed st name All
-    ▸ No.full when isFull st
-number st (Continue s c name) =
-    No.argument unless isCredential c
+    ▸ No.full when isFull st)
+tests st (Continue s c name) =
+    alone
+    (No.argument unless isCredential c
     ▸ entered st s
     ▸ No.credential unless provisioned st c
     ▸ No.noProcess unless hasNamed st name (SavedOf c)
-    ▸ No.alreadyActive when hasActive st (UserOf s c)
-number st (Elevate s c name verdict) =
-    No.argument unless isCredential c
+    ▸ No.alreadyActive when hasActive st (UserOf s c))
+tests st (Elevate s c name verdict) =
+    alone
+    (No.argument unless isCredential c
     ▸ entered st s
     ▸ No.credential unless provisioned st c
     ▸ No.verdict unless verdict
     ▸ No.alreadyActive when hasActive st (ElevationIn s)
     ▸ No.nameTaken when hasNamed st name All
-    ▸ No.full when isFull st
-number st (Drop s) =
-    entered st s
-    ▸ No.noProcess unless hasActive st (ElevationIn s)
-number st (End s u keep) =
-    admitted st s (ByUser u)
-    ▸ No.notGranted when lacksSaving st (u .credential) keep
-number st (Record s claim class) =
-    No.argument unless isDevice class
-    ▸ admitted st s claim
-    ▸ No.notGranted unless granted st (claimant st s claim) class
-number st (ListProcesses s claim wanted room) =
-    No.argument unless isWanted wanted
-    ▸ admitted st s claim
-    ▸ No.notGranted unless mayList st (claimant st s claim) wanted
-    ▸ No.room when isShort st wanted room
-number st (Kill s claim name) =
-    admitted st s claim
-    ▸ No.noProcess unless hasNamed st name (reach st (claimant st s claim))
-number st (SetWord s claim c word) =
-    No.argument unless isCredential c
-    ▸ admitted st s claim
-    ▸ No.notGranted unless granted st (claimant st s claim) setWords
-    ▸ No.credential unless provisioned st c
+    ▸ No.full when isFull st)
+tests st (Drop s) =
+    alone
+    (entered st s
+    ▸ No.noProcess unless hasActive st (ElevationIn s))
+tests st (End s u keep) = endTests keep
+tests st (Record s claim class) = recordTests class
+tests st (ListProcesses s claim wanted room) = listTests st wanted room
+tests st (Kill s claim name) = killTests st name
+tests st (SetWord s claim c word) = setWordTests st c
+
+-- ---- the number: that of the first test that holds, 0 where none does
+
+-- of a protected call, by what the check of its claim came to
+unfoldable pub asked : Tests → Checked → ℕ
+asked t by = t .ahead ▸ by .number ▸ t .after by
+
+unfoldable pub numberUnder : State → Protection → Tests → ℕ
+numberUnder st Free t = t .ahead
+numberUnder st (Under s claim) t = asked t (checked st s claim)
+
+-- who opens it has the tests open too
+unfoldable pub number : State → Call → ℕ
+unfolding protection tests numberUnder
+number st call = numberUnder st (protection call) (tests st call)
 
 -- ---- what an accepted call does
 abbrev pub withTable : State → Table → State
@@ -181,8 +235,8 @@ withTable st t = record { sessions = st .sessions; credentials = st .credentials
 abbrev pub withPhase : State → Session → Phase → State
 withPhase st s phase = record { sessions = set (st .sessions) (s .0) (record { phase = phase }); credentials = st .credentials; table = st .table }
 
-abbrev pub withWord : State → Credential → ℕ → State
-withWord st c word = record { sessions = st .sessions; credentials = set (st .credentials) (c .0) (record { provisioned = true; word = word }); table = st .table }
+abbrev pub withGrants : State → Credential → Grants → State
+withGrants st c grants = record { sessions = st .sessions; credentials = set (st .credentials) (c .0) grants; table = st .table }
 
 -- "An elevation's next number, a saved process's session .. are kept zero."
 abbrev pub userProcess : Session → Credential → Name → Process
@@ -226,44 +280,15 @@ effect st (End s u keep) = ended (counted st s (ByUser u)) (activePlace st (User
 effect st (Record s claim class) = counted st s claim
 effect st (ListProcesses s claim wanted room) = counted st s claim
 effect st (Kill s claim name) =
-    withTable (counted st s claim) (removed (counted st s claim .table) (namedPlace st name (reach st (claimant st s claim))))
-effect st (SetWord s claim c word) = withWord (counted st s claim) c word
+    withTable (counted st s claim) (removed (counted st s claim .table) (namedPlace st name (reach (checked st s claim))))
+effect st (SetWord s claim c word) = withGrants (counted st s claim) c (record { provisioned = true; word = word })
 
--- ---- "A protected call carries a claim.": which calls are protected, and the tests of a call up to its claim's: those ahead of it, and the claim's
+-- ---- the tests of a call up to its claim's
 
--- the claim of a call, with the session in which it is made
-pub data Protection : Type 0 where
-  Free : Protection
-  Under : Session → Claim → Protection
-
-unfoldable pub protection : Call → Protection
-protection (Open s) = Free
-protection (Close s) = Free
-protection (Drop s) = Free
-protection (Select s byte) = Free
-protection (Start s c name) = Free
-protection (Continue s c name) = Free
-protection (Elevate s c name verdict) = Free
-protection (End s u keep) = Under s (ByUser u)
-protection (Record s claim class) = Under s claim
-protection (ListProcesses s claim wanted room) = Under s claim
-protection (Kill s claim name) = Under s claim
-protection (SetWord s claim c word) = Under s claim
-
--- ahead of the claim's; all of them where there is no claim
+-- those ahead of it; all of them where there is no claim
 unfoldable pub aheadNumber : State → Call → ℕ
-aheadNumber st (Open s) = number st (Open s)
-aheadNumber st (Close s) = number st (Close s)
-aheadNumber st (Drop s) = number st (Drop s)
-aheadNumber st (Select s byte) = number st (Select s byte)
-aheadNumber st (Start s c name) = number st (Start s c name)
-aheadNumber st (Continue s c name) = number st (Continue s c name)
-aheadNumber st (Elevate s c name verdict) = number st (Elevate s c name verdict)
-aheadNumber st (End s u keep) = No.done
-aheadNumber st (Record s claim class) = No.argument unless isDevice class
-aheadNumber st (ListProcesses s claim wanted room) = No.argument unless isWanted wanted
-aheadNumber st (Kill s claim name) = No.done
-aheadNumber st (SetWord s claim c word) = No.argument unless isCredential c
+unfolding tests
+aheadNumber st call = tests st call .ahead
 
 -- the claim's
 unfoldable pub protectedNumber : State → Protection → ℕ
@@ -309,11 +334,15 @@ outcome st call =
     (record { state = left st call; answer = refusal (protection call) (number st call) })
 
 -- "Returns the message's length; 0 on a refusal."
+unfoldable pub measured : ℕ → ℕ → Measured
+measured n length = record { number = n; length = cond (eqb n No.done) length 0 }
+
 unfoldable pub listed : State → Session → Claim → Wanted → ℕ → Listed
+unfolding measured
 listed st s claim wanted room =
     record {
       outcome = outcome st (ListProcesses s claim wanted room);
-      length = cond (eqb (number st (ListProcesses s claim wanted room)) No.done) (messageLength (length (rowsOf st wanted))) 0;
+      length = measured (number st (ListProcesses s claim wanted room)) (messageLength (length (rowsOf st wanted))) .length;
     }
 
 -- ---- "A fresh module is made from eight such pairs; an unprovisioned credential's word is taken as zero. It has all sessions closed and no

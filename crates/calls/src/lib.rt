@@ -25,6 +25,12 @@ pub struct Outcome {
     pub answer: Answer,
 }
 
+// What the tests of a list call come to: their number, and the length of its message where that is 0.
+pub struct Measured {
+    pub number: u8,
+    pub length: usize,
+}
+
 // The outcome of a list call, and the length of its message.
 pub struct Listed {
     pub outcome: Outcome,

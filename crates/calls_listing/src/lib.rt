@@ -1,17 +1,17 @@
 // What the list call asks, ahead of the check of its claim and after it, the number that it answers, and the length of its message.
 ghost use mathlib.Core.Path.{_≡_};
 ghost use lib.ListN.{length};
-ghost use Rattle.claims.specs.Numbers.{_when_, _unless_, _▸_};
-ghost use Rattle.claims.specs.Numbers as No;
+ghost use Rattle.claims.specs.Claim.{grantNumber};
+ghost use Rattle.claims.specs.Numbers.{_unless_, _▸_};
 ghost use Rattle.calls.specs.Listing.{amongOf, rowsOf, messageLength};
-ghost use Rattle.calls.specs.Calls.{isWanted, isOwn, mayListBy, isShort};
+ghost use Rattle.calls.specs.Calls.{listOthers, isWanted, isOwn, listTests, asked, measured};
+use calls::Measured;
 use calls::Wanted;
 use claims::ARGUMENT;
-use claims::Admission;
+use claims::Checked;
 use claims::Class;
 use claims::DONE;
 use claims::LIST_OTHERS;
-use claims::NOT_GRANTED;
 use claims::ROOM;
 use claims::State;
 use names::Credential;
@@ -45,40 +45,53 @@ fn is_own(c: Credential, wanted: Wanted) -> bool
     }
 }
 
-fn may_list(by: Admission, wanted: Wanted) -> bool
-    ensures { λ r. ⌜ r ≡ mayListBy (by .word) (by .credential) wanted ⌝ }
+// The tests of the claim and of the grant, which one's own need not.
+fn others_number(by: Checked, wanted: Wanted) -> u8
+    ensures { λ r. ⌜ r ≡ by .number ▸ grantNumber by listOthers unless isOwn (by .credential) wanted ⌝ }
 {
+    if by.number != DONE {
+        return by.number;
+    }
     let c = by.credential;
-    is_own(c, wanted) || claims::word_grants(by.word, Class(LIST_OTHERS))
+    if is_own(c, wanted) {
+        return DONE;
+    }
+    claims::grant_number(by, Class(LIST_OTHERS))
 }
 
-pub fn message_length(st: State, wanted: Wanted) -> usize
+fn message_length(st: State, wanted: Wanted) -> usize
     ensures { λ r. ⌜ r ≡ messageLength (length (rowsOf st wanted)) ⌝ }
 {
     let t = st.table;
     4 + 51 * table_search::count_among(t, among_of(wanted))
 }
 
-fn is_short(st: State, wanted: Wanted, room: usize) -> bool
-    ensures { λ r. ⌜ r ≡ isShort st wanted room ⌝ }
+fn refused(n: u8) -> Measured
+    ensures { λ r. ⌜ r ≡ record { number = n; length = 0 } ⌝ }
 {
-    room < message_length(st, wanted)
+    Measured {
+        number: n,
+        length: 0,
+    }
 }
 
-pub fn list_number(st: State, by: Admission, wanted: Wanted, room: usize) -> u8
-    ensures { λ r. ⌜ r ≡ No.argument unless isWanted wanted ▸ by .number ▸ No.notGranted unless mayListBy (by .word) (by .credential) wanted ▸ No.room when isShort st wanted room ⌝ }
+// The number, and the length of the message.
+pub fn list_number(st: State, by: Checked, wanted: Wanted, room: usize) -> Measured
+    ensures { λ r. ⌜ r ≡ measured (asked (listTests st wanted room) by) (messageLength (length (rowsOf st wanted))) ⌝ }
 {
     if !is_wanted(wanted) {
-        return ARGUMENT;
+        return refused(ARGUMENT);
     }
-    if by.number != DONE {
-        return by.number;
+    let others = others_number(by, wanted);
+    if others != DONE {
+        return refused(others);
     }
-    if !may_list(by, wanted) {
-        return NOT_GRANTED;
+    let long = message_length(st, wanted);
+    if room < long {
+        return refused(ROOM);
     }
-    if is_short(st, wanted, room) {
-        return ROOM;
+    Measured {
+        number: DONE,
+        length: long,
     }
-    DONE
 }

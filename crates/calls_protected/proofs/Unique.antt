@@ -4,12 +4,8 @@ use mathlib.Core.Path.{sym, _∙_}
 use Rattle.lists.proofs.Once.{OneAnswer}
 use Rattle.calls_protected.proofs.end_number.Kinds as end-number-kinds
 use Rattle.calls_protected.proofs.end_number.Reads as end-number
-use Rattle.calls_protected.proofs.is_device.Kinds as is-device-kinds
-use Rattle.calls_protected.proofs.is_device.Reads as is-device
 use Rattle.calls_protected.proofs.record_number.Kinds as record-number-kinds
 use Rattle.calls_protected.proofs.record_number.Reads as record-number
-use Rattle.calls_protected.proofs.reach.Kinds as reach-kinds
-use Rattle.calls_protected.proofs.reach.Reads as reach
 use Rattle.calls_protected.proofs.kill_number.Kinds as kill-number-kinds
 use Rattle.calls_protected.proofs.kill_number.Reads as kill-number
 use Rattle.calls_protected.proofs.set_word_number.Kinds as set-word-number-kinds
@@ -18,14 +14,8 @@ use Rattle.calls_protected.proofs.set_word_number.Reads as set-word-num
 pub end-number-once : OneAnswer 0 end-number-kinds.ps end-number-kinds.r end-number.Post
 end-number-once κs a x y s t p q = p ∙ sym q
 
-pub is-device-once : OneAnswer 0 is-device-kinds.ps is-device-kinds.r is-device.Post
-is-device-once κs a x y s t p q = p ∙ sym q
-
 pub record-number-once : OneAnswer 0 record-number-kinds.ps record-number-kinds.r record-number.Post
 record-number-once κs a x y s t p q = p ∙ sym q
-
-pub reach-once : OneAnswer 0 reach-kinds.ps reach-kinds.r reach.Post
-reach-once κs a x y s t p q = p ∙ sym q
 
 pub kill-number-once : OneAnswer 0 kill-number-kinds.ps kill-number-kinds.r kill-number.Post
 kill-number-once κs a x y s t p q = p ∙ sym q

@@ -1,17 +1,15 @@
 // What each protected call but list asks, ahead of the check of its claim and after it, and the number that it answers.
 ghost use mathlib.Core.Path.{_≡_};
-ghost use Rattle.claims.specs.Numbers.{_when_, _unless_, _▸_};
-ghost use Rattle.claims.specs.Numbers as No;
-ghost use Rattle.claims.specs.Module.{isCredential, provisioned, wordGrants};
-ghost use Rattle.calls.specs.Calls.{setWords, isDevice, hasNamed, lacksSavingBy, reachBy};
+ghost use Rattle.claims.specs.Claim.{placed};
+ghost use Rattle.calls.specs.Calls.{isDevice, namedPlace, reach, endTests, recordTests, killTests, setWordTests, asked};
 use claims::ARGUMENT;
-use claims::Admission;
 use claims::CREDENTIAL;
+use claims::Checked;
 use claims::Class;
 use claims::DONE;
 use claims::KILL_OTHERS;
 use claims::NO_PROCESS;
-use claims::NOT_GRANTED;
+use claims::Placed;
 use claims::SAVE_OWN;
 use claims::SET_WORDS;
 use claims::State;
@@ -22,35 +20,29 @@ use table::Found;
 
 // ---- end
 
-fn lacks_saving(word: u32, keep: bool) -> bool
-    ensures { λ r. ⌜ r ≡ lacksSavingBy word keep ⌝ }
-{
-    keep && !claims::word_grants(word, Class(SAVE_OWN))
-}
-
 // Of a protected call: its tests go on where the check of its claim ended.
-pub fn end_number(by: Admission, keep: bool) -> u8
-    ensures { λ r. ⌜ r ≡ by .number ▸ No.notGranted when lacksSavingBy (by .word) keep ⌝ }
+pub fn end_number(by: Checked, keep: bool) -> u8
+    ensures { λ r. ⌜ r ≡ asked (endTests keep) by ⌝ }
 {
     if by.number != DONE {
         return by.number;
     }
-    if lacks_saving(by.word, keep) {
-        return NOT_GRANTED;
+    if !keep {
+        return DONE;
     }
-    DONE
+    claims::grant_number(by, Class(SAVE_OWN))
 }
 
 // ---- record
 
-pub fn is_device(class: Class) -> bool
+fn is_device(class: Class) -> bool
     ensures { λ r. ⌜ r ≡ isDevice class ⌝ }
 {
     4 <= class.0 && class.0 <= 31
 }
 
-pub fn record_number(by: Admission, class: Class) -> u8
-    ensures { λ r. ⌜ r ≡ No.argument unless isDevice class ▸ by .number ▸ No.notGranted unless wordGrants (by .word) class ⌝ }
+pub fn record_number(by: Checked, class: Class) -> u8
+    ensures { λ r. ⌜ r ≡ asked (recordTests class) by ⌝ }
 {
     if !is_device(class) {
         return ARGUMENT;
@@ -58,52 +50,60 @@ pub fn record_number(by: Admission, class: Class) -> u8
     if by.number != DONE {
         return by.number;
     }
-    if !claims::word_grants(by.word, class) {
-        return NOT_GRANTED;
-    }
-    DONE
+    claims::grant_number(by, class)
 }
 
 // ---- kill
 
 // Which processes a claim may kill.
-pub fn reach(by: Admission) -> Among
-    ensures { λ r. ⌜ r ≡ reachBy (by .word) (by .credential) ⌝ }
+fn reach(by: Checked) -> Among
+    ensures { λ r. ⌜ r ≡ reach by ⌝ }
 {
-    if claims::word_grants(by.word, Class(KILL_OTHERS)) {
+    let others = claims::grant_number(by, Class(KILL_OTHERS));
+    if others == DONE {
         return Among::All;
     }
     let c = by.credential;
     Among::Of(c)
 }
 
-fn has_named(st: State, name: Name, among: Among) -> bool
-    ensures { λ r. ⌜ r ≡ hasNamed st name among ⌝ }
-{
-    let t = st.table;
-    match table_search::find_named(t, name, among) {
-        Found::At(_) => true,
-        Found::Nothing => false,
-    }
-}
-
-pub fn kill_number(st: State, by: Admission, name: Name) -> u8
-    ensures { λ r. ⌜ r ≡ by .number ▸ No.noProcess unless hasNamed st name (reachBy (by .word) (by .credential)) ⌝ }
+// The number, and the place of the process that is killed.
+pub fn kill_number(st: State, by: Checked, name: Name) -> Placed
+    ensures { λ r. ⌜ r ≡ placed (asked (killTests st name) by) (namedPlace st name (reach by)) ⌝ }
 {
     if by.number != DONE {
-        return by.number;
+        return claims::refused(by.number);
     }
+    let t = st.table;
     let among = reach(by);
-    if !has_named(st, name, among) {
-        return NO_PROCESS; // to a stranger's name too, so that nobody learns that it exists
+    let found = table_search::find_named(t, name, among);
+    let Found::At(place) = found else {
+        return claims::refused(NO_PROCESS); // to a stranger's name too, so that nobody learns that it exists
+    };
+    Placed {
+        number: DONE,
+        place: place,
     }
-    DONE
 }
 
 // ---- set word
 
-pub fn set_word_number(st: State, by: Admission, target: Credential) -> u8
-    ensures { λ r. ⌜ r ≡ No.argument unless isCredential target ▸ by .number ▸ No.notGranted unless wordGrants (by .word) setWords ▸ No.credential unless provisioned st target ⌝ }
+fn set_word_after(st: State, by: Checked, target: Credential) -> u8
+    ensures { λ r. ⌜ r ≡ setWordTests st target .after by ⌝ }
+{
+    let grant = claims::grant_number(by, Class(SET_WORDS));
+    if grant != DONE {
+        return grant;
+    }
+    let grants = claims::grants_of(st, target);
+    if !grants.provisioned {
+        return CREDENTIAL;
+    }
+    DONE
+}
+
+pub fn set_word_number(st: State, by: Checked, target: Credential) -> u8
+    ensures { λ r. ⌜ r ≡ asked (setWordTests st target) by ⌝ }
 {
     if !claims::is_credential(target) {
         return ARGUMENT;
@@ -111,11 +111,5 @@ pub fn set_word_number(st: State, by: Admission, target: Credential) -> u8
     if by.number != DONE {
         return by.number;
     }
-    if !claims::word_grants(by.word, Class(SET_WORDS)) {
-        return NOT_GRANTED;
-    }
-    if !claims::provisioned(st, target) {
-        return CREDENTIAL;
-    }
-    DONE
+    set_word_after(st, by, target)
 }

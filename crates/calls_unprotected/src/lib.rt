@@ -37,7 +37,8 @@ fn known_number(st: State, s: Session, c: Credential) -> u8
     if entry != DONE {
         return entry;
     }
-    if !claims::provisioned(st, c) {
+    let grants = claims::grants_of(st, c);
+    if !grants.provisioned {
         return CREDENTIAL;
     }
     DONE

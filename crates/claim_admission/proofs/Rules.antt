@@ -10,6 +10,7 @@ use Rattle.lists.proofs.Lists.{length-mapped}
 use Rattle.claims.specs.declared.ClaimView.{ClaimView}
 use Rattle.claims.specs.declared.State.{State}
 use Rattle.claims.specs.declared.Claim.{Claim}
+use Rattle.claims.specs.declared.Grants.{Grants}
 use Rattle.claims.specs.declared.Phase.{Phase}
 use Rattle.names.specs.declared.Credential.{Credential}
 use Rattle.names.specs.declared.Session.{Session}
@@ -19,9 +20,9 @@ use Rattle.table.specs.declared.Found.{Found}
 use Rattle.table.specs.declared.Found.the-variants.{At, Nothing}
 use Rattle.table.specs.declared.Process.{Process}
 use Rattle.table.specs.declared.Table.{Table}
-use Rattle.claims.specs.Module.{phaseOf, provisioned, wordOf}
+use Rattle.claims.specs.Module.{phaseOf, grantsOf}
 use Rattle.claims.specs.Claim.{claimed, speaksFor, processFound, claimView}
-use Rattle.claims.proofs.Laws.{view-of, admission-is}
+use Rattle.claims.proofs.Laws.{view-of, checked-is}
 
 -- ---- the process of a claim
 module _ (t : Table) {f : Found} {p : Process} where
@@ -29,15 +30,15 @@ module _ (t : Table) {f : Found} {p : Process} where
   unfolding processFound
   process-found-at e q = q ∙ rw e
 
-  pub process-found-none : {n : ℕ} → f ≡ Nothing → n ≡ size t → p ≡ processAt t n → p ≡ processFound t f
-  unfolding processFound processAt size
-  process-found-none {n} e k q = q ∙ rw e (List·getD-eq-default (standing t) freePlace (omega (arith, k)))
+  pub process-found-none : f ≡ Nothing → p ≡ freePlace → p ≡ processFound t f
+  unfolding processFound
+  process-found-none e q = q ∙ rw e
 
-pub view-is : (st : State) (s : Session) (claim : Claim) {a : Active} {f : Found} {p : Process} {c : Credential} {phase : Phase} {b : Bool} {w : ℕ}
+pub view-is : (st : State) (s : Session) (claim : Claim) {a : Active} {f : Found} {p : Process} {c : Credential} {phase : Phase} {g : Grants}
     → a ≡ claimed s claim → f ≡ firstPlace (isActive a) (standing (st .table)) → p ≡ processFound (st .table) f → c ≡ speaksFor claim (p .credential)
-    → phase ≡ phaseOf st s → b ≡ provisioned st c → w ≡ wordOf st c
-    → _≡_ {A = ClaimView} (record { phase = phase; provisioned = b; found = f; next = p .next; credential = c; word = w }) (claimView st s claim)
-view-is st s claim ea ef ep ec h eb ew =
-    view-of st s claim ea ef (ap (λ (q : Process). q .credential) ep) (ap (λ (q : Process). q .next) ep) ec h eb ew
+    → phase ≡ phaseOf st s → g ≡ grantsOf st c
+    → _≡_ {A = ClaimView} (record { phase = phase; found = f; next = p .next; credential = c; grants = g }) (claimView st s claim)
+view-is st s claim ea ef ep ec h eg =
+    view-of st s claim ea ef (ap (λ (q : Process). q .credential) ep) (ap (λ (q : Process). q .next) ep) ec h eg
 
-pub ruleset rules = (needs, length-mapped, process-found-at, process-found-none, view-is, admission-is)
+pub ruleset rules = (needs, length-mapped, process-found-at, process-found-none, view-is, checked-is)

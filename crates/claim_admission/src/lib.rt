@@ -1,7 +1,7 @@
 // The check of a claim on a state by value.
 ghost use mathlib.Core.Path.{_≡_};
-ghost use Rattle.claims.specs.Claim.{processFound, claimView, admission};
-use claims::Admission;
+ghost use Rattle.claims.specs.Claim.{processFound, claimView, checked};
+use claims::Checked;
 use claims::Claim;
 use claims::ClaimView;
 use claims::State;
@@ -16,11 +16,11 @@ fn process_found(t: Table, found: Found) -> Process
 {
     match found {
         Found::At(at) => table::process_at(t, at),
-        Found::Nothing => table::process_at(t, table::size(t)),
+        Found::Nothing => table::free_place(),
     }
 }
 
-pub fn claim_view(st: State, s: Session, claim: Claim) -> ClaimView
+fn claim_view(st: State, s: Session, claim: Claim) -> ClaimView
     ensures { λ r. ⌜ r ≡ claimView st s claim ⌝ }
 {
     let t = st.table;
@@ -30,16 +30,15 @@ pub fn claim_view(st: State, s: Session, claim: Claim) -> ClaimView
     let c = claim_check::speaks_for(claim, owner);
     ClaimView {
         phase: claims::phase_of(st, s),
-        provisioned: claims::provisioned(st, c),
         found: found,
         next: p.next,
         credential: c,
-        word: claims::word_of(st, c),
+        grants: claims::grants_of(st, c),
     }
 }
 
-pub fn admit(st: State, s: Session, claim: Claim) -> Admission
-    ensures { λ r. ⌜ r ≡ admission st s claim ⌝ }
+pub fn check(st: State, s: Session, claim: Claim) -> Checked
+    ensures { λ r. ⌜ r ≡ checked st s claim ⌝ }
 {
     claim_check::check_claim(s, claim, claim_view(st, s, claim))
 }

@@ -5,10 +5,11 @@ use mathlib.Core.Path.{_≡_, refl, sym, _∙_}
 use mathlib.Core.Bool.{Bool, true, false, not}
 use lib.Dec.{T, eqb, ltb}
 use borrow.Author.Tests.{eq-eqb, ne-eqb}
-use Rattle.claims.specs.declared.Admission.{Admission}
+use Rattle.claims.specs.declared.Checked.{Checked}
 use Rattle.claims.specs.declared.ClaimView.{ClaimView}
 use Rattle.claims.specs.declared.Claim.{Claim}
 use Rattle.claims.specs.declared.Claim.the-variants.{Elevated, ByUser}
+use Rattle.claims.specs.declared.Placed.{Placed}
 use Rattle.claims.specs.declared.UserClaim.{UserClaim}
 use Rattle.names.specs.declared.Credential.{Credential}
 use Rattle.names.specs.declared.Session.{Session}
@@ -18,7 +19,7 @@ use Rattle.table.specs.declared.Found.{Found}
 use Rattle.table.specs.declared.Found.the-variants.{At, Nothing}
 use Rattle.claims.specs.Numbers.{_unless_, _▸_}
 use Rattle.claims.specs.Module.{isCredential}
-use Rattle.claims.specs.Claim.{isClaim, isSpent, claimed, speaksFor, isFound, viewedNumber, checkedNumber, checkedClaim, passedBy}
+use Rattle.claims.specs.Claim.{claimed, speaksFor, isClaim, isFound, isSpent, claimNumber, checkNumber, placed, checkOf, passedBy}
 use Rattle.claims.proofs.Laws.{stop, pass, unless-true, unless-false}
 use Rattle.claims.proofs.Rules.{rules as claims-rules, nonzero}
 
@@ -66,20 +67,26 @@ module _ (view : ClaimView) {f : Found} (e : f ≡ view .found) where
   pub found-last : (n : ℕ) {k : ℕ} → f ≡ At k → 0 ≡ n unless isFound (view .found)
   found-last n q = rw (← e, q) (sym (unless-true n {b = true} refl))
 
-module _ (view : ClaimView) {claim : Claim} {n : ℕ} where
-  pub viewed-elevated : claim ≡ Elevated → n ≡ viewedNumber Elevated view → n ≡ viewedNumber claim view
-  viewed-elevated e q = q ∙ rw e
+  pub place-at : {k : ℕ} → f ≡ At k → k ≡ foundPlace 0 (view .found)
+  place-at q = rw (← e, q)
 
-  pub viewed-user : {u : UserClaim} → claim ≡ ByUser u → n ≡ viewedNumber (ByUser u) view → n ≡ viewedNumber claim view
-  viewed-user e q = q ∙ rw e
+pub none-left : {n m : ℕ} → n ≡ m → n ≡ 0 → 0 ≡ m
+none-left e z = sym z ∙ e
 
-pub checked-is : (s : Session) (claim : Claim) (view : ClaimView) {n at : ℕ} {f : Found} → n ≡ checkedNumber s claim view → f ≡ view .found → at ≡ foundPlace 0 f
-    → _≡_ {A = Admission} (record { number = n; place = at; next = view .next; credential = view .credential; word = view .word }) (checkedClaim s claim view)
-unfolding checkedClaim
-checked-is s claim view a b c = rw (a, c, b)
+module _ (view : ClaimView) {claim : Claim} {r : Placed} where
+  pub placed-elevated : (at : ℕ) → claim ≡ Elevated → r ≡ placed (claimNumber Elevated view) at → r ≡ placed (claimNumber claim view) at
+  placed-elevated at e q = q ∙ rw e
+
+  pub placed-user : (at : ℕ) {u : UserClaim} → claim ≡ ByUser u → r ≡ placed (claimNumber (ByUser u) view) at → r ≡ placed (claimNumber claim view) at
+  placed-user at e q = q ∙ rw e
+
+pub check-is : (s : Session) (claim : Claim) (view : ClaimView) {p : Placed} → p ≡ placed (checkNumber s claim view) (foundPlace 0 (view .found))
+    → _≡_ {A = Checked} (record { claim = claim; number = p .number; place = p .place; next = view .next; credential = view .credential; grants = view .grants }) (checkOf s claim view)
+unfolding checkOf
+check-is s claim view e = rw e
 
 -- ---- whether it passed
-module _ (by : Admission) (n : ℕ) where
+module _ (by : Checked) (n : ℕ) where
   pub passed-asked : by .number ≡ 0 → not (eqb n 1) ≡ passedBy by n
   unfolding passedBy
   passed-asked z = rw (eq-eqb (by .number) 0 z)
@@ -88,4 +95,4 @@ module _ (by : Admission) (n : ℕ) where
   unfolding passedBy
   passed-not h = rw (ne-eqb (by .number) 0 h)
 
-pub ruleset rules = (claims-rules, spent-is, elevated-fine, user-fine, claimed-elevation, claimed-user, speaks-owner, speaks-itself, missing-stop, found-pass, missing-last, found-last, viewed-elevated, viewed-user, checked-is, passed-asked, passed-not)
+pub ruleset rules = (claims-rules, spent-is, elevated-fine, user-fine, claimed-elevation, claimed-user, speaks-owner, speaks-itself, missing-stop, found-pass, missing-last, found-last, place-at, none-left, placed-elevated, placed-user, check-is, passed-asked, passed-not)

@@ -1,14 +1,16 @@
 // The check of a claim, on what a state tells of it: once for all protected calls, wherever the state lies.
 ghost use mathlib.Core.Path.{_≡_};
-ghost use Rattle.claims.specs.Claim.{isClaim, isSpent, turnNumber, claimed, speaksFor, viewedNumber, checkedNumber, checkedClaim, passedBy};
+ghost use Rattle.table.specs.Table.{foundPlace};
+ghost use Rattle.claims.specs.Claim.{claimed, speaksFor, isClaim, isSpent, turnNumber, claimNumber, checkNumber, placed, checkOf, passedBy};
 use claims::ARGUMENT;
-use claims::Admission;
 use claims::CREDENTIAL;
+use claims::Checked;
 use claims::Claim;
 use claims::ClaimView;
 use claims::DONE;
 use claims::NO_PROCESS;
 use claims::OUT_OF_TURN;
+use claims::Placed;
 use claims::SPENT;
 use claims::UserClaim;
 use claims::VERDICT;
@@ -74,31 +76,41 @@ pub fn speaks_for(claim: Claim, owner: Credential) -> Credential
     }
 }
 
-fn elevated_number(view: ClaimView) -> u8
-    ensures { λ r. ⌜ r ≡ viewedNumber Claim.Elevated view ⌝ }
+fn elevated_number(view: ClaimView) -> Placed
+    ensures { λ r. ⌜ r ≡ placed (claimNumber Claim.Elevated view) (foundPlace 0 (view .found)) ⌝ }
 {
     let found = view.found;
-    let Found::At(_) = found else {
-        return NO_PROCESS;
+    let Found::At(place) = found else {
+        return claims::refused(NO_PROCESS);
     };
-    DONE
+    Placed {
+        number: DONE,
+        place: place,
+    }
 }
 
-fn user_number(u: UserClaim, view: ClaimView) -> u8
-    ensures { λ r. ⌜ r ≡ viewedNumber (Claim.ByUser u) view ⌝ }
+fn user_number(u: UserClaim, view: ClaimView) -> Placed
+    ensures { λ r. ⌜ r ≡ placed (claimNumber (Claim.ByUser u) view) (foundPlace 0 (view .found)) ⌝ }
 {
-    if !view.provisioned {
-        return CREDENTIAL;
+    if !view.grants.provisioned {
+        return claims::refused(CREDENTIAL);
     }
     let found = view.found;
-    let Found::At(_) = found else {
-        return NO_PROCESS;
+    let Found::At(place) = found else {
+        return claims::refused(NO_PROCESS);
     };
-    turn_number(view.next, u)
+    let turn = turn_number(view.next, u);
+    if turn != DONE {
+        return claims::refused(turn);
+    }
+    Placed {
+        number: DONE,
+        place: place,
+    }
 }
 
-fn viewed_number(claim: Claim, view: ClaimView) -> u8
-    ensures { λ r. ⌜ r ≡ viewedNumber claim view ⌝ }
+fn claim_number(claim: Claim, view: ClaimView) -> Placed
+    ensures { λ r. ⌜ r ≡ placed (claimNumber claim view) (foundPlace 0 (view .found)) ⌝ }
 {
     match claim {
         Claim::Elevated => elevated_number(view),
@@ -106,39 +118,39 @@ fn viewed_number(claim: Claim, view: ClaimView) -> u8
     }
 }
 
-fn checked_number(s: Session, claim: Claim, view: ClaimView) -> u8
-    ensures { λ r. ⌜ r ≡ checkedNumber s claim view ⌝ }
+fn check_number(s: Session, claim: Claim, view: ClaimView) -> Placed
+    ensures { λ r. ⌜ r ≡ placed (checkNumber s claim view) (foundPlace 0 (view .found)) ⌝ }
 {
     if !is_claim(claim) {
-        return ARGUMENT;
+        return claims::refused(ARGUMENT);
     }
     let phase = view.phase;
     let entry = claims::phase_number(s, phase);
     if entry != DONE {
-        return entry;
+        return claims::refused(entry);
     }
-    viewed_number(claim, view)
+    claim_number(claim, view)
 }
 
 // The tests that all protected calls begin with, the claim's check the last of them, wherever the state lies that the view is of.
-pub fn check_claim(s: Session, claim: Claim, view: ClaimView) -> Admission
-    ensures { λ r. ⌜ r ≡ checkedClaim s claim view ⌝ }
+pub fn check_claim(s: Session, claim: Claim, view: ClaimView) -> Checked
+    ensures { λ r. ⌜ r ≡ checkOf s claim view ⌝ }
 {
-    let number = checked_number(s, claim, view);
-    let found = view.found;
-    let place = table::found_place(found, 0);
+    let tested = check_number(s, claim, view);
     let c = view.credential;
-    Admission {
-        number: number,
-        place: place,
+    let grants = view.grants;
+    Checked {
+        claim: claim,
+        number: tested.number,
+        place: tested.place,
         next: view.next,
         credential: c,
-        word: view.word,
+        grants: grants,
     }
 }
 
 // Whether a claim passed its check, by what that came to and the number of its call: ahead of a claim a call is refused with 1 alone, and after it never.
-pub fn passed_by(by: Admission, n: u8) -> bool
+pub fn passed_by(by: Checked, n: u8) -> bool
     ensures { λ r. ⌜ r ≡ passedBy by n ⌝ }
 {
     by.number == DONE && n != ARGUMENT

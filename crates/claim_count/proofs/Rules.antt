@@ -12,18 +12,16 @@ use Rattle.names.specs.declared.Session.{Session}
 use Rattle.table.specs.Table.{processAt, replaced}
 use Rattle.table.specs.declared.Process.{Process}
 use Rattle.table.specs.declared.Table.{Table}
-use Rattle.claims.specs.Claim.{isSpent, admission, passedBy}
-use Rattle.claims.specs.declared.Admission.{Admission}
+use Rattle.claims.specs.Claim.{isSpent, checked, checkOf, passedBy}
+use Rattle.claims.specs.declared.Checked.{Checked}
 use Rattle.claims.specs.declared.Claim.{Claim}
 use Rattle.claims.specs.declared.Claim.the-variants.{Elevated, ByUser}
 use Rattle.claims.specs.declared.State.{State}
 use Rattle.claims.specs.declared.UserClaim.{UserClaim}
 use Rattle.claims.proofs.Laws.{passed-admitted}
-use Rattle.calls.specs.Calls.{Call, ListProcesses, number, withTable, oneMore, counted, Under, protection, passes, charged, left, refusal, outcome, listed}
+use Rattle.calls.specs.Calls.{Call, Under, protection, number, withTable, oneMore, counted, passes, charged, left, refusal, outcome}
 use Rattle.calls.specs.declared.Answer.the-variants.{RefusedClaim}
-use Rattle.calls.specs.declared.Listed.{Listed}
 use Rattle.calls.specs.declared.Outcome.{Outcome}
-use Rattle.calls.specs.declared.Wanted.{Wanted}
 use Rattle.calls.proofs.Cut.{left-stopped, left-passed, passed-by}
 use Rattle.calls.proofs.Rules.{refused-as, next-fits, counted-is, counted-elevated, rules as call-rules}
 use Rattle.claim_count.specs.Count.{countedAt, countedBy, chargedBy}
@@ -52,40 +50,47 @@ module _ (st : State) (at : ℕ) {claim : Claim} where
   count-user e q = q ∙ rw e
 
 -- ---- an admitted claim, counted at the place that its check tells, is counted as the calls do
-module _ (st : State) (s : Session) {by : Admission} where
-  unspent : (u : UserClaim) → by ≡ admission st s (ByUser u) → by .number ≡ 0 → isSpent (processAt (st .table) (by .place) .next) ≡ false
+module _ (st : State) (s : Session) {by : Checked} where
+  unspent : (u : UserClaim) → by ≡ checked st s (ByUser u) → by .number ≡ 0 → isSpent (processAt (st .table) (by .place) .next) ≡ false
   unfolding isSpent
   unspent u e z =
       ne-eqb (processAt (st .table) (by .place) .next) 65535
       (λ q. let f : Fits w16 (processAt (st .table) (by .place) .next + 1) = next-fits st s u e z refl (omega (arith, q)) in absurd (omega (arith, q, f)))
 
-  at-place : (u : UserClaim) → by ≡ admission st s (ByUser u) → by .number ≡ 0 → countedAt st (by .place) ≡ counted st s (ByUser u)
+  at-place : (u : UserClaim) → by ≡ checked st s (ByUser u) → by .number ≡ 0 → countedAt st (by .place) ≡ counted st s (ByUser u)
   unfolding countedAt
   at-place u e z = rw (unspent u e z) (counted-is st s u e z refl refl refl)
 
-  by-place : (claim : Claim) → by ≡ admission st s claim → by .number ≡ 0 → countedBy st claim (by .place) ≡ counted st s claim
+  by-place : (claim : Claim) → by ≡ checked st s claim → by .number ≡ 0 → countedBy st claim (by .place) ≡ counted st s claim
   unfolding countedBy
   by-place Elevated e z = counted-elevated st s refl
   by-place (ByUser u) e z = at-place u e z
 
+  claim-is : (claim : Claim) → by ≡ checked st s claim → by .claim ≡ claim
+  unfolding checked checkOf
+  claim-is claim e = rw e
+
+  by-claim : (claim : Claim) → by ≡ checked st s claim → by .number ≡ 0 → countedBy st (by .claim) (by .place) ≡ counted st s claim
+  by-claim claim e z = ap (λ (x : Claim). countedBy st x (by .place)) (claim-is claim e) ∙ by-place claim e z
+
   -- and so it is where the number of the call is 0
-  pub charged-done : (claim : Claim) {n : ℕ} {r : State} → by ≡ admission st s claim → by .number ≡ 0 → n ≡ 0 → r ≡ chargedBy st claim by n → r ≡ counted st s claim
+  pub charged-done : (claim : Claim) {n : ℕ} {r : State} → by ≡ checked st s claim → by .number ≡ 0 → n ≡ 0 → r ≡ chargedBy st by n → r ≡ counted st s claim
   unfolding chargedBy passedBy
-  charged-done claim e z y q = q ∙ rw (eq-eqb (by .number) 0 z, y) (by-place claim e z)
+  charged-done claim e z y q = q ∙ rw (eq-eqb (by .number) 0 z, y) (by-claim claim e z)
 
 -- ---- by what the claim's check came to, and the call's number
-module _ (st : State) (claim : Claim) (by : Admission) (n : ℕ) {b : Bool} (e : b ≡ passedBy by n) where
-  pub charge-stopped : not b ≡ true → st ≡ chargedBy st claim by n
+module _ (st : State) (by : Checked) (n : ℕ) {b : Bool} (e : b ≡ passedBy by n) where
+  pub charge-stopped : not b ≡ true → st ≡ chargedBy st by n
   unfolding chargedBy
   charge-stopped k = rw (← e, not-true b k)
 
-  pub charge-passed : {r : State} → not b ≡ false → r ≡ countedBy st claim (by .place) → r ≡ chargedBy st claim by n
+  pub charge-passed : {claim : Claim} {r : State} → not b ≡ false → claim ≡ by .claim → r ≡ countedBy st claim (by .place) → r ≡ chargedBy st by n
   unfolding chargedBy
-  charge-passed k q = q ∙ rw (← e, not-false b k)
+  charge-passed k c q = q ∙ rw (← e, not-false b k, c)
 
 -- ---- what a refused call under the claim leaves
-module _ (st : State) (call : Call) {s : Session} {claim : Claim} (w : protection call ≡ Under s claim) {by : Admission} (e : by ≡ admission st s claim) where
-  charged-left : {n : ℕ} {r : State} → n ≡ number st call → (n ≡ 0 → ⊥) → r ≡ chargedBy st claim by n → r ≡ left st call
+module _ (st : State) (call : Call) {s : Session} {claim : Claim} (w : protection call ≡ Under s claim) {by : Checked} (e : by ≡ checked st s claim) where
+  charged-left : {n : ℕ} {r : State} → n ≡ number st call → (n ≡ 0 → ⊥) → r ≡ chargedBy st by n → r ≡ left st call
   unfolding chargedBy charged
   charged-left {n} {r} m h q =
       let z : number st call ≡ 0 → ⊥ = λ y. h (m ∙ y) in
@@ -93,19 +98,13 @@ module _ (st : State) (call : Call) {s : Session} {claim : Claim} (w : protectio
       split (passes st call)
       (λ y.
       let a : by .number ≡ 0 = passed-admitted by n (sym p) y in
-      q ∙ rw (p, y, by-place st s claim e a, left-passed st call y z, w))
+      q ∙ rw (p, y, by-claim st s claim e a, left-passed st call y z, w))
       (λ y. q ∙ rw (p, y) (sym (left-stopped st call y)))
 
 -- so of a call that answers its number with the claim
-module _ (st : State) {claim : Claim} {n : ℕ} {x : State} {o : Outcome} (w : o ≡ record { state = x; answer = RefusedClaim n claim }) {by : Admission} (q : x ≡ chargedBy st claim by n) where
-  pub by-refused-claim : (call : Call) {s : Session} → by ≡ admission st s claim → n ≡ number st call → (n ≡ 0 → ⊥) → protection call ≡ Under s claim → o ≡ outcome st call
-  unfolding refusal
-  by-refused-claim call e m h p = refused-as st call m h p (charged-left st call p e m h q) w
+pub by-refused-claim : (st : State) {claim : Claim} {n : ℕ} {x : State} {o : Outcome} → o ≡ record { state = x; answer = RefusedClaim n claim } → {by : Checked} → x ≡ chargedBy st by n
+    → (call : Call) {s : Session} → by ≡ checked st s claim → n ≡ number st call → (n ≡ 0 → ⊥) → protection call ≡ Under s claim → o ≡ outcome st call
+unfolding refusal
+by-refused-claim st w q call e m h p = refused-as st call m h p (charged-left st call p e m h q) w
 
-  pub list-refused : (s : Session) (wanted : Wanted) (room : ℕ) → by ≡ admission st s claim → n ≡ number st (ListProcesses s claim wanted room) → (n ≡ 0 → ⊥)
-      → _≡_ {A = Listed} (record { outcome = o; length = 0 }) (listed st s claim wanted room)
-  unfolding listed protection
-  list-refused s wanted room e m h =
-      rw (by-refused-claim (ListProcesses s claim wanted room) e m h refl, ne-eqb (number st (ListProcesses s claim wanted room)) 0 (λ y. h (m ∙ y)))
-
-pub ruleset rules = (call-rules, count-spent, count-fits, count-more, count-elevated, count-user, charged-done, charge-stopped, charge-passed, by-refused-claim, list-refused)
+pub ruleset rules = (call-rules, count-spent, count-fits, count-more, count-elevated, count-user, charged-done, charge-stopped, charge-passed, by-refused-claim)

@@ -3,7 +3,7 @@ use Prim.Native.Nat.{ℕ}
 use mathlib.Core.Bool.{cond}
 use Rattle.table.specs.Table.{processAt, replaced}
 use Rattle.claims.specs.Claim.{isSpent, passedBy}
-use Rattle.claims.specs.declared.Admission.{Admission}
+use Rattle.claims.specs.declared.Checked.{Checked}
 use Rattle.claims.specs.declared.Claim.{Claim}
 use Rattle.claims.specs.declared.Claim.the-variants.{Elevated, ByUser}
 use Rattle.claims.specs.declared.State.{State}
@@ -22,5 +22,5 @@ countedBy st Elevated at = st
 countedBy st (ByUser u) at = countedAt st at
 
 -- the state that a call under the claim goes on with, or that its refusal leaves: by what the claim's check came to, and the call's number
-unfoldable pub chargedBy : State → Claim → Admission → ℕ → State
-chargedBy st claim by n = cond (passedBy by n) (countedBy st claim (by .place)) st
+unfoldable pub chargedBy : State → Checked → ℕ → State
+chargedBy st by n = cond (passedBy by n) (countedBy st (by .claim) (by .place)) st

@@ -1,7 +1,7 @@
 // A claim that passed its check counted: a user claim adds one to its process's next number.
 ghost use mathlib.Core.Path.{_≡_};
 ghost use Rattle.claim_count.specs.Count.{countedAt, countedBy, chargedBy};
-use claims::Admission;
+use claims::Checked;
 use claims::Claim;
 use claims::State;
 
@@ -27,11 +27,12 @@ fn counted_by(st: State, claim: Claim, at: usize) -> State
 }
 
 // The state that a protected call goes on with, or leaves where it is refused with `n`: the claim is counted where it passed its check.
-pub fn charged_by(st: State, claim: Claim, by: Admission, n: u8) -> State
-    ensures { λ r. ⌜ r ≡ chargedBy st claim by n ⌝ }
+pub fn charged_by(st: State, by: Checked, n: u8) -> State
+    ensures { λ r. ⌜ r ≡ chargedBy st by n ⌝ }
 {
     if !claim_check::passed_by(by, n) {
         return st;
     }
+    let claim = by.claim;
     counted_by(st, claim, by.place)
 }

@@ -13,19 +13,25 @@ use Rattle.names.specs.declared.Credential.{Credential}
 use Rattle.names.specs.declared.Session.{Session}
 use Rattle.table.specs.Table.{standing, freePlace, processAt, isActive, foundPlace, firstPlace, findActive}
 use Rattle.table.specs.declared.Active.{Active}
+use Rattle.table.specs.declared.Active.the-variants.{UserOf, ElevationIn}
 use Rattle.table.specs.declared.Found.{Found}
 use Rattle.table.specs.declared.Found.the-variants.{At, Nothing}
 use Rattle.table.specs.declared.Process.{Process}
 use Rattle.table.proofs.Searched.{FoundAt, found-at, found-none}
-use Rattle.claims.specs.declared.Admission.{Admission}
+use Rattle.claims.specs.declared.Checked.{Checked}
 use Rattle.claims.specs.declared.Claim.{Claim}
 use Rattle.claims.specs.declared.Claim.the-variants.{Elevated, ByUser}
 use Rattle.claims.specs.declared.ClaimView.{ClaimView}
+use Rattle.claims.specs.declared.Class.{Class}
+use Rattle.claims.specs.declared.Grants.{Grants}
+use Rattle.claims.specs.declared.Lookup.{Lookup}
+use Rattle.claims.specs.declared.Lookup.the-variants.{NotGranted, Granted}
 use Rattle.claims.specs.declared.Phase.{Phase}
 use Rattle.claims.specs.declared.State.{State}
+use Rattle.claims.specs.declared.UserClaim.{UserClaim}
 use Rattle.claims.specs.Numbers.{_when_, _unless_, _▸_}
-use Rattle.claims.specs.Module.{phaseOf, provisioned, wordOf, hasActive, activePlace, activeProcess}
-use Rattle.claims.specs.Claim.{phaseNumber, entered, elevatedNumber, userNumber, claimNumber, admitted, elevatedCredential, claimant, claimed, speaksFor, processFound, claimView, isFound, viewedNumber, checkedNumber, checkedClaim, admission, passedBy}
+use Rattle.claims.specs.Module.{isHandle, phaseOf, isClosed, isChosen, grantsOf, provisioned, lookup, hasActive, activePlace, activeProcess}
+use Rattle.claims.specs.Claim.{phaseNumber, entered, claimed, speaksFor, speaker, processFound, claimView, isClaim, isFound, isSpent, turnNumber, claimNumber, checkNumber, checkOf, checked, admitted, lookupNumber, grantNumber, passedBy}
 
 -- ---- a row of tests
 module _ {n : ℕ} (m : ℕ) where
@@ -77,6 +83,16 @@ module _ (P : ℕ → Type 0) where
   unfolding _▸_
   by-then n m h k = split (eqb n 0) (λ e. rw e k) (λ e. rw e h)
 
+  -- of the grant lookup, what holds of each number that it gives
+  by-lookup : P 0 → P 10 → (claim : Claim) (answer : Lookup) → P (lookupNumber claim answer)
+  unfolding lookupNumber
+  by-lookup none some claim NotGranted = some
+  by-lookup none some claim Granted = none
+
+  pub by-grant : P 0 → P 10 → (by : Checked) (class : Class) → P (grantNumber by class)
+  unfolding grantNumber
+  by-grant none some by class = by-lookup none some (by .claim) (lookup (by .grants) class)
+
 -- ---- what an accepted row of tests says: none holds
 pub clear-first : (n m : ℕ) → n ▸ m ≡ 0 → n ≡ 0
 unfolding _▸_
@@ -119,7 +135,7 @@ module _ (st : State) (which : Active) {f : Found} (e : f ≡ firstPlace (isActi
     unfolding activeProcess
     process-is r = r ∙ ap (processAt (st .table)) place-is
 
--- ---- what the check of a claim comes to, where the view is a state's
+-- ---- what a state tells of a claim
 module _ (st : State) (which : Active) where
   found-active : (f : Found) → f ≡ findActive (st .table) which → isFound f ≡ hasActive st which
   found-active (At at) e = sym (one-active st which e refl)
@@ -134,68 +150,111 @@ module _ (st : State) (which : Active) where
   place-found (At at) e h = place-is st which e refl
   place-found Nothing e h = clash h refl
 
-speaks-claimant : (st : State) (s : Session) (claim : Claim) → speaksFor claim (activeProcess st (claimed s claim) .credential) ≡ claimant st s claim
-unfolding claimed claimant elevatedCredential
-speaks-claimant st s Elevated = refl
-speaks-claimant st s (ByUser u) = refl
-
 -- a view that was put together from what single readers answered
-pub view-of : (st : State) (s : Session) (claim : Claim) {a : Active} {f : Found} {owner c : Credential} {next w : ℕ} {phase : Phase} {b : Bool}
+pub view-of : (st : State) (s : Session) (claim : Claim) {a : Active} {f : Found} {owner c : Credential} {next : ℕ} {phase : Phase} {g : Grants}
     → a ≡ claimed s claim → f ≡ firstPlace (isActive a) (standing (st .table))
     → owner ≡ processFound (st .table) f .credential → next ≡ processFound (st .table) f .next → c ≡ speaksFor claim owner
-    → phase ≡ phaseOf st s → b ≡ provisioned st c → w ≡ wordOf st c
-    → _≡_ {A = ClaimView} (record { phase = phase; provisioned = b; found = f; next = next; credential = c; word = w }) (claimView st s claim)
-unfolding claimView
-view-of st s claim {a} {f} {owner} {c} {next} ea ef eo en ec h eb ew =
+    → phase ≡ phaseOf st s → g ≡ grantsOf st c
+    → _≡_ {A = ClaimView} (record { phase = phase; found = f; next = next; credential = c; grants = g }) (claimView st s claim)
+unfolding claimView speaker
+view-of st s claim {a} {f} {owner} {c} {next} ea ef eo en ec h eg =
     let ff : f ≡ firstPlace (isActive (claimed s claim)) (standing (st .table)) = rw (← ea) ef in
     let p : processFound (st .table) f ≡ activeProcess st (claimed s claim) = process-found st (claimed s claim) f ff in
-    let cc : c ≡ claimant st s claim = ec ∙ ap (speaksFor claim) (eo ∙ ap (λ (q : Process). q .credential) p) ∙ speaks-claimant st s claim in
+    let cc : c ≡ speaksFor claim (activeProcess st (claimed s claim) .credential) = ec ∙ ap (speaksFor claim) (eo ∙ ap (λ (q : Process). q .credential) p) in
     let nn : next ≡ activeProcess st (claimed s claim) .next = en ∙ ap (λ (q : Process). q .next) p in
-    rw (h, eb, ew, nn, ff, cc)
+    rw (h, eg, nn, ff, cc)
 
 -- and what its check answers
-pub admission-is : (st : State) (s : Session) (claim : Claim) {view : ClaimView} {by : Admission} → view ≡ claimView st s claim → by ≡ checkedClaim s claim view → by ≡ admission st s claim
-unfolding admission
-admission-is st s claim e q = q ∙ rw e
+pub checked-is : (st : State) (s : Session) (claim : Claim) {view : ClaimView} {by : Checked} → view ≡ claimView st s claim → by ≡ checkOf s claim view → by ≡ checked st s claim
+unfolding checked
+checked-is st s claim e q = q ∙ rw e
 
-viewed-number : (st : State) (s : Session) (claim : Claim) → viewedNumber claim (claimView st s claim) ≡ claimNumber st s claim
-unfolding claimView viewedNumber claimNumber elevatedNumber userNumber claimed claimant
-viewed-number st s Elevated = rw (found-active st (claimed s Elevated) (findActive (st .table) (claimed s Elevated)) refl)
-viewed-number st s (ByUser u) = rw (found-active st (claimed s (ByUser u)) (findActive (st .table) (claimed s (ByUser u))) refl)
+-- ---- the check, of a state: its tests
+module _ (st : State) (s : Session) where
+  pub elevated-tests : claimNumber Elevated (claimView st s Elevated) ≡ 6 unless hasActive st (ElevationIn s)
+  unfolding claimNumber claimView claimed
+  elevated-tests = rw (found-active st (ElevationIn s) (findActive (st .table) (ElevationIn s)) refl)
+
+  pub user-tests : (u : UserClaim)
+      → claimNumber (ByUser u) (claimView st s (ByUser u))
+      ≡ 5 unless provisioned st (u .credential) ▸ 6 unless hasActive st (UserOf s (u .credential)) ▸ turnNumber (activeProcess st (UserOf s (u .credential)) .next) u
+  unfolding claimNumber claimView claimed speaker provisioned
+  user-tests u = rw (found-active st (UserOf s (u .credential)) (findActive (st .table) (UserOf s (u .credential))) refl)
+
+-- ---- what a claim that passed it says
+module _ (st : State) (s : Session) where
+  pub record PassedCheck (claim : Claim) : Type 0 where
+    pub range : isClaim claim ≡ true
+    pub handle : isHandle s ≡ true
+    pub opened : isClosed (phaseOf st s) ≡ false
+    pub chosen : isChosen (phaseOf st s) ≡ true
+    pub active : hasActive st (claimed s claim) ≡ true
+
+  pub record PassedUser (u : UserClaim) : Type 0 where
+    pub owner : provisioned st (u .credential) ≡ true
+    pub unspent : isSpent (activeProcess st (UserOf s (u .credential)) .next) ≡ false
+    pub turn : u .number ≡ activeProcess st (UserOf s (u .credential)) .next
+    pub yes : u .verdict ≡ true
+
+  entered-of : (claim : Claim) → admitted st s claim ≡ 0 → entered st s ≡ 0
+  unfolding admitted checked checkOf checkNumber entered claimView
+  entered-of claim z = clear-first _ _ (clear-rest _ _ z)
+
+  claim-of : (claim : Claim) → admitted st s claim ≡ 0 → claimNumber claim (claimView st s claim) ≡ 0
+  unfolding admitted checked checkOf checkNumber
+  claim-of claim z = clear-rest _ _ (clear-rest _ _ z)
+
+  active-of : (claim : Claim) → claimNumber claim (claimView st s claim) ≡ 0 → hasActive st (claimed s claim) ≡ true
+  unfolding claimed
+  active-of Elevated z = clear-unless 6 tt _ (sym (elevated-tests st s) ∙ z)
+  active-of (ByUser u) z = clear-unless 6 tt _ (clear-first _ _ (clear-rest _ _ (sym (user-tests st s u) ∙ z)))
+
+  pub passed-check : (claim : Claim) → admitted st s claim ≡ 0 → PassedCheck claim
+  unfolding admitted checked checkOf checkNumber entered phaseNumber
+  passed-check claim z =
+      let entry = entered-of claim z in
+      record {
+        range = clear-unless 1 tt _ (clear-first _ _ z);
+        handle = clear-unless 1 tt _ (clear-first _ _ entry);
+        opened = clear-when 2 tt _ (clear-first _ _ (clear-rest _ _ entry));
+        chosen = clear-unless 3 tt _ (clear-rest _ _ (clear-rest _ _ entry));
+        active = active-of claim (claim-of claim z);
+      }
+
+  pub passed-user : (u : UserClaim) → admitted st s (ByUser u) ≡ 0 → PassedUser u
+  unfolding turnNumber
+  passed-user u z =
+      let tests = sym (user-tests st s u) ∙ claim-of (ByUser u) z in
+      let turn = clear-rest _ _ (clear-rest _ _ tests) in
+      record {
+        owner = clear-unless 5 tt _ (clear-first _ _ tests);
+        unspent = clear-when 13 tt _ (clear-first _ _ turn);
+        turn = eqb-true _ _ (clear-unless 9 tt _ (clear-first _ _ (clear-rest _ _ turn)));
+        yes = clear-unless 8 tt _ (clear-rest _ _ (clear-rest _ _ turn));
+      }
 
 pub claim-stands : (st : State) (s : Session) (claim : Claim) → admitted st s claim ≡ 0 → hasActive st (claimed s claim) ≡ true
-unfolding admitted claimNumber elevatedNumber userNumber claimed
-claim-stands st s Elevated z = clear-unless 6 tt _ (clear-rest _ _ (clear-rest _ _ z))
-claim-stands st s (ByUser u) z = clear-unless 6 tt _ (clear-first _ _ (clear-rest _ _ (clear-rest _ _ (clear-rest _ _ z))))
+claim-stands st s claim z = passed-check st s claim z .active
 
-module _ (st : State) (s : Session) (claim : Claim) where
-  viewed-phase : phaseNumber s (claimView st s claim .phase) ≡ phaseNumber s (phaseOf st s)
-  unfolding claimView
-  viewed-phase = refl
+-- ---- what it hands on
+module _ (st : State) (s : Session) (claim : Claim) {by : Checked} (e : by ≡ checked st s claim) where
+  pub checked-number : by .number ≡ admitted st s claim
+  unfolding admitted
+  checked-number = rw e
 
-  pub admission-number : admission st s claim .number ≡ admitted st s claim
-  unfolding admission checkedClaim checkedNumber admitted entered
-  admission-number = rw (viewed-number st s claim, viewed-phase)
+  pub checked-next : by .next ≡ activeProcess st (claimed s claim) .next
+  unfolding checked checkOf claimView
+  checked-next = rw e
 
-  pub admission-credential : admission st s claim .credential ≡ claimant st s claim
-  unfolding admission checkedClaim claimView
-  admission-credential = refl
-
-  pub admission-word : admission st s claim .word ≡ wordOf st (claimant st s claim)
-  unfolding admission checkedClaim claimView
-  admission-word = refl
-
-  pub admission-next : admission st s claim .next ≡ activeProcess st (claimed s claim) .next
-  unfolding admission checkedClaim claimView
-  admission-next = refl
-
-  pub admission-place : admitted st s claim ≡ 0 → admission st s claim .place ≡ activePlace st (claimed s claim)
-  unfolding admission checkedClaim claimView
-  admission-place z =
-      place-found st (claimed s claim) (findActive (st .table) (claimed s claim)) refl
-      (found-active st (claimed s claim) (findActive (st .table) (claimed s claim)) refl ∙ claim-stands st s claim z)
+  pub checked-place : by .number ≡ 0 → by .place ≡ activePlace st (claimed s claim)
+  unfolding checked checkOf claimView admitted
+  checked-place z =
+      let n : admitted st s claim ≡ 0 = sym checked-number ∙ z in
+      rw (e, n)
+      (place-found st (claimed s claim) (findActive (st .table) (claimed s claim)) refl
+      (found-active st (claimed s claim) (findActive (st .table) (claimed s claim)) refl ∙ claim-stands st s claim n))
 
 -- a claim that passed its check was admitted
-pub passed-admitted : (by : Admission) (n : ℕ) {passed : Bool} → passed ≡ passedBy by n → passed ≡ true → by .number ≡ 0
+pub passed-admitted : (by : Checked) (n : ℕ) {passed : Bool} → passed ≡ passedBy by n → passed ≡ true → by .number ≡ 0
 unfolding passedBy
 passed-admitted by n p e = eqb-true (by .number) 0 (and-left (eqb (by .number) 0) (not (eqb n 1)) (sym p ∙ e))

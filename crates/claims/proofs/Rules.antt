@@ -7,10 +7,15 @@ use native.Mathlib.Omega.{arith}
 use lib.Dec.{T, eqb, ltb, leb, ltb→lt}
 use lib.ListN.{length, getD, List·getD-eq-default}
 use borrow.Author.Needs.{needs}
-use borrow.Author.Tests.{not-true, not-false, le-leb, lt-leb}
+use borrow.Author.Tests.{not-true, not-false, le-leb, lt-leb, ne-eqb}
 use Rattle.lists.proofs.Lists.{length-mapped}
+use Rattle.claims.specs.declared.Checked.{Checked}
+use Rattle.claims.specs.declared.Claim.{Claim}
 use Rattle.claims.specs.declared.Class.{Class}
 use Rattle.claims.specs.declared.Grants.{Grants}
+use Rattle.claims.specs.declared.Lookup.{Lookup}
+use Rattle.claims.specs.declared.Lookup.the-variants.{NotGranted, Granted}
+use Rattle.claims.specs.declared.Placed.{Placed}
 use Rattle.claims.specs.declared.SessionState.{SessionState}
 use Rattle.claims.specs.declared.State.{State}
 use Rattle.claims.specs.declared.Phase.{Phase}
@@ -18,8 +23,8 @@ use Rattle.claims.specs.declared.Phase.the-variants.{Closed, Opened, Cho
 use Rattle.names.specs.declared.Credential.{Credential}
 use Rattle.names.specs.declared.Session.{Session}
 use Rattle.claims.specs.Numbers.{_when_, _unless_, _▸_}
-use Rattle.claims.specs.Module.{isHandle, closedSession, phaseOf, isClosed, isChosen, isCredential, unprovisioned, provisioned, wordOf, wordGrants}
-use Rattle.claims.specs.Claim.{phaseNumber, entered}
+use Rattle.claims.specs.Module.{isHandle, closedSession, phaseOf, isClosed, isChosen, isCredential, unprovisioned, grantsOf, provisioned, wordGrants, lookup}
+use Rattle.claims.specs.Claim.{phaseNumber, entered, placed, lookupNumber, grantNumber}
 use Rattle.claims.proofs.Laws.{stop, pass, when-true, when-false, unless-true, unless-false}
 
 pub nonzero : {n : ℕ} → T (ltb 0 n) → n ≡ 0 → ⊥
@@ -93,25 +98,17 @@ module _ {a b : Phase} (e : a ≡ b) where
   closed-chosen q = rw (← e, q)
 
 module _ (st : State) (c : Credential) where
-  pub provisioned-in : getD (st .credentials) (c .0) unprovisioned .provisioned ≡ provisioned st c
+  pub grants-in : getD (st .credentials) (c .0) unprovisioned ≡ grantsOf st c
+  unfolding grantsOf
+  grants-in = refl
+
+  pub grants-out : length (st .credentials) ≡ 8 → 8 ≤ c .0 → unprovisioned ≡ grantsOf st c
+  unfolding grantsOf
+  grants-out h k = sym (List·getD-eq-default (st .credentials) unprovisioned (omega arith))
+
+  pub provisioned-of : {g : Grants} → g ≡ grantsOf st c → g .provisioned ≡ provisioned st c
   unfolding provisioned
-  provisioned-in = refl
-
-  pub word-in : getD (st .credentials) (c .0) unprovisioned .word ≡ wordOf st c
-  unfolding wordOf
-  word-in = refl
-
-  module _ (h : length (st .credentials) ≡ 8) (k : 8 ≤ c .0) where
-    out : getD (st .credentials) (c .0) unprovisioned ≡ unprovisioned
-    out = List·getD-eq-default (st .credentials) unprovisioned (omega arith)
-
-    pub provisioned-out : false ≡ provisioned st c
-    unfolding provisioned
-    provisioned-out = ap (λ (g : Grants). g .provisioned) (sym out)
-
-    pub word-out : 0 ≡ wordOf st c
-    unfolding wordOf
-    word-out = ap (λ (g : Grants). g .word) (sym out)
+  provisioned-of e = rw e
 
 module _ (word : ℕ) (class : Class) where
   pub grants-not : 31 < class .0 → false ≡ wordGrants word class
@@ -121,6 +118,49 @@ module _ (word : ℕ) (class : Class) where
   pub grants-is : class .0 ≤ 31 → eqb (word / 2 ^ (class .0) % 2) 1 ≡ wordGrants word class
   unfolding wordGrants
   grants-is h = rw (le-leb (class .0) 31 h)
+
+module _ (grants : Grants) (class : Class) {b : Bool} (e : b ≡ wordGrants (grants .word) class) where
+  pub lookup-granted : b ≡ true → Granted ≡ lookup grants class
+  unfolding lookup
+  lookup-granted h = rw (← e, h)
+
+  pub lookup-not : b ≡ false → NotGranted ≡ lookup grants class
+  unfolding lookup
+  lookup-not h = rw (← e, h)
+
+module _ (claim : Claim) {answer : Lookup} where
+  pub number-granted : answer ≡ Granted → 0 ≡ lookupNumber claim answer
+  unfolding lookupNumber
+  number-granted e = rw e
+
+  pub number-not : answer ≡ NotGranted → 10 ≡ lookupNumber claim answer
+  unfolding lookupNumber
+  number-not e = rw e
+
+pub grant-is : (by : Checked) (class : Class) {claim : Claim} {grants : Grants} {answer : Lookup} {n : ℕ}
+    → claim ≡ by .claim → grants ≡ by .grants → answer ≡ lookup grants class → n ≡ lookupNumber claim answer → n ≡ grantNumber by class
+unfolding grantNumber
+grant-is by class a b c d = d ∙ rw (c, b, a)
+
+-- ---- tests that find a process
+module _ (m at : ℕ) where
+  placed-refused : {n : ℕ} → n ≡ m → (n ≡ 0 → ⊥) → _≡_ {A = Placed} (record { number = n; place = 0 }) (placed m at)
+  unfolding placed
+  placed-refused {n} e h = rw (← e, ne-eqb n 0 h)
+
+  pub placed-found : {k : ℕ} → 0 ≡ m → k ≡ at → _≡_ {A = Placed} (record { number = 0; place = k }) (placed m at)
+  unfolding placed
+  placed-found e q = rw (← e, q)
+
+  module _ {r : Placed} where
+    pub refused-placed : {n : ℕ} → r ≡ record { number = n; place = 0 } → (n ≡ 0 → ⊥) → n ≡ m → r ≡ placed m at
+    refused-placed q h e = q ∙ placed-refused e h
+
+    pub number-placed : {n : ℕ} → r ≡ record { number = n; place = 0 } → T (ltb 0 n) → n ≡ m → r ≡ placed m at
+    number-placed q some e = q ∙ placed-refused e (nonzero some)
+
+    pub placed-on : (n : ℕ) → r ≡ placed n at → n ≡ m → r ≡ placed m at
+    placed-on n q e = q ∙ rw e
 
 -- ---- a session, by its phase
 module _ (s : Session) (phase : Phase) {b : Bool} (e : b ≡ isHandle s) where
@@ -145,4 +185,4 @@ pub entered-is : (st : State) (s : Session) {phase : Phase} {n : ℕ} → phase 
 unfolding entered
 entered-is st s e q = q ∙ rw e
 
-pub ruleset rules = (needs, length-mapped, when-hit, when-miss, unless-hit, unless-miss, when-stop, when-pass, unless-stop, unless-pass, part-stop, part-pass, handle-is, credential-is, phase-in, phase-out, closed-closed, closed-opened, closed-chosen, phase-argument, phase-closed, phase-opened, phase-chosen, entered-is, provisioned-in, word-in, provisioned-out, word-out, grants-not, grants-is)
+pub ruleset rules = (needs, length-mapped, when-hit, when-miss, unless-hit, unless-miss, when-stop, when-pass, unless-stop, unless-pass, part-stop, part-pass, handle-is, credential-is, phase-in, phase-out, closed-closed, closed-opened, closed-chosen, phase-argument, phase-closed, phase-opened, phase-chosen, entered-is, grants-in, grants-out, provisioned-of, grants-not, grants-is, lookup-granted, lookup-not, number-granted, number-not, grant-is, placed-found, refused-placed, number-placed, placed-on)

@@ -10,14 +10,18 @@ use Rattle.claims.proofs.phase_of.Kinds as phase-of-kinds
 use Rattle.claims.proofs.phase_of.Reads as phase-of
 use Rattle.claims.proofs.is_closed.Kinds as is-closed-kinds
 use Rattle.claims.proofs.is_closed.Reads as is-closed
-use Rattle.claims.proofs.provisioned.Kinds as provisioned-kinds
-use Rattle.claims.proofs.provisioned.Reads as provisioned
-use Rattle.claims.proofs.word_of.Kinds as word-of-kinds
-use Rattle.claims.proofs.word_of.Reads as word-of
-use Rattle.claims.proofs.word_grants.Kinds as word-grants-kinds
-use Rattle.claims.proofs.word_grants.Reads as word-grants
+use Rattle.claims.proofs.grants_of.Kinds as grants-of-kinds
+use Rattle.claims.proofs.grants_of.Reads as grants-of
+use Rattle.claims.proofs.look_up.Kinds as look-up-kinds
+use Rattle.claims.proofs.look_up.Reads as look-up
+use Rattle.claims.proofs.lookup_number.Kinds as lookup-number-kinds
+use Rattle.claims.proofs.lookup_number.Reads as lookup-number
+use Rattle.claims.proofs.grant_number.Kinds as grant-number-kinds
+use Rattle.claims.proofs.grant_number.Reads as grant-number
 use Rattle.claims.proofs.phase_number.Kinds as phase-number-kinds
 use Rattle.claims.proofs.phase_number.Reads as phase-number
+use Rattle.claims.proofs.refused.Kinds as refused-kinds
+use Rattle.claims.proofs.refused.Reads as refused
 use Rattle.claims.proofs.entered.Kinds as entered-kinds
 use Rattle.claims.proofs.entered.Reads as entered
 
@@ -33,17 +37,23 @@ phase-of-once κs a x y s t p q = p ∙ sym q
 pub is-closed-once : OneAnswer 0 is-closed-kinds.ps is-closed-kinds.r is-closed.Post
 is-closed-once κs a x y s t p q = p ∙ sym q
 
-pub provisioned-once : OneAnswer 0 provisioned-kinds.ps provisioned-kinds.r provisioned.Post
-provisioned-once κs a x y s t p q = p ∙ sym q
+pub grants-of-once : OneAnswer 0 grants-of-kinds.ps grants-of-kinds.r grants-of.Post
+grants-of-once κs a x y s t p q = p ∙ sym q
 
-pub word-of-once : OneAnswer 0 word-of-kinds.ps word-of-kinds.r word-of.Post
-word-of-once κs a x y s t p q = p ∙ sym q
+pub look-up-once : OneAnswer 0 look-up-kinds.ps look-up-kinds.r look-up.Post
+look-up-once κs a x y s t p q = p ∙ sym q
 
-pub word-grants-once : OneAnswer 0 word-grants-kinds.ps word-grants-kinds.r word-grants.Post
-word-grants-once κs a x y s t p q = p ∙ sym q
+pub lookup-number-once : OneAnswer 0 lookup-number-kinds.ps lookup-number-kinds.r lookup-number.Post
+lookup-number-once κs a x y s t p q = p ∙ sym q
+
+pub grant-number-once : OneAnswer 0 grant-number-kinds.ps grant-number-kinds.r grant-number.Post
+grant-number-once κs a x y s t p q = p ∙ sym q
 
 pub phase-number-once : OneAnswer 0 phase-number-kinds.ps phase-number-kinds.r phase-number.Post
 phase-number-once κs a x y s t p q = p ∙ sym q
 
 pub entered-once : OneAnswer 0 entered-kinds.ps entered-kinds.r entered.Post
 entered-once κs a x y s t p q = p ∙ sym q
+
+pub refused-once : OneAnswer 0 refused-kinds.ps refused-kinds.r refused.Post
+refused-once κs a x y s t p q = p ∙ sym q

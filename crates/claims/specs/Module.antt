@@ -1,6 +1,6 @@
 -- "What the module holds"
 use Prim.Native.Nat.{ℕ, _/_, _%_, _^_, _+_}
-use mathlib.Core.Bool.{Bool, true, false, _&&_}
+use mathlib.Core.Bool.{Bool, true, false, cond, _&&_}
 use mathlib.Core.List.{List}
 use lib.Dec.{eqb, leb}
 use lib.ListN.{getD}
@@ -13,6 +13,8 @@ use Rattle.table.specs.declared.Process.{Process}
 use Rattle.table.specs.declared.Table.{Table}
 use Rattle.claims.specs.declared.Class.{Class}
 use Rattle.claims.specs.declared.Grants.{Grants}
+use Rattle.claims.specs.declared.Lookup.{Lookup}
+use Rattle.claims.specs.declared.Lookup.the-variants.{NotGranted, Granted}
 use Rattle.claims.specs.declared.Phase.{Phase}
 use Rattle.claims.specs.declared.Phase.the-variants.{Closed, Opened, Chosen}
 use Rattle.claims.specs.declared.SessionState.{SessionState}
@@ -57,17 +59,19 @@ isCredential c = leb (c .0) lastCredential
 abbrev pub unprovisioned : Grants
 unprovisioned = record { provisioned = false; word = 0 }
 
-unfoldable pub provisioned : State → Credential → Bool
-provisioned st c = getD (st .credentials) (c .0) unprovisioned .provisioned
+unfoldable pub grantsOf : State → Credential → Grants
+grantsOf st c = getD (st .credentials) (c .0) unprovisioned
 
-unfoldable pub wordOf : State → Credential → ℕ
-wordOf st c = getD (st .credentials) (c .0) unprovisioned .word
+unfoldable pub provisioned : State → Credential → Bool
+unfolding grantsOf
+provisioned st c = grantsOf st c .provisioned
 
 unfoldable pub wordGrants : ℕ → Class → Bool
 wordGrants word class = leb (class .0) 31 && eqb (word / 2 ^ (class .0) % 2) 1
 
-unfoldable pub granted : State → Credential → Class → Bool
-granted st c class = wordGrants (wordOf st c) class
+-- what the grants of a credential answer for a class
+unfoldable pub lookup : Grants → Class → Lookup
+lookup grants class = cond (wordGrants (grants .word) class) Granted NotGranted
 
 -- ---- the table's active processes: whether there is one; its place, and itself
 unfoldable pub hasActive : State → Active → Bool

@@ -1,7 +1,7 @@
 // What the module holds, and whom it grants what; the types of a claim and of its check.
 ghost use mathlib.Core.Path.{_≡_};
-ghost use Rattle.claims.specs.Module.{isHandle, isCredential, phaseOf, isClosed, provisioned, wordOf, wordGrants};
-ghost use Rattle.claims.specs.Claim.{phaseNumber, entered};
+ghost use Rattle.claims.specs.Module.{isHandle, isCredential, phaseOf, isClosed, grantsOf, wordGrants, lookup};
+ghost use Rattle.claims.specs.Claim.{phaseNumber, entered, lookupNumber, grantNumber};
 use names::Credential;
 use names::Session;
 use table::Found;
@@ -76,6 +76,18 @@ pub struct Grants {
     pub word: u32,
 }
 
+// What a credential has that is not provisioned.
+pub const UNPROVISIONED: Grants = Grants {
+    provisioned: false,
+    word: 0,
+};
+
+// What the grants of a credential answer for a class.
+pub enum Lookup {
+    NotGranted,
+    Granted,
+}
+
 pub struct State {
     pub sessions: [SessionState; SESSIONS],
     pub credentials: [Grants; CREDENTIALS],
@@ -96,20 +108,26 @@ pub enum Claim {
 // What a state tells of a claim that is made in a session: all that its check asks.
 pub struct ClaimView {
     pub phase: Phase,
-    pub provisioned: bool,
     pub found: Found,
     pub next: u16,
     pub credential: Credential,
-    pub word: u32,
+    pub grants: Grants,
 }
 
 // What the check of a claim comes to: its number, and what a call goes on with where that is 0.
-pub struct Admission {
+pub struct Checked {
+    pub claim: Claim,
     pub number: u8,
     pub place: usize,
     pub next: u16,
     pub credential: Credential,
-    pub word: u32,
+    pub grants: Grants,
+}
+
+// What tests come to that find a process: their number, and the place of the process where that is 0.
+pub struct Placed {
+    pub number: u8,
+    pub place: usize,
 }
 
 pub fn is_handle(s: Session) -> bool
@@ -148,34 +166,21 @@ pub fn is_closed(st: State, s: Session) -> bool
     }
 }
 
-pub fn provisioned(st: State, c: Credential) -> bool
-    ensures { λ r. ⌜ r ≡ provisioned st c ⌝ }
+// The grants of a credential; one that there is none of is not provisioned.
+pub fn grants_of(st: State, c: Credential) -> Grants
+    ensures { λ r. ⌜ r ≡ grantsOf st c ⌝ }
 {
     let at = c.0 as usize;
     if at < CREDENTIALS {
         let credentials = st.credentials;
-        let one = credentials[at];
-        one.provisioned
+        credentials[at]
     } else {
-        false
-    }
-}
-
-pub fn word_of(st: State, c: Credential) -> u32
-    ensures { λ r. ⌜ r ≡ wordOf st c ⌝ }
-{
-    let at = c.0 as usize;
-    if at < CREDENTIALS {
-        let credentials = st.credentials;
-        let one = credentials[at];
-        one.word
-    } else {
-        0
+        UNPROVISIONED
     }
 }
 
 // Whether a grant word grants a class.
-pub fn word_grants(word: u32, class: Class) -> bool
+fn word_grants(word: u32, class: Class) -> bool
     ensures { λ r. ⌜ r ≡ wordGrants word class ⌝ }
 {
     if 31 < class.0 {
@@ -183,6 +188,35 @@ pub fn word_grants(word: u32, class: Class) -> bool
     }
     let bit = class.0 as u32;
     (word >> bit) % 2 == 1
+}
+
+pub fn look_up(grants: Grants, class: Class) -> Lookup
+    ensures { λ r. ⌜ r ≡ lookup grants class ⌝ }
+{
+    if word_grants(grants.word, class) {
+        Lookup::Granted
+    } else {
+        Lookup::NotGranted
+    }
+}
+
+// The number of each answer of the lookup, for a claim.
+pub fn lookup_number(claim: Claim, answer: Lookup) -> u8
+    ensures { λ r. ⌜ r ≡ lookupNumber claim answer ⌝ }
+{
+    match answer {
+        Lookup::NotGranted => NOT_GRANTED,
+        Lookup::Granted => DONE,
+    }
+}
+
+// The test that a class is granted, by what the check of a claim came to.
+pub fn grant_number(by: Checked, class: Class) -> u8
+    ensures { λ r. ⌜ r ≡ grantNumber by class ⌝ }
+{
+    let claim = by.claim;
+    let grants = by.grants;
+    lookup_number(claim, look_up(grants, class))
 }
 
 // The tests that all calls but open, close and select begin with, of a session in a phase.
@@ -203,4 +237,14 @@ pub fn entered(st: State, s: Session) -> u8
     ensures { λ r. ⌜ r ≡ entered st s ⌝ }
 {
     phase_number(s, phase_of(st, s))
+}
+
+// Tests that refuse: their number, and no place.
+pub fn refused(n: u8) -> Placed
+    ensures { λ r. ⌜ r ≡ record { number = n; place = 0 } ⌝ }
+{
+    Placed {
+        number: n,
+        place: 0,
+    }
 }

@@ -12,8 +12,8 @@ use Rattle.effects.proofs.with_table.Kinds as with-table-kinds
 use Rattle.effects.proofs.with_table.Reads as with-table
 use Rattle.effects.proofs.with_phase.Kinds as with-phase-kinds
 use Rattle.effects.proofs.with_phase.Reads as with-phase
-use Rattle.effects.proofs.with_word.Kinds as with-word-kinds
-use Rattle.effects.proofs.with_word.Reads as with-word
+use Rattle.effects.proofs.with_grants.Kinds as with-grants-kinds
+use Rattle.effects.proofs.with_grants.Reads as with-grants
 use Rattle.effects.proofs.user_process.Kinds as user-process-kinds
 use Rattle.effects.proofs.user_process.Reads as user-process
 use Rattle.effects.proofs.elevation.Kinds as elevation-kinds
@@ -40,8 +40,8 @@ with-table-once κs a x y s t p q = p ∙ sym q
 pub with-phase-once : OneAnswer 0 with-phase-kinds.ps with-phase-kinds.r with-phase.Post
 with-phase-once κs a x y s t p q = p ∙ sym q
 
-pub with-word-once : OneAnswer 0 with-word-kinds.ps with-word-kinds.r with-word.Post
-with-word-once κs a x y s t p q = p ∙ sym q
+pub with-grants-once : OneAnswer 0 with-grants-kinds.ps with-grants-kinds.r with-grants.Post
+with-grants-once κs a x y s t p q = p ∙ sym q
 
 pub user-process-once : OneAnswer 0 user-process-kinds.ps user-process-kinds.r user-process.Post
 user-process-once κs a x y s t p q = p ∙ sym q

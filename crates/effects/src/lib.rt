@@ -1,6 +1,6 @@
 // What the calls make: outcomes, states with one part changed, processes; and a fresh module.
 ghost use mathlib.Core.Path.{_≡_};
-ghost use Rattle.calls.specs.Calls.{withTable, withPhase, withWord, userProcess, elevation, activated, saved, ended, taken, fresh};
+ghost use Rattle.calls.specs.Calls.{withTable, withPhase, withGrants, userProcess, elevation, activated, saved, ended, taken, fresh};
 use calls::Answer;
 use calls::Outcome;
 use claims::CREDENTIALS;
@@ -10,6 +10,7 @@ use claims::Phase;
 use claims::SESSIONS;
 use claims::SessionState;
 use claims::State;
+use claims::UNPROVISIONED;
 use names::Credential;
 use names::Kind;
 use names::Name;
@@ -78,18 +79,15 @@ pub fn with_phase(st: State, s: Session, phase: Phase) -> State
     }
 }
 
-pub fn with_word(st: State, c: Credential, word: u32) -> State
-    ensures { λ r. ⌜ r ≡ withWord st c word ⌝ }
+pub fn with_grants(st: State, c: Credential, grants: Grants) -> State
+    ensures { λ r. ⌜ r ≡ withGrants st c grants ⌝ }
 {
     let at = c.0 as usize;
     if CREDENTIALS <= at {
         return st;
     }
     let mut credentials = st.credentials;
-    credentials[at] = Grants {
-        provisioned: true,
-        word: word,
-    };
+    credentials[at] = grants;
     let sessions = st.sessions;
     let t = st.table;
     State {
@@ -176,10 +174,7 @@ fn taken(pair: Grants) -> Grants
     if pair.provisioned {
         pair
     } else {
-        Grants {
-            provisioned: false,
-            word: 0,
-        }
+        UNPROVISIONED
     }
 }
 

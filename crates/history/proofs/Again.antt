@@ -19,12 +19,12 @@ use Rattle.table.proofs.Searched.{user-of}
 use Rattle.claims.specs.Numbers as No
 use Rattle.claims.specs.Numbers.{_when_, _unless_, _▸_}
 use Rattle.claims.specs.Module.{isHandle, phaseOf, isClosed, isChosen, hasActive, activePlace, activeProcess}
-use Rattle.claims.specs.Claim.{phaseNumber, entered, isClaim, isSpent, turnNumber, userNumber, claimNumber, admitted}
+use Rattle.claims.specs.Claim.{phaseNumber, entered, claimView, isClaim, isSpent, turnNumber, checkNumber, checkOf, checked, admitted}
 use Rattle.claims.specs.declared.Claim.the-variants.{ByUser}
 use Rattle.claims.specs.declared.State.{State}
 use Rattle.claims.specs.declared.UserClaim.{UserClaim}
-use Rattle.claims.proofs.Laws.{pass, unless-true, when-false, clear-first, clear-rest, clear-unless}
-use Rattle.calls.specs.Calls.{Call, Open, Close, Drop, Select, Start, Continue, Elevate, End, Record, ListProcesses, Kill, SetWord, Under, number, protection, aheadNumber, protectedNumber, passes}
+use Rattle.claims.proofs.Laws.{pass, unless-true, when-false, clear-first, clear-rest, clear-unless, passed-check, user-tests}
+use Rattle.calls.specs.Calls.{Call, Open, Close, Drop, Select, Start, Continue, Elevate, End, Record, ListProcesses, Kill, SetWord, Under, protection, endTests, recordTests, listTests, killTests, setWordTests, number, aheadNumber, protectedNumber, passes}
 use Rattle.calls.specs.Run.{step, run}
 use Rattle.calls.proofs.Facts.{needs}
 use Rattle.calls.proofs.Laws.{answer-number}
@@ -43,16 +43,14 @@ use Rattle.history.proofs.Along.{rules-along, told-along, larger}
 -- ---- what a claim that passed says of itself, whatever the state
 module _ (st : State) (s : Session) (u : UserClaim) (z : admitted st s (ByUser u) ≡ 0) where
   in-range : isClaim (ByUser u) ≡ true
-  unfolding admitted
-  in-range = clear-unless No.argument tt _ (clear-first _ _ z)
+  in-range = passed-check st s (ByUser u) z .range
 
   is-handle : isHandle s ≡ true
-  unfolding admitted entered phaseNumber
-  is-handle = clear-unless No.argument tt _ (clear-first _ _ (clear-first _ _ (clear-rest _ _ z)))
+  is-handle = passed-check st s (ByUser u) z .handle
 
 -- the tests ahead of a claim ask nothing of the state
 ahead-same : (st last : State) (call : Call) (s : Session) (u : UserClaim) → protection call ≡ Under s (ByUser u) → aheadNumber last call ≡ aheadNumber st call
-unfolding protection aheadNumber
+unfolding protection aheadNumber endTests recordTests listTests killTests setWordTests
 ahead-same st last (Open t) s u e = cc
 ahead-same st last (Close t) s u e = cc
 ahead-same st last (Drop t) s u e = cc
@@ -86,10 +84,11 @@ module _ (st : State) (v : Rules st) (s : Session) (u : UserClaim) (range : isCl
       pass _ (unless-true No.argument handle) ∙ pass _ (when-false No.session unclosed) ∙ unless-true No.noVersion chosen
 
   turn-alone : admitted st s (ByUser u) ≡ turnNumber (activeProcess st (UserOf s (u .credential)) .next) u
-  unfolding admitted claimNumber userNumber
+  unfolding admitted checked checkOf checkNumber entered claimView
   turn-alone =
       pass _ (unless-true No.argument range)
       ∙ pass _ entered-is
+      ∙ user-tests st s u
       ∙ pass _ (unless-true No.credential (owner st v s u h))
       ∙ pass _ (unless-true No.noProcess h)
 

@@ -3,7 +3,7 @@
 use Prim.Native.Nat.{_<_}
 use mathlib.Core.Path.{_≡_, refl, sym}
 use mathlib.Core.Bool.{true, false}
-use borrow.Author.Tests.{eqb-false, leb-false}
+use borrow.Author.Tests.{eqb-true, eqb-false, leb-false}
 use Rattle.names.specs.declared.Credential.{Credential}
 use Rattle.names.specs.declared.Name.{Name}
 use Rattle.names.specs.declared.Session.{Session}
@@ -14,17 +14,16 @@ use Rattle.table.specs.declared.Among.the-variants.{All, SavedOf}
 use Rattle.claims.specs.Numbers as No
 use Rattle.claims.specs.Numbers.{_when_, _▸_}
 use Rattle.claims.specs.Module.{phaseOf, isClosed, isChosen, provisioned, hasActive, activePlace, activeProcess}
-use Rattle.claims.specs.Claim.{phaseNumber, entered, isSpent, admitted, claimant}
+use Rattle.claims.specs.Claim.{phaseNumber, entered, claimed, isSpent, checked, admitted}
 use Rattle.claims.specs.declared.Claim.{Claim}
 use Rattle.claims.specs.declared.Claim.the-variants.{Elevated, ByUser}
 use Rattle.claims.specs.declared.Phase.{Phase}
 use Rattle.claims.specs.declared.Phase.the-variants.{Closed, Opened, Chosen}
 use Rattle.claims.specs.declared.State.{State}
 use Rattle.claims.specs.declared.UserClaim.{UserClaim}
-use Rattle.claims.proofs.Laws.{clear-first, clear-rest, clear-when, clear-unless}
-use Rattle.calls.specs.Calls.{Call, Open, Close, Drop, Select, Start, Continue, Elevate, End, Record, ListProcesses, Kill, SetWord, isFull, hasNamed, namedPlace, reach, number, Under, protection, protectedNumber}
-use Rattle.calls.proofs.Cut.{number-done, passed-claim}
-use Rattle.calls.proofs.Facts.{ClaimNeeds, needs}
+use Rattle.claims.proofs.Laws.{clear-first, clear-rest, clear-when, clear-unless, passed-check, passed-user}
+use Rattle.calls.specs.Calls.{Call, Open, Close, Drop, Select, Start, Continue, Elevate, End, Record, ListProcesses, Kill, SetWord, isFull, hasNamed, namedPlace, reach, killTests, setWordTests, number}
+use Rattle.calls.proofs.Cut.{accepted}
 use Rattle.lists.specs.Each.{Each}
 use Rattle.lists.proofs.Each.{Stands, found, each-fails}
 use Rattle.facts.specs.Facts.{processes}
@@ -86,21 +85,20 @@ module _ (st : State) where
   Admitted s (ByUser u) = Claimed s u
 
   pub passed : (s : Session) (claim : Claim) → admitted st s claim ≡ 0 → Admitted s claim
-  unfolding isSpent
+  unfolding claimed isSpent
   passed s Elevated e = tt
   passed s (ByUser u) e =
-      let is : ClaimNeeds st s u = needs st s (ByUser u) e in
-      record { stands = stands (UserOf s (u .credential)) (is .active); unspent = eqb-false _ _ (is .unspent); number = is .turn }
-
-  -- an accepted call's claim
-  accepted : (call : Call) {s : Session} {claim : Claim} → protection call ≡ Under s claim → number st call ≡ 0 → Admitted s claim
-  unfolding protectedNumber
-  accepted call {s} {claim} w e = passed s claim (rw w at (passed-claim st call (number-done st call e)))
+      let user = passed-user st s u e in
+      record {
+        stands = stands (UserOf s (u .credential)) (passed-check st s (ByUser u) e .active);
+        unspent = eqb-false _ _ (user .unspent);
+        number = user .turn;
+      }
 
   -- ---- a kill, by its claim, of the process of a name that it may kill
   pub record Killed (s : Session) (claim : Claim) (name : Name) : Type 0 where
     pub admission : Admitted s claim
-    pub stands : Stands (isNamed name (reach st (claimant st s claim))) (processes st) freePlace (namedPlace st name (reach st (claimant st s claim)))
+    pub stands : Stands (isNamed name (reach (checked st s claim))) (processes st) freePlace (namedPlace st name (reach (checked st s claim)))
 
   -- ---- the word of a provisioned credential set
   pub record Set (s : Session) (claim : Claim) (c : Credential) : Type 0 where
@@ -123,7 +121,7 @@ module _ (st : State) where
   Facts (SetWord s claim c word) = Set s claim c
 
   pub facts : (call : Call) → number st call ≡ 0 → Facts call
-  unfolding number protection hasNamed namedPlace hasActive
+  unfolding number killTests setWordTests hasNamed namedPlace hasActive
   facts (Open s) e = closed-not (phaseOf st s) (clear-unless No.session tt _ (clear-rest _ _ e))
   facts (Close s) e = tt
   facts (Select s byte) e = tt
@@ -147,16 +145,18 @@ module _ (st : State) where
       (clear-unless No.credential tt _ (clear-first _ _ rest))
       (clear-rest _ _ (clear-rest _ _ rest))
   facts (Drop s) e = stands (ElevationIn s) (clear-unless No.noProcess tt _ (clear-rest _ _ e))
-  facts (End s u keep) e = accepted (End s u keep) refl e
-  facts (Record s claim class) e = accepted (Record s claim class) refl e
-  facts (ListProcesses s claim wanted room) e = accepted (ListProcesses s claim wanted room) refl e
+  facts (End s u keep) e = passed s (ByUser u) (accepted st (End s u keep) refl e .claim-passed)
+  facts (Record s claim class) e = passed s claim (accepted st (Record s claim class) refl e .claim-passed)
+  facts (ListProcesses s claim wanted room) e = passed s claim (accepted st (ListProcesses s claim wanted room) refl e .claim-passed)
   facts (Kill s claim name) e =
+      let all = accepted st (Kill s claim name) refl e in
       record {
-        admission = accepted (Kill s claim name) refl e;
-        stands = found (isNamed name (reach st (claimant st s claim))) (processes st) freePlace (clear-unless No.noProcess tt _ (clear-rest _ _ e));
+        admission = passed s claim (all .claim-passed);
+        stands = found (isNamed name (reach (checked st s claim))) (processes st) freePlace (clear-unless No.noProcess tt _ (all .after));
       }
   facts (SetWord s claim c word) e =
+      let all = accepted st (SetWord s claim c word) refl e in
       record {
-        admission = accepted (SetWord s claim c word) refl e;
-        owner = clear-unless No.credential tt _ (clear-rest _ _ (clear-rest _ _ (clear-rest _ _ e)));
+        admission = passed s claim (all .claim-passed);
+        owner = clear-unless No.credential tt _ (clear-rest _ _ (all .after));
       }

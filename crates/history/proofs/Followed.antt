@@ -25,7 +25,7 @@ use Rattle.table.specs.declared.Process.{Process}
 use Rattle.table.proofs.Laws.{standing-appended, standing-replaced, standing-removed, standing-without-session}
 use Rattle.table.proofs.Searched.{named-name, named-among, saved-of}
 use Rattle.claims.specs.Module.{hasActive, activePlace, activeProcess}
-use Rattle.claims.specs.Claim.{claimant}
+use Rattle.claims.specs.Claim.{checked}
 use Rattle.claims.specs.declared.Claim.{Claim}
 use Rattle.claims.specs.declared.Claim.the-variants.{Elevated, ByUser}
 use Rattle.claims.specs.declared.State.{State}
@@ -234,7 +234,7 @@ module _ (n : Name) (st : State) (v : Rules st) where
   follows (Record s claim class) f = refl
   follows (ListProcesses s claim wanted room) f = refl
   follows (Kill s claim name) f =
-      let among : Among = reach st (claimant st s claim) in
+      let among : Among = reach (checked st s claim) in
       sym
       (follows-killed n (counted st s claim) (kept-counted st v s claim (f .admission)) name among (namedPlace st name among)
       (stands-counted st s claim (f .admission) (isNamed name among) (named-more name among) (namedPlace st name among) (f .stands)))

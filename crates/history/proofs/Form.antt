@@ -22,14 +22,14 @@ use Rattle.table.specs.declared.Table.{Table}
 use Rattle.table.proofs.Laws.{standing-of, whole-of, standing-appended, standing-replaced, standing-removed, standing-without-session}
 use Rattle.table.proofs.Searched.{user-of, named-among, saved-of}
 use Rattle.claims.specs.Module.{closedSession, phaseOf, isChosen, activePlace, activeProcess}
-use Rattle.claims.specs.Claim.{claimant}
+use Rattle.claims.specs.Claim.{checked}
 use Rattle.claims.specs.declared.Claim.{Claim}
 use Rattle.claims.specs.declared.Claim.the-variants.{Elevated, ByUser}
 use Rattle.claims.specs.declared.Grants.{Grants}
 use Rattle.claims.specs.declared.Phase.{Phase}
 use Rattle.claims.specs.declared.State.{State}
 use Rattle.claims.specs.declared.UserClaim.{UserClaim}
-use Rattle.calls.specs.Calls.{Call, Open, Close, Drop, Select, Start, Continue, Elevate, End, Record, ListProcesses, Kill, SetWord, withTable, withPhase, withWord, userProcess, elevation, activated, saved, oneMore, namedPlace, reach, counted, ended, effect, taken, fresh}
+use Rattle.calls.specs.Calls.{Call, Open, Close, Drop, Select, Start, Continue, Elevate, End, Record, ListProcesses, Kill, SetWord, withTable, withPhase, withGrants, userProcess, elevation, activated, saved, oneMore, namedPlace, reach, counted, ended, effect, taken, fresh}
 use Rattle.calls.specs.Run.{step, run}
 use Rattle.facts.specs.Facts.{processes, Rules, FormedGrants, FormedProcess, IsState}
 use Rattle.facts.proofs.Laws.{provisioned-low, chosen-low}
@@ -115,7 +115,7 @@ module _ (P : Process → Type 0) (st : State) where
     each-effect (Record s claim class) f b = each-counted s claim f
     each-effect (ListProcesses s claim wanted room) f b = each-counted s claim f
     each-effect (Kill s claim name) f b =
-        let among : Among = reach st (claimant st s claim) in
+        let among : Among = reach (checked st s claim) in
         let i : ℕ = namedPlace st name among in
         let stands = stands-counted st s claim (f .admission) (isNamed name among) (named-more name among) i (f .stands) in
         rw (standing-removed (counted st s claim .table) i) (each-remove i (stands .inside) (each-counted s claim (f .admission)))
@@ -151,13 +151,12 @@ module _ {F : Type 0} where
   around-phase st s phase =
       record { sessions = length-set (st .sessions) (s .0) (record { phase = phase }); credentials = refl; words = λ f v. v; tidy = λ h. h }
 
-  pub around-word : (st : State) (c : Credential) (word : ℕ) → (F → IsWord word) → Around F st (withWord st c word)
-  around-word st c word small =
-      let new : Grants = record { provisioned = true; word = word } in
+  pub around-grants : (st : State) (c : Credential) (new : Grants) → (F → FormedGrants new) → Around F st (withGrants st c new)
+  around-grants st c new formed =
       record {
         sessions = refl;
         credentials = length-set (st .credentials) (c .0) new;
-        words = λ f v. each-set (c .0) new v (record { word = small f; kept = λ e. clash refl e });
+        words = λ f v. each-set (c .0) new v (formed f);
         tidy = λ h. h;
       }
 
@@ -185,7 +184,7 @@ around st (Record s claim class) f = around-counted st s claim
 around st (ListProcesses s claim wanted room) f = around-counted st s claim
 around st (Kill s claim name) f = around-then (around-counted st s claim) (around-table (counted st s claim) _ (tidy-of _))
 around st (SetWord s claim c word) f =
-    around-then (around-counted st s claim) (around-word (counted st s claim) c word (λ w. w))
+    around-then (around-counted st s claim) (around-grants (counted st s claim) c _ (λ w. record { word = w; kept = λ e. clash refl e }))
 
 -- ---- the form
 module _ (st : State) (v : IsState st) where

@@ -22,7 +22,7 @@ use Rattle.table.specs.declared.Process.{Process}
 use Rattle.table.proofs.Laws.{standing-of}
 use Rattle.table.proofs.Searched.{user-of, elevation-in, named-among, saved-of}
 use Rattle.claims.specs.Module.{activePlace, activeProcess}
-use Rattle.claims.specs.Claim.{claimant}
+use Rattle.claims.specs.Claim.{checked}
 use Rattle.claims.specs.declared.Claim.{Claim}
 use Rattle.claims.specs.declared.Claim.the-variants.{Elevated, ByUser}
 use Rattle.claims.specs.declared.Phase.the-variants.{Closed, Opened}
@@ -37,7 +37,7 @@ use Rattle.facts.specs.Facts.{processes, Owned, Apart, Rules}
 use Rattle.facts.proofs.Laws.{apart-turn}
 use Rattle.lists.proofs.Each.{Stands, stands-set, each-imp, each-imp₂, each-at, each-remove, each-left, pairs-rest}
 use Rattle.history.proofs.Facts.{Added, Continued, Admitted, Facts, facts, passed}
-use Rattle.history.proofs.Tables.{rules-append, rules-set, rules-remove, rules-reject, rules-idle, rules-chosen, rules-word, idle}
+use Rattle.history.proofs.Tables.{rules-append, rules-set, rules-remove, rules-reject, rules-idle, rules-chosen, rules-grants, idle}
 
 -- ---- of which process a process can be the active one
 only-user : (s : Session) (c : Credential) (p : Process) → p .kind ≡ User → p .session ≡ s → p .credential ≡ c → (which : Active) → isActive which p ≡ true → which ≡ UserOf s c
@@ -192,11 +192,11 @@ module _ (st : State) (v : Rules st) where
   kept (Record s claim class) f = kept-counted st v s claim f
   kept (ListProcesses s claim wanted room) f = kept-counted st v s claim f
   kept (Kill s claim name) f =
-      let among : Among = reach st (claimant st s claim) in
+      let among : Among = reach (checked st s claim) in
       kept-removed (counted st s claim) (kept-counted st v s claim (f .admission)) (namedPlace st name among)
       (stands-counted st s claim (f .admission) (isNamed name among) (named-more name among) (namedPlace st name among) (f .stands) .inside)
   kept (SetWord s claim c word) f =
-      rules-word (counted st s claim) (kept-counted st v s claim (f .admission)) c word
+      rules-grants (counted st s claim) (kept-counted st v s claim (f .admission)) c _ refl
 
 -- ---- a call, refused or not: by what it does where it is accepted, and by the claim counted where it is refused after it
 module _ (st : State) (call : Call) where

@@ -14,11 +14,11 @@ use Rattle.table.specs.declared.Process.{Process}
 use Rattle.table.proofs.Searched.{user-of}
 use Rattle.claims.specs.Numbers.{_when_, _unless_, _▸_}
 use Rattle.claims.specs.Module.{provisioned, hasActive, activePlace}
-use Rattle.claims.specs.Claim.{phaseNumber, entered, turnNumber, userNumber, claimNumber, admitted, claimed}
+use Rattle.claims.specs.Claim.{phaseNumber, entered, claimed, claimView, turnNumber, checkNumber, checkOf, checked, admitted}
 use Rattle.claims.specs.declared.Claim.the-variants.{ByUser}
 use Rattle.claims.specs.declared.State.{State}
 use Rattle.claims.specs.declared.UserClaim.{UserClaim}
-use Rattle.claims.proofs.Laws.{unless-true, by-when, by-unless, by-then, claim-stands}
+use Rattle.claims.proofs.Laws.{unless-true, by-when, by-unless, by-then, claim-stands, user-tests}
 use Rattle.calls.specs.Calls.{Call, Under, number, protection, aheadNumber, protectedNumber, passes}
 use Rattle.calls.proofs.Cut.{upTo, passed-claim, passed-number-by, number-stop, ahead-one}
 use Rattle.facts.specs.Facts.{processes, Rules}
@@ -56,10 +56,10 @@ module _ (st : State) (s : Session) (u : UserClaim) (owner : provisioned st (u .
   early-entered = early-then _ _ (early-unless 1 _ refl) (early-then _ _ (early-when 2 _ refl) (early-unless 3 _ refl))
 
   early-admitted : Early (admitted st s (ByUser u))
-  unfolding admitted claimNumber userNumber tellsPassed
+  unfolding admitted checked checkOf checkNumber entered claimView tellsPassed
   early-admitted =
       early-then _ _ (early-unless 1 _ refl)
-      (early-then _ _ early-entered (early-then _ _ (early-held 5 owner) (early-then _ _ (early-held 6 active) (early-turn _))))
+      (early-then _ _ early-entered (rw (user-tests st s u) (early-then _ _ (early-held 5 owner) (early-then _ _ (early-held 6 active) (early-turn _)))))
 
 -- a user claim that passed is one of a process that stands
 module _ (st : State) (call : Call) (s : Session) (u : UserClaim) (w : protection call ≡ Under s (ByUser u)) (p : passes st call ≡ true) where

@@ -25,7 +25,7 @@ use Rattle.claims.specs.declared.Phase.{Phase}
 use Rattle.claims.specs.declared.Phase.the-variants.{Chosen}
 use Rattle.claims.specs.declared.SessionState.{SessionState}
 use Rattle.claims.specs.declared.State.{State}
-use Rattle.calls.specs.Calls.{withTable, withPhase, withWord, fresh}
+use Rattle.calls.specs.Calls.{withTable, withPhase, withGrants, fresh}
 use Rattle.facts.specs.Facts.{processes, isRunning, Owned, Apart, Rules}
 use Rattle.facts.proofs.Laws.{apart-turn, active-in}
 
@@ -85,15 +85,15 @@ module _ (st : State) (v : Rules st) where
             seated = λ k. passes-set (λ (x : SessionState). isChosen (x .phase)) (st .sessions) (s .0) (p .session .0) closedSession (record { phase = Chosen }) refl (o .seated k);
           }
 
-  -- a credential's word
-  pub rules-word : (c : Credential) (word : ℕ) → Rules (withWord st c word)
+  -- a credential's grants, where they are a provisioned one's
+  pub rules-grants : (c : Credential) (g : Grants) → g .provisioned ≡ true → Rules (withGrants st c g)
   unfolding provisioned phaseOf
-  rules-word c word = record { few = v .few; each = each-imp stays (v .each); pairs = v .pairs }
+  rules-grants c g still = record { few = v .few; each = each-imp stays (v .each); pairs = v .pairs }
     where
-      stays : (p : Process) → Owned st p → Owned (withWord st c word) p
+      stays : (p : Process) → Owned st p → Owned (withGrants st c g) p
       stays p o =
           record {
-            owner = passes-set (λ (g : Grants). g .provisioned) (st .credentials) (c .0) (p .credential .0) unprovisioned (record { provisioned = true; word = word }) refl (o .owner);
+            owner = passes-set (λ (g : Grants). g .provisioned) (st .credentials) (c .0) (p .credential .0) unprovisioned g still (o .owner);
             seated = o .seated;
           }
 

@@ -1,6 +1,6 @@
 // The protected calls that end a process: state in by value, answer and state out by value. Each asks its tests for the number, counts the claim where it passed, and does what it does where the number is 0.
 ghost use mathlib.Core.Path.{_≡_};
-ghost use Rattle.calls.specs.Calls.{End, Kill, namedPlace, outcome};
+ghost use Rattle.calls.specs.Calls.{End, Kill, outcome};
 use calls::Outcome;
 use claims::Claim;
 use claims::DONE;
@@ -8,7 +8,6 @@ use claims::State;
 use claims::UserClaim;
 use names::Name;
 use names::Session;
-use table::Among;
 
 // ---- end
 
@@ -16,9 +15,9 @@ pub fn end(st: State, s: Session, u: UserClaim, keep: bool) -> Outcome
     ensures { λ r. ⌜ r ≡ outcome st (End s u keep) ⌝ }
 {
     let claim = Claim::ByUser(u);
-    let by = claim_admission::admit(st, s, claim);
+    let by = claim_admission::check(st, s, claim);
     let n = calls_protected::end_number(by, keep);
-    let counted = claim_count::charged_by(st, claim, by, n);
+    let counted = claim_count::charged_by(st, by, n);
     if n != DONE {
         return effects::refused_claim(counted, n, claim);
     }
@@ -27,23 +26,16 @@ pub fn end(st: State, s: Session, u: UserClaim, keep: bool) -> Outcome
 
 // ---- kill
 
-fn named_place(st: State, name: Name, among: Among) -> usize
-    ensures { λ r. ⌜ r ≡ namedPlace st name among ⌝ }
-{
-    let t = st.table;
-    table::found_place(table_search::find_named(t, name, among), table::size(t))
-}
-
 pub fn kill(st: State, s: Session, claim: Claim, name: Name) -> Outcome
     ensures { λ r. ⌜ r ≡ outcome st (Kill s claim name) ⌝ }
 {
-    let by = claim_admission::admit(st, s, claim);
-    let n = calls_protected::kill_number(st, by, name);
-    let next = claim_count::charged_by(st, claim, by, n);
+    let by = claim_admission::check(st, s, claim);
+    let tested = calls_protected::kill_number(st, by, name);
+    let n = tested.number;
+    let next = claim_count::charged_by(st, by, n);
     if n != DONE {
         return effects::refused_claim(next, n, claim);
     }
-    let at = named_place(st, name, calls_protected::reach(by));
     let t = next.table;
-    effects::accepted(effects::with_table(next, table_removal::removed(t, at)))
+    effects::accepted(effects::with_table(next, table_removal::removed(t, tested.place)))
 }

@@ -6,6 +6,7 @@ use calls::Outcome;
 use calls::Wanted;
 use claims::Claim;
 use claims::DONE;
+use claims::Grants;
 use claims::State;
 use names::Credential;
 use names::Session;
@@ -16,18 +17,20 @@ use names::Session;
 pub fn list(st: State, s: Session, claim: Claim, wanted: Wanted, room: usize) -> Listed
     ensures { λ r. ⌜ r ≡ listed st s claim wanted room ⌝ }
 {
-    let by = claim_admission::admit(st, s, claim);
-    let n = calls_listing::list_number(st, by, wanted, room);
-    let counted = claim_count::charged_by(st, claim, by, n);
+    let by = claim_admission::check(st, s, claim);
+    let tested = calls_listing::list_number(st, by, wanted, room);
+    let n = tested.number;
+    let long = tested.length;
+    let counted = claim_count::charged_by(st, by, n);
     if n != DONE {
         return Listed {
             outcome: effects::refused_claim(counted, n, claim),
-            length: 0,
+            length: long,
         };
     }
     Listed {
         outcome: effects::accepted(counted),
-        length: calls_listing::message_length(st, wanted),
+        length: long,
     }
 }
 
@@ -36,11 +39,15 @@ pub fn list(st: State, s: Session, claim: Claim, wanted: Wanted, room: usize) ->
 pub fn set_word(st: State, s: Session, claim: Claim, target: Credential, word: u32) -> Outcome
     ensures { λ r. ⌜ r ≡ outcome st (SetWord s claim target word) ⌝ }
 {
-    let by = claim_admission::admit(st, s, claim);
+    let by = claim_admission::check(st, s, claim);
     let n = calls_protected::set_word_number(st, by, target);
-    let next = claim_count::charged_by(st, claim, by, n);
+    let next = claim_count::charged_by(st, by, n);
     if n != DONE {
         return effects::refused_claim(next, n, claim);
     }
-    effects::accepted(effects::with_word(next, target, word))
+    let grants = Grants {
+        provisioned: true,
+        word: word,
+    };
+    effects::accepted(effects::with_grants(next, target, grants))
 }

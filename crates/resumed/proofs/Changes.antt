@@ -30,7 +30,7 @@ use Rattle.table.specs.declared.Process.{Process}
 use Rattle.table.proofs.Laws.{standing-appended, standing-replaced, standing-removed, standing-without-session}
 use Rattle.table.proofs.Searched.{user-of, elevation-in, named-name, named-among, saved-of}
 use Rattle.claims.specs.Module.{activePlace, activeProcess}
-use Rattle.claims.specs.Claim.{claimant}
+use Rattle.claims.specs.Claim.{checked}
 use Rattle.claims.specs.declared.Claim.{Claim}
 use Rattle.claims.specs.declared.Claim.the-variants.{Elevated, ByUser}
 use Rattle.claims.specs.declared.State.{State}
@@ -173,7 +173,7 @@ module _ (st : State) where
   same-killed : (s : Session) (claim : Claim) (name : Name) → Facts st (Kill s claim name) → hasSaved st name ≡ false → Same st (effect st (Kill s claim name))
   unfolding effect
   same-killed s claim name f h =
-      let among : Among = reach st (claimant st s claim) in
+      let among : Among = reach (checked st s claim) in
       let i : ℕ = namedPlace st name among in
       let mid : State = counted st s claim in
       let x : Process = getD (processes mid) i freePlace in
@@ -272,7 +272,7 @@ module _ (st : State) (v : Rules st) where
   rows-killed : (s : Session) (claim : Claim) (name : Name) → Facts st (Kill s claim name) → hasSaved st name ≡ true → length (savedOf st) ≡ length (savedOf (effect st (Kill s claim name))) + 1
   unfolding effect
   rows-killed s claim name f h =
-      let among : Among = reach st (claimant st s claim) in
+      let among : Among = reach (checked st s claim) in
       let i : ℕ = namedPlace st name among in
       let mid : State = counted st s claim in
       let stands = stands-counted st s claim (f .admission) isKept (λ p. refl) i (kept-there name among h i (f .stands)) in

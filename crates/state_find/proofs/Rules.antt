@@ -7,7 +7,7 @@ use mathlib.Core.List.{List, [], _∷_, map}
 use native.Mathlib.Omega.{arith}
 use native.Mathlib.Nat.{add-zero}
 use borrow.Author.Needs.{needs}
-use borrow.Author.Tests.{eq-eqb, ne-eqb}
+use borrow.Author.Tests.{eq-eqb, ne-eqb, lt-ltb, ltb-true}
 use lib.Dec.{eqb}
 use lib.ListN.{length, take, drop, getD, replicate, List·getD-eq-default, length-map}
 use lib.Seq.{getD-take, getD-drop}
@@ -29,31 +29,25 @@ use Rattle.table.specs.declared.Found.the-variants.{At, Nothing}
 use Rattle.table.specs.declared.Process.{Process}
 use Rattle.table.specs.declared.Table.{Table}
 use Rattle.table.proofs.Laws.{standing-of, size-few}
-use Rattle.table.proofs.Rules.{noProcess, size-part, size-all, process-got, process-none}
+use Rattle.table.proofs.Rules.{noProcess, size-part, size-all, process-got}
+use Rattle.table.proofs.Searched.{found-at}
 use Rattle.table_search.proofs.Rules.{Searching, begin, on, hit, none}
-use Rattle.claims.specs.Module.{closedSession, phaseOf, unprovisioned, provisioned, wordOf, sessionCount, credentialCount}
-use Rattle.claims.specs.Claim.{processFound}
+use Rattle.claims.specs.Module.{closedSession, phaseOf, unprovisioned, grantsOf, sessionCount, credentialCount}
+use Rattle.claims.specs.Claim.{speaksFor, processFound, claimView}
+use Rattle.claims.specs.declared.Claim.{Claim}
+use Rattle.claims.specs.declared.ClaimView.{ClaimView}
 use Rattle.claims.specs.declared.Grants.{Grants}
 use Rattle.claims.specs.declared.Phase.{Phase}
 use Rattle.claims.specs.declared.Phase.the-variants.{Closed}
 use Rattle.claims.specs.declared.SessionState.{SessionState}
 use Rattle.claims.proofs.Laws.{view-of}
-use Rattle.layout.specs.Layout.{kindAt, sessionAt, wordAt, credentialSize, nextAt, placeSize, sessionsAt, sessionSize, credentialsAt, countAt, placesAt, stateLength, phaseFrom, sessionFrom, grantsFrom, processFrom, countIn, placesIn, stateOf}
+use Rattle.layout.specs.Layout.{kindAt, sessionAt, wordAt, credentialSize, nextAt, placeSize, sessionsAt, sessionSize, credentialsAt, countAt, placesAt, stateLength, phaseFrom, sessionFrom, grantsFrom, processFrom, countIn, placesIn, nothingHeld, stateOf}
 use Rattle.layout.proofs.Laws.{state-in, state-not-in}
+use Rattle.state_find.specs.Found.{isStanding}
 use Rattle.layout.proofs.Parts.{grants-part, place-part}
 
 -- ---- sessions and credentials
--- the same everywhere, and past the end
-same-everywhere : {A : Type 0} (n i : ℕ) (x : A) → getD (replicate n x) i x ≡ x
-same-everywhere zero i x = refl
-same-everywhere (suc n) zero x = refl
-same-everywhere (suc n) (suc i) x = same-everywhere n i x
-
 module _ (s : List ℕ) (session : Session) where
-  pub phase-short : (length s ≡ stateLength → ⊥) → Closed ≡ phaseOf (stateOf s) session
-  unfolding phaseOf
-  phase-short n = sym (rw (state-not-in s n) (ap (λ (x : SessionState). x .phase) (same-everywhere sessionCount (session .0) closedSession)))
-
   module _ (h : length s ≡ stateLength) where
     pub phase-past : sessionCount ≤ session .0 → Closed ≡ phaseOf (stateOf s) session
     unfolding phaseOf
@@ -77,31 +71,13 @@ module _ (s : List ℕ) (session : Session) where
         e ∙ sym (rw (state-in s h) r)
 
 module _ (s : List ℕ) (c : Credential) where
-  grants-short : (length s ≡ stateLength → ⊥) → getD (stateOf s .credentials) (c .0) unprovisioned ≡ unprovisioned
-  grants-short n = rw (state-not-in s n) (same-everywhere credentialCount (c .0) unprovisioned)
-
-  pub provisioned-short : (length s ≡ stateLength → ⊥) → false ≡ provisioned (stateOf s) c
-  unfolding provisioned
-  provisioned-short n = ap (λ (g : Grants). g .provisioned) (sym (grants-short n))
-
-  pub word-short : (length s ≡ stateLength → ⊥) → 0 ≡ wordOf (stateOf s) c
-  unfolding wordOf
-  word-short n = ap (λ (g : Grants). g .word) (sym (grants-short n))
-
   module _ (h : length s ≡ stateLength) where
-    grants-past : credentialCount ≤ c .0 → getD (stateOf s .credentials) (c .0) unprovisioned ≡ unprovisioned
+    pub grants-past : credentialCount ≤ c .0 → unprovisioned ≡ grantsOf (stateOf s) c
+    unfolding grantsOf
     grants-past k =
         let l : length (map grantsFrom (rows credentialCount credentialSize (drop credentialsAt s))) ≡ credentialCount = length-map (rows credentialCount credentialSize (drop credentialsAt s)) grantsFrom ∙ rows-length credentialCount credentialSize (drop credentialsAt s) in
         let past : length (map grantsFrom (rows credentialCount credentialSize (drop credentialsAt s))) ≤ c .0 = omega (arith, l) in
-        rw (state-in s h) (List·getD-eq-default (map grantsFrom (rows credentialCount credentialSize (drop credentialsAt s))) unprovisioned past)
-
-    pub provisioned-past : credentialCount ≤ c .0 → false ≡ provisioned (stateOf s) c
-    unfolding provisioned
-    provisioned-past k = ap (λ (g : Grants). g .provisioned) (sym (grants-past k))
-
-    pub word-past : credentialCount ≤ c .0 → 0 ≡ wordOf (stateOf s) c
-    unfolding wordOf
-    word-past k = ap (λ (g : Grants). g .word) (sym (grants-past k))
+        sym (rw (state-in s h) (List·getD-eq-default (map grantsFrom (rows credentialCount credentialSize (drop credentialsAt s))) unprovisioned past))
 
     module _ (k : c .0 < credentialCount) where
       abbrev grants-row : List ℕ
@@ -115,18 +91,14 @@ module _ (s : List ℕ) (c : Credential) where
           let u : j < credentialsAt + c .0 * credentialSize + credentialSize - (credentialsAt + c .0 * credentialSize) = omega arith in
           getD-take (credentialsAt + c .0 * credentialSize + credentialSize - (credentialsAt + c .0 * credentialSize)) (drop (credentialsAt + c .0 * credentialSize) s) j 0 u ∙ getD-drop (credentialsAt + c .0 * credentialSize) s j 0
 
-      pub provisioned-read : eqb (getD s (credentialsAt + c .0 * credentialSize) 0) 1 ≡ provisioned (stateOf s) c
-      unfolding provisioned grantsFrom
-      provisioned-read =
+      pub grants-read : {word : ℕ} → word ≡ numberAt 4 (credentialsAt + c .0 * credentialSize + wordAt) s
+          → _≡_ {A = Grants} (record { provisioned = eqb (getD s (credentialsAt + c .0 * credentialSize) 0) 1; word = word }) (grantsOf (stateOf s) c)
+      unfolding grantsOf grantsFrom
+      grants-read q =
           let first : getD grants-row 0 0 ≡ getD s (credentialsAt + c .0 * credentialSize) 0 = rw add-zero at (grants-byte 0 (omega arith)) in
-          rw (← first) (ap (λ (g : Grants). g .provisioned) (sym grants-at))
-
-      pub word-read : {r : ℕ} → r ≡ numberAt 4 (credentialsAt + c .0 * credentialSize + wordAt) s → r ≡ wordOf (stateOf s) c
-      unfolding wordOf grantsFrom
-      word-read q =
-          let in-row : 1 + sessionCount ≤ credentialsAt + c .0 * credentialSize + credentialSize - (credentialsAt + c .0 * credentialSize) = omega arith in
-          let word : numberAt 4 wordAt grants-row ≡ numberAt 4 (credentialsAt + c .0 * credentialSize + wordAt) s = number-part 4 wordAt (credentialsAt + c .0 * credentialSize + credentialSize - (credentialsAt + c .0 * credentialSize)) (credentialsAt + c .0 * credentialSize) s in-row in
-          q ∙ sym word ∙ ap (λ (g : Grants). g .word) (sym grants-at)
+          let in-row : wordAt + 4 ≤ credentialsAt + c .0 * credentialSize + credentialSize - (credentialsAt + c .0 * credentialSize) = omega arith in
+          let word = number-part 4 wordAt (credentialsAt + c .0 * credentialSize + credentialSize - (credentialsAt + c .0 * credentialSize)) (credentialsAt + c .0 * credentialSize) s in-row in
+          rw (q, ← first, ← word) (sym grants-at)
 
 -- ---- a place
 not-user : (k : ℕ) → (k ≡ 0 → ⊥) → isUser (kindNumbered k) ≡ false
@@ -168,23 +140,6 @@ abbrev noOwner : Credential
 noOwner = record { 0 = 0 }
 
 module _ (s : List ℕ) where
-  nothing-stands : (length s ≡ stateLength → ⊥) → standing (stateOf s .table) ≡ []
-  nothing-stands n = rw (state-not-in s n) (standing-of [])
-
-  pub find-short : (f : Process → Bool) → (length s ≡ stateLength → ⊥) → Nothing ≡ firstPlace f (standing (stateOf s .table))
-  unfolding firstPlace firstIndex
-  find-short f n = rw (nothing-stands n)
-
-  process-short : (at : ℕ) → (length s ≡ stateLength → ⊥) → processAt (stateOf s .table) at ≡ freePlace
-  unfolding processAt
-  process-short at n = rw (nothing-stands n)
-
-  pub next-short : (at : ℕ) → (length s ≡ stateLength → ⊥) → 0 ≡ processAt (stateOf s .table) at .next
-  next-short at n = ap (λ (p : Process). p .next) (sym (process-short at n))
-
-  pub owner-short : (at : ℕ) → (length s ≡ stateLength → ⊥) → noOwner ≡ processAt (stateOf s .table) at .credential
-  owner-short at n = ap (λ (p : Process). p .credential) (sym (process-short at n))
-
   module _ (h : length s ≡ stateLength) where
     places-long : length (stateOf s .table .places) ≡ places
     unfolding placesIn
@@ -228,37 +183,25 @@ module _ (s : List ℕ) where
     pub find-none : {f : Process → Bool} {n i : ℕ} → n ≡ size (stateOf s .table) → Searching f (stateOf s .table .places) n i → n ≤ i → Nothing ≡ firstPlace f (standing (stateOf s .table))
     find-none q v k = none (stateOf s .table) q v k
 
-    process-past : {at : ℕ} → places ≤ at → freePlace ≡ processAt (stateOf s .table) at
-    process-past {at} k = process-none (stateOf s .table) {n = size (stateOf s .table)} refl (omega (arith, size-few (stateOf s .table) places-long)) refl
+    module _ {at : ℕ} (k : at < size (stateOf s .table)) where
+      pub place-low : at < places
+      place-low = omega (arith, size-few (stateOf s .table) places-long)
 
-    pub next-past : {at : ℕ} → places ≤ at → 0 ≡ processAt (stateOf s .table) at .next
-    next-past k = ap (λ (p : Process). p .next) (process-past k)
+      process-read : processFrom (place at) ≡ processAt (stateOf s .table) at
+      process-read = sym (place-at at place-low) ∙ process-got (stateOf s .table) {n = size (stateOf s .table)} refl k places-long
 
-    pub owner-past : {at : ℕ} → places ≤ at → noOwner ≡ processAt (stateOf s .table) at .credential
-    owner-past k = ap (λ (p : Process). p .credential) (process-past k)
-
-    module _ {n at : ℕ} (e : n ≡ size (stateOf s .table)) where
-      pub next-none : n ≤ at → 0 ≡ processAt (stateOf s .table) at .next
-      next-none k = ap (λ (p : Process). p .next) (process-none (stateOf s .table) e k refl)
-
-      pub owner-none : n ≤ at → noOwner ≡ processAt (stateOf s .table) at .credential
-      owner-none k = ap (λ (p : Process). p .credential) (process-none (stateOf s .table) e k refl)
-
-      process-read : at < places → at < n → processFrom (place at) ≡ processAt (stateOf s .table) at
-      process-read low k = sym (place-at at low) ∙ process-got (stateOf s .table) e k places-long
-
-      pub owner-read : {r : ℕ} → at < places → at < n → Widened (getD s (placesAt + at * placeSize) 0) r → _≡_ {A = Credential} (record { 0 = r }) (processAt (stateOf s .table) at .credential)
+      pub owner-read : {r : ℕ} → Widened (getD s (placesAt + at * placeSize) 0) r → _≡_ {A = Credential} (record { 0 = r }) (processAt (stateOf s .table) at .credential)
       unfolding processFrom
-      owner-read low k w =
+      owner-read w =
           let first : getD (place at) 0 0 ≡ getD s (placesAt + at * placeSize) 0 = rw add-zero at (place-byte at 0 (omega arith)) in
-          rw (w .is, ← first) (ap (λ (p : Process). p .credential) (process-read low k))
+          rw (w .is, ← first) (ap (λ (p : Process). p .credential) process-read)
 
-      pub next-read : {r : ℕ} → at < places → at < n → r ≡ numberAt 2 (placesAt + at * placeSize + nextAt) s → r ≡ processAt (stateOf s .table) at .next
+      pub next-read : {r : ℕ} → r ≡ numberAt 2 (placesAt + at * placeSize + nextAt) s → r ≡ processAt (stateOf s .table) at .next
       unfolding processFrom
-      next-read low k q =
+      next-read q =
           let in-row : nextAt + 2 ≤ placesAt + at * placeSize + placeSize - (placesAt + at * placeSize) = omega arith in
           let next : numberAt 2 nextAt (place at) ≡ numberAt 2 (placesAt + at * placeSize + nextAt) s = number-part 2 nextAt (placesAt + at * placeSize + placeSize - (placesAt + at * placeSize)) (placesAt + at * placeSize) s in-row in
-          q ∙ sym next ∙ ap (λ (p : Process). p .next) (process-read low k)
+          q ∙ sym next ∙ ap (λ (p : Process). p .next) process-read
 
 -- ---- the process that the search found
 module _ (t : Table) {f : Found} where
@@ -279,4 +222,35 @@ module _ (t : Table) {f : Found} where
   unfolding processFound
   next-missing e = rw e
 
-pub ruleset rules = (needs, length-mapped, phase-short, phase-past, phase-read, provisioned-short, provisioned-past, provisioned-read, word-short, word-past, word-read, active-no-user, active-elsewhere, active-user, active-no-elevation, active-elevation, find-short, next-short, size-some, size-every, find-begin, find-on, find-hit, find-none, next-past, next-none, next-read, owner-short, owner-past, owner-none, owner-read, place-part, owner-found, next-found, owner-missing, next-missing, view-of)
+-- a process stands where one was found
+module _ (t : Table) {f : Found} where
+  pub found-standing : (g : Process → Bool) → f ≡ firstPlace g (standing t) → isStanding t f ≡ true
+  unfolding isStanding size
+  found-standing g e = case f e
+    where
+      case : (f : Found) → f ≡ firstPlace g (standing t) → isStanding t f ≡ true
+      case (At k) e = lt-ltb k (length (standing t)) (found-at g (standing t) (sym e) .inside)
+      case Nothing e = refl
+
+  pub standing-at : {k : ℕ} → isStanding t f ≡ true → f ≡ At k → k < size t
+  unfolding isStanding
+  standing-at {k} h e = ltb-true k (size t) (rw e at h)
+
+-- ---- a slice of another length
+same-everywhere : {A : Type 0} (n i : ℕ) (x : A) → getD (replicate n x) i x ≡ x
+same-everywhere zero i x = refl
+same-everywhere (suc n) zero x = refl
+same-everywhere (suc n) (suc i) x = same-everywhere n i x
+
+pub told-nothing : (session : Session) (claim : Claim) {c : Credential} → c ≡ speaksFor claim noOwner
+    → _≡_ {A = ClaimView} (record { phase = Closed; found = Nothing; next = 0; credential = c; grants = unprovisioned }) (claimView nothingHeld session claim)
+unfolding phaseOf grantsOf processFound firstPlace firstIndex
+told-nothing session claim {c} e =
+    view-of nothingHeld session claim refl (rw (standing-of [])) refl refl e
+    (ap (λ (x : SessionState). x .phase) (sym (same-everywhere sessionCount (session .0) closedSession)))
+    (sym (same-everywhere credentialCount (c .0) unprovisioned))
+
+pub told-short : (s : List ℕ) (session : Session) (claim : Claim) {r : ClaimView} → r ≡ claimView nothingHeld session claim → (length s ≡ stateLength → ⊥) → r ≡ claimView (stateOf s) session claim
+told-short s session claim e n = e ∙ rw (state-not-in s n)
+
+pub ruleset rules = (needs, length-mapped, phase-past, phase-read, grants-past, grants-read, active-no-user, active-elsewhere, active-user, active-no-elevation, active-elevation, size-some, size-every, find-begin, find-on, find-hit, find-none, place-low, owner-read, next-read, place-part, owner-found, next-found, owner-missing, next-missing, found-standing, standing-at, told-nothing, told-short, view-of)

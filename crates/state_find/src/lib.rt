@@ -1,15 +1,20 @@
 // What the check of a claim asks of the state that a slice says, read where it lies: for an entry that need not read the whole. docs/STATE.md draws the layout.
 ghost use mathlib.Core.Path.{_≡_};
+ghost use mathlib.Core.Bool.{true};
+ghost use Prim.Native.Nat.{_<_};
 ghost use lib.ListN.{length};
-ghost use Rattle.table.specs.Table.{size, isActive, findActive, processAt};
-ghost use Rattle.claims.specs.Module.{phaseOf, provisioned, wordOf};
+ghost use Rattle.table.specs.Table.{places, size, isActive, findActive, processAt};
+ghost use Rattle.claims.specs.Module.{phaseOf, grantsOf};
 ghost use Rattle.claims.specs.Claim.{processFound, claimView};
-ghost use Rattle.layout.specs.Layout.{placeSize, stateLength, processFrom, stateOf};
+ghost use Rattle.layout.specs.Layout.{placeSize, stateLength, processFrom, nothingHeld, stateOf};
+ghost use Rattle.state_find.specs.Found.{isStanding};
 use claims::CREDENTIALS;
 use claims::Claim;
 use claims::ClaimView;
+use claims::Grants;
 use claims::Phase;
 use claims::SESSIONS;
+use claims::UNPROVISIONED;
 use layout::COUNT_AT;
 use layout::CREDENTIAL_SIZE;
 use layout::CREDENTIALS_AT;
@@ -31,44 +36,30 @@ use table::PLACES;
 
 // The phase of a session; closed where there is no such session.
 fn phase_of(s: &[u8], session: Session) -> Phase
+    requires { ⌜ length (now s) ≡ stateLength ⌝ }
     ensures { λ r. ⌜ r ≡ phaseOf (stateOf (now (s .entry))) session ⌝ }
 {
     let at = session.0 as usize;
-    if s.len() != STATE_LENGTH {
-        return Phase::Closed;
-    }
     if SESSIONS <= at {
         return Phase::Closed;
     }
     state_read::phase_from(s[at])
 }
 
-// Whether a credential is provisioned; not, where there is no such credential.
-fn provisioned(s: &[u8], c: Credential) -> bool
-    ensures { λ r. ⌜ r ≡ provisioned (stateOf (now (s .entry))) c ⌝ }
+// The grants of a credential; not provisioned, where there is no such credential.
+fn grants_of(s: &[u8], c: Credential) -> Grants
+    requires { ⌜ length (now s) ≡ stateLength ⌝ }
+    ensures { λ r. ⌜ r ≡ grantsOf (stateOf (now (s .entry))) c ⌝ }
 {
     let at = c.0 as usize;
-    if s.len() != STATE_LENGTH {
-        return false;
-    }
     if CREDENTIALS <= at {
-        return false;
+        return UNPROVISIONED;
     }
-    s[CREDENTIALS_AT + at * CREDENTIAL_SIZE] == 1
-}
-
-// The grant word of a credential; 0, where there is no such credential.
-fn word_of(s: &[u8], c: Credential) -> u32
-    ensures { λ r. ⌜ r ≡ wordOf (stateOf (now (s .entry))) c ⌝ }
-{
-    let at = c.0 as usize;
-    if s.len() != STATE_LENGTH {
-        return 0;
+    let a = CREDENTIALS_AT + at * CREDENTIAL_SIZE;
+    Grants {
+        provisioned: s[a] == 1,
+        word: rows::number32(s, a + WORD_AT),
     }
-    if CREDENTIALS <= at {
-        return 0;
-    }
-    rows::number32(s, CREDENTIALS_AT + at * CREDENTIAL_SIZE + WORD_AT)
 }
 
 // ---- processes
@@ -109,11 +100,9 @@ fn is_active(row: &[u8], which: Active) -> bool
 
 // The first process that is active so.
 fn find_active(s: &[u8], which: Active) -> Found
+    requires { ⌜ length (now s) ≡ stateLength ⌝ }
     ensures { λ r. ⌜ r ≡ findActive (stateOf (now (s .entry)) .table) which ⌝ }
 {
-    if s.len() != STATE_LENGTH {
-        return Found::Nothing;
-    }
     let n = size_in(s);
     let mut i: usize = 0;
     let at = loop {
@@ -134,35 +123,19 @@ fn find_active(s: &[u8], which: Active) -> Found
     }
 }
 
-// The next number of the process at a place; 0 where none stands there.
+// The next number of the process at a place.
 fn next_number(s: &[u8], at: usize) -> u16
+    requires { ⌜ (length (now s) ≡ stateLength) × (at < places) × (at < size (stateOf (now s) .table)) ⌝ }
     ensures { λ r. ⌜ r ≡ processAt (stateOf (now (s .entry)) .table) at .next ⌝ }
 {
-    if s.len() != STATE_LENGTH {
-        return 0;
-    }
-    if PLACES <= at {
-        return 0;
-    }
-    if size_in(s) <= at {
-        return 0;
-    }
     rows::number16(s, PLACES_AT + at * PLACE_SIZE + NEXT_AT)
 }
 
-// The credential of the process at a place; 0 where none stands there.
+// The credential of the process at a place.
 fn credential_at(s: &[u8], at: usize) -> Credential
+    requires { ⌜ (length (now s) ≡ stateLength) × (at < places) × (at < size (stateOf (now s) .table)) ⌝ }
     ensures { λ r. ⌜ r ≡ processAt (stateOf (now (s .entry)) .table) at .credential ⌝ }
 {
-    if s.len() != STATE_LENGTH {
-        return Credential(0);
-    }
-    if PLACES <= at {
-        return Credential(0);
-    }
-    if size_in(s) <= at {
-        return Credential(0);
-    }
     let a = PLACES_AT + at * PLACE_SIZE;
     Credential(rows::wide16(s[a]))
 }
@@ -170,6 +143,7 @@ fn credential_at(s: &[u8], at: usize) -> Credential
 // ---- what the check of a claim asks
 
 fn owner_found(s: &[u8], found: Found) -> Credential
+    requires { ⌜ (length (now s) ≡ stateLength) × (isStanding (stateOf (now s) .table) found ≡ true) ⌝ }
     ensures { λ r. ⌜ r ≡ processFound (stateOf (now (s .entry)) .table) found .credential ⌝ }
 {
     match found {
@@ -179,6 +153,7 @@ fn owner_found(s: &[u8], found: Found) -> Credential
 }
 
 fn next_found(s: &[u8], found: Found) -> u16
+    requires { ⌜ (length (now s) ≡ stateLength) × (isStanding (stateOf (now s) .table) found ≡ true) ⌝ }
     ensures { λ r. ⌜ r ≡ processFound (stateOf (now (s .entry)) .table) found .next ⌝ }
 {
     match found {
@@ -187,19 +162,35 @@ fn next_found(s: &[u8], found: Found) -> u16
     }
 }
 
+// What a slice of another length tells.
+fn nothing_told(session: Session, claim: Claim) -> ClaimView
+    ensures { λ r. ⌜ r ≡ claimView nothingHeld session claim ⌝ }
+{
+    let c = claim_check::speaks_for(claim, Credential(0));
+    ClaimView {
+        phase: Phase::Closed,
+        found: Found::Nothing,
+        next: 0,
+        credential: c,
+        grants: UNPROVISIONED,
+    }
+}
+
 // What the state tells of a claim that is made in a session.
 pub fn claim_view(s: &[u8], session: Session, claim: Claim) -> ClaimView
     ensures { λ r. ⌜ r ≡ claimView (stateOf (now (s .entry))) session claim ⌝ }
 {
+    if s.len() != STATE_LENGTH {
+        return nothing_told(session, claim);
+    }
     let found = find_active(s, claim_check::claimed(session, claim));
     let next = next_found(s, found);
     let c = claim_check::speaks_for(claim, owner_found(s, found));
     ClaimView {
         phase: phase_of(s, session),
-        provisioned: provisioned(s, c),
         found: found,
         next: next,
         credential: c,
-        word: word_of(s, c),
+        grants: grants_of(s, c),
     }
 }

@@ -12,29 +12,27 @@ use Rattle.names.specs.declared.Session.{Session}
 use Rattle.table.specs.Table.{processAt}
 use Rattle.table.specs.declared.Active.the-variants.{UserOf}
 use Rattle.table.specs.declared.Process.{Process}
-use Rattle.claims.specs.Numbers.{_unless_, _▸_}
-use Rattle.claims.specs.Module.{wordGrants, activeProcess}
-use Rattle.claims.specs.Claim.{claimed, admission, passedBy}
-use Rattle.claims.specs.declared.Admission.{Admission}
+use Rattle.claims.specs.Module.{activeProcess}
+use Rattle.claims.specs.Claim.{claimed, checked, passedBy}
+use Rattle.claims.specs.declared.Checked.{Checked}
 use Rattle.claims.specs.declared.Claim.{Claim}
 use Rattle.claims.specs.declared.Claim.the-variants.{Elevated, ByUser}
 use Rattle.claims.specs.declared.Class.{Class}
 use Rattle.claims.specs.declared.UserClaim.{UserClaim}
-use Rattle.claims.proofs.Laws.{admission-next, admission-is, passed-admitted}
-use Rattle.calls.specs.Calls.{number, Record, isDevice, effect, protection, passes}
+use Rattle.claims.proofs.Laws.{checked-number, checked-next, checked-is, passed-admitted}
+use Rattle.calls.specs.Calls.{Record, protection, recordTests, asked, number, effect, passes}
 use Rattle.calls.proofs.Cut.{only-counted, passed-by}
-use Rattle.calls.proofs.Laws.{checked-number, record-number}
-use Rattle.calls.proofs.Rules.{claim-place, next-fits, rules as call-rules}
+use Rattle.calls.proofs.Rules.{claim-place, next-fits, record-number, rules as call-rules}
 use Rattle.layout.specs.Layout.{stateOf, stateBytes, holdsState, nextWritten}
 use Rattle.state_record.specs.Entry.{isMade, Ready, Entry}
 use Rattle.state_record.specs.Recorded.{countedIn}
 use Rattle.state_record.proofs.Laws.{entry-none, entry-made, made-holds, stopped-bytes, counted-held}
 
 -- ---- the count
-module _ (b : List ℕ) (s : Session) (u : UserClaim) {by : Admission} (e : by ≡ admission (stateOf b) s (ByUser u)) (z : by .number ≡ 0) where
+module _ (b : List ℕ) (s : Session) (u : UserClaim) {by : Checked} (e : by ≡ checked (stateOf b) s (ByUser u)) (z : by .number ≡ 0) where
   count-next : by .next ≡ activeProcess (stateOf b) (UserOf s (u .credential)) .next
   unfolding claimed
-  count-next = rw e (admission-next (stateOf b) s (ByUser u))
+  count-next = checked-next (stateOf b) s (ByUser u) e
 
   pub one-more-fits : by .next < 65536 → Fits w16 (by .next + 1)
   unfolding activeProcess
@@ -60,7 +58,7 @@ module _ (b : List ℕ) (s : Session) (claim : Claim) (class : Class) {h : Bool}
   pub record-none : not h ≡ true → Entry true b (Record s claim class) 1 b
   record-none k = entry-none true b (Record s claim class) (sym (e .is) ∙ not-true h k)
 
-  module _ (k : not h ≡ false) {by : Admission} (a : by ≡ admission (stateOf b) s claim) {n : ℕ} (c : n ≡ 1 unless isDevice class ▸ by .number ▸ 10 unless wordGrants (by .word) class) where
+  module _ (k : not h ≡ false) {by : Checked} (a : by ≡ checked (stateOf b) s claim) {n : ℕ} (c : n ≡ asked (recordTests class) by) where
     q : n ≡ number (stateOf b) (Record s claim class)
     q = record-number (stateOf b) s claim a class c
 
@@ -91,4 +89,4 @@ module _ {fine : Bool} (b : List ℕ) (g : Bytes b) where
   unfolding isMade
   ready-not f = record { is = rw f; bytes = g }
 
-pub ruleset rules = (call-rules, one-more-fits, count-written, count-elevated, count-by-user, record-none, record-stopped, record-passed, passed-admitted, admission-is)
+pub ruleset rules = (call-rules, one-more-fits, count-written, count-elevated, count-by-user, record-none, record-stopped, record-passed, passed-admitted, checked-is)

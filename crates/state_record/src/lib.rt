@@ -2,13 +2,13 @@
 // its claim asks, and nothing is written but the two bytes of a next number.
 ghost use mathlib.Core.Path.{_≡_};
 ghost use mathlib.Core.Bool.{true};
-ghost use Rattle.claims.specs.Claim.{admission};
+ghost use Rattle.claims.specs.Claim.{checked};
 ghost use Rattle.calls.specs.Calls.{Record};
 ghost use Rattle.layout.specs.Layout.{stateOf};
 ghost use Rattle.state_record.specs.Entry.{Ready, Entry};
 ghost use Rattle.state_record.specs.Recorded.{countedIn};
 use claims::ARGUMENT;
-use claims::Admission;
+use claims::Checked;
 use claims::Claim;
 use claims::Class;
 use claims::UserClaim;
@@ -21,15 +21,15 @@ pub fn is_ready(fine: bool, state: &[u8]) -> bool
     fine && state_test::holds(state)
 }
 
-fn count_user(state: &mut [u8], s: Session, u: UserClaim, by: Admission)
-    requires { ⌜ (by ≡ admission (stateOf (now state)) s (Claim.ByUser u)) × (by .number ≡ 0) ⌝ }
+fn count_user(state: &mut [u8], s: Session, u: UserClaim, by: Checked)
+    requires { ⌜ (by ≡ checked (stateOf (now state)) s (Claim.ByUser u)) × (by .number ≡ 0) ⌝ }
     ensures { λ r. ⌜ now (state .exit) ≡ countedIn (now (state .entry)) s (Claim.ByUser u) ⌝ }
 {
     state_write_table::write_next(state, by.place, by.next + 1);
 }
 
-fn count(state: &mut [u8], s: Session, claim: Claim, by: Admission)
-    requires { ⌜ (by ≡ admission (stateOf (now state)) s claim) × (by .number ≡ 0) ⌝ }
+fn count(state: &mut [u8], s: Session, claim: Claim, by: Checked)
+    requires { ⌜ (by ≡ checked (stateOf (now state)) s claim) × (by .number ≡ 0) ⌝ }
     ensures { λ r. ⌜ now (state .exit) ≡ countedIn (now (state .entry)) s claim ⌝ }
 {
     match claim {
@@ -39,8 +39,8 @@ fn count(state: &mut [u8], s: Session, claim: Claim, by: Admission)
 }
 
 // What the check of a claim comes to, of the state that the slice says.
-fn admit(state: &[u8], s: Session, claim: Claim) -> Admission
-    ensures { λ r. ⌜ r ≡ admission (stateOf (now (state .entry))) s claim ⌝ }
+fn check(state: &[u8], s: Session, claim: Claim) -> Checked
+    ensures { λ r. ⌜ r ≡ checked (stateOf (now (state .entry))) s claim ⌝ }
 {
     claim_check::check_claim(s, claim, state_find::claim_view(state, s, claim))
 }
@@ -53,7 +53,7 @@ pub fn record(state: &mut [u8], s: Session, claim: Claim, class: Class) -> u8
     if !is_ready(true, state) {
         return ARGUMENT;
     }
-    let by = admit(state, s, claim);
+    let by = check(state, s, claim);
     let answer = calls_protected::record_number(by, class);
     if claim_check::passed_by(by, answer) {
         count(state, s, claim, by);

@@ -18,12 +18,11 @@ use Rattle.names.specs.declared.Session.{Session}
 use Rattle.names.proofs.Laws.{RowFits}
 use Rattle.table.specs.Table.{standing, isAmong}
 use Rattle.table.specs.declared.Process.{Process}
-use Rattle.claims.specs.Numbers.{_when_, _unless_, _▸_}
-use Rattle.claims.specs.Claim.{admitted, claimant}
 use Rattle.claims.specs.declared.Claim.{Claim}
 use Rattle.claims.specs.declared.State.{State}
 use Rattle.claims.proofs.Laws.{clear-rest, clear-when}
-use Rattle.calls.specs.Calls.{ListProcesses, isWanted, mayList, isShort, number, listed}
+use Rattle.calls.specs.Calls.{ListProcesses, isShort, protection, listTests, tests, number, listed}
+use Rattle.calls.proofs.Cut.{accepted}
 use Rattle.calls.specs.Listing.{amongOf, rowOf, rowsOf, messageLength, listing}
 use Rattle.calls.specs.declared.Listed.{Listed}
 use Rattle.calls.specs.declared.Wanted.{Wanted}
@@ -74,14 +73,10 @@ module _ (st : State) (s : Session) (claim : Claim) (wanted : Wanted) (old : Lis
 
     -- an accepted one has room
     pub list-room : messageLength (length (rowsOf st wanted)) ≤ length old
-    unfolding number isShort
+    unfolding protection tests listTests isShort
     list-room =
-        let grant : ℕ = 10 unless mayList st (claimant st s claim) wanted in
-        let short : ℕ = 15 when isShort st wanted (length old) in
-        let last : short ≡ 0 =
-        clear-rest grant short (clear-rest (admitted st s claim) (grant ▸ short) (clear-rest (1 unless isWanted wanted) (admitted st s claim ▸ grant ▸ short) e))
-        in
-        ltb-false (length old) (messageLength (length (rowsOf st wanted))) (clear-when 15 tt (isShort st wanted (length old)) last)
+        ltb-false (length old) (messageLength (length (rowsOf st wanted)))
+        (clear-when 15 tt _ (clear-rest _ _ (accepted st (ListProcesses s claim wanted (length old)) refl e .after)))
 
     -- so it is what the writer leaves
     pub list-written : listedBytes st s claim wanted old ≡ listingOver (rowsAmong wanted (standing (st .table))) old

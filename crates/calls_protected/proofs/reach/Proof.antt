@@ -2,8 +2,8 @@ use Rattle.calls.proofs.Rules.{rules}
 use Rattle.calls_protected.proofs.reach.Statement.{statement}
 use Rattle.calls_protected.proofs.reach.Tie as tie
 
-word-grants-requires : tie.Need-word-grants-requires
-word-grants-requires c κs = search rules
+grant-number-requires : tie.Need-grant-number-requires
+grant-number-requires c κs = search rules
 
 returns : tie.Need-returns
 returns c = search rules
@@ -12,4 +12,4 @@ returns-2 : tie.Need-returns-2
 returns-2 c = search rules
 
 pub reach-spec : {M : Type 1} → statement M
-reach-spec = tie.close (tie.spec word-grants-requires returns returns-2)
+reach-spec = tie.close (tie.spec grant-number-requires returns returns-2)

@@ -1,4 +1,4 @@
-use Rattle.calls.specs.Calls.{number}
+use Rattle.calls.specs.Calls.{asked, recordTests}
 use Rattle.calls.proofs.Rules.{rules}
 use Rattle.calls_protected.proofs.record_number.Statement.{statement}
 use Rattle.calls_protected.proofs.record_number.Tie as tie
@@ -7,25 +7,20 @@ is-device-requires : tie.Need-is-device-requires
 is-device-requires c κs = search rules
 
 returns : tie.Need-returns
-unfolding number
+unfolding asked recordTests
 returns c = search rules
 
 returns-2 : tie.Need-returns-2
-unfolding number
+unfolding asked recordTests
 returns-2 c = search rules
 
-word-grants-requires : tie.Need-word-grants-requires
-word-grants-requires c κs = search rules
+grant-number-requires : tie.Need-grant-number-requires
+grant-number-requires c κs = search rules
 
 returns-3 : tie.Need-returns-3
-unfolding number
+unfolding asked recordTests
 returns-3 c = search rules
-
-returns-4 : tie.Need-returns-4
-unfolding number
-returns-4 c = search rules
 
 pub record-number-spec : {M : Type 1} → statement M
 record-number-spec =
-    tie.close
-    (tie.spec is-device-requires returns returns-2 word-grants-requires returns-3 returns-4)
+    tie.close (tie.spec is-device-requires returns returns-2 grant-number-requires returns-3)

@@ -14,8 +14,8 @@ entered-requires c κs = search rules
 returns-2 : tie.Need-returns-2
 returns-2 c = search rules
 
-provisioned-requires : tie.Need-provisioned-requires
-provisioned-requires c κs = search rules
+grants-of-requires : tie.Need-grants-of-requires
+grants-of-requires c κs = search rules
 
 returns-3 : tie.Need-returns-3
 returns-3 c = search rules
@@ -31,6 +31,6 @@ known-number-spec =
     returns
     entered-requires
     returns-2
-    provisioned-requires
+    grants-of-requires
     returns-3
     returns-4)

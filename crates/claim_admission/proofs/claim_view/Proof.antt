@@ -17,11 +17,8 @@ speaks-for-requires c κs = search rules
 phase-of-requires : tie.Need-phase-of-requires
 phase-of-requires c κs = search rules
 
-provisioned-requires : tie.Need-provisioned-requires
-provisioned-requires c κs = search rules
-
-word-of-requires : tie.Need-word-of-requires
-word-of-requires c κs = search rules
+grants-of-requires : tie.Need-grants-of-requires
+grants-of-requires c κs = search rules
 
 returns : tie.Need-returns
 returns c = search rules
@@ -35,6 +32,5 @@ claim-view-spec =
     process-found-requires
     speaks-for-requires
     phase-of-requires
-    provisioned-requires
-    word-of-requires
+    grants-of-requires
     returns)

@@ -11,11 +11,8 @@ process-at-requires c κs = search rules
 enum-told : tie.Need-enum-told
 enum-told c = search rules
 
-size-requires : tie.Need-size-requires
-size-requires c κs = search rules
-
-process-at-requires-2 : tie.Need-process-at-requires-2
-process-at-requires-2 c κs = search rules
+free-place-requires : tie.Need-free-place-requires
+free-place-requires c κs = search rules
 
 returns : tie.Need-returns
 returns c = search rules
@@ -26,11 +23,4 @@ returns-2 c = search rules
 pub process-found-spec : {M : Type 1} → statement M
 process-found-spec =
     tie.close
-    (tie.spec
-    enum-known-found
-    process-at-requires
-    enum-told
-    size-requires
-    process-at-requires-2
-    returns
-    returns-2)
+    (tie.spec enum-known-found process-at-requires enum-told free-place-requires returns returns-2)

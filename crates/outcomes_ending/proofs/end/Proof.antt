@@ -3,8 +3,8 @@ use Rattle.claim_count.proofs.Rules.{rules}
 use Rattle.outcomes_ending.proofs.end.Statement.{statement}
 use Rattle.outcomes_ending.proofs.end.Tie as tie
 
-admit-requires : tie.Need-admit-requires
-admit-requires c κs = search rules
+check-requires : tie.Need-check-requires
+check-requires c κs = search rules
 
 end-number-requires : tie.Need-end-number-requires
 end-number-requires c κs = search rules
@@ -32,7 +32,7 @@ pub end-spec : {M : Type 1} → statement M
 end-spec =
     tie.close
     (tie.spec
-    admit-requires
+    check-requires
     end-number-requires
     charged-by-requires
     refused-claim-requires

@@ -3,8 +3,8 @@ use Rattle.claim_count.proofs.Rules.{rules}
 use Rattle.outcomes_ending.proofs.kill.Statement.{statement}
 use Rattle.outcomes_ending.proofs.kill.Tie as tie
 
-admit-requires : tie.Need-admit-requires
-admit-requires c κs = search rules
+check-requires : tie.Need-check-requires
+check-requires c κs = search rules
 
 kill-number-requires : tie.Need-kill-number-requires
 kill-number-requires c κs = search rules
@@ -18,12 +18,6 @@ refused-claim-requires c κs = search rules
 returns : tie.Need-returns
 unfolding protection
 returns c = search rules
-
-reach-requires : tie.Need-reach-requires
-reach-requires c κs = search rules
-
-named-place-requires : tie.Need-named-place-requires
-named-place-requires c κs = search rules
 
 removed-requires : tie.Need-removed-requires
 removed-requires c κs = search rules
@@ -41,13 +35,11 @@ pub kill-spec : {M : Type 1} → statement M
 kill-spec =
     tie.close
     (tie.spec
-    admit-requires
+    check-requires
     kill-number-requires
     charged-by-requires
     refused-claim-requires
     returns
-    reach-requires
-    named-place-requires
     removed-requires
     with-table-requires
     accepted-requires

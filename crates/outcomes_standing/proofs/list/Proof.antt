@@ -1,9 +1,10 @@
+use Rattle.calls.specs.Calls.{protection}
 use Rattle.claim_count.proofs.Rules.{rules}
 use Rattle.outcomes_standing.proofs.list.Statement.{statement}
 use Rattle.outcomes_standing.proofs.list.Tie as tie
 
-admit-requires : tie.Need-admit-requires
-admit-requires c κs = search rules
+check-requires : tie.Need-check-requires
+check-requires c κs = search rules
 
 list-number-requires : tie.Need-list-number-requires
 list-number-requires c κs = search rules
@@ -15,13 +16,11 @@ refused-claim-requires : tie.Need-refused-claim-requires
 refused-claim-requires c κs = search rules
 
 returns : tie.Need-returns
+unfolding protection
 returns c = search rules
 
 accepted-requires : tie.Need-accepted-requires
 accepted-requires c κs = search rules
-
-message-length-requires : tie.Need-message-length-requires
-message-length-requires c κs = search rules
 
 returns-2 : tie.Need-returns-2
 returns-2 c = search rules
@@ -30,11 +29,10 @@ pub list-spec : {M : Type 1} → statement M
 list-spec =
     tie.close
     (tie.spec
-    admit-requires
+    check-requires
     list-number-requires
     charged-by-requires
     refused-claim-requires
     returns
     accepted-requires
-    message-length-requires
     returns-2)

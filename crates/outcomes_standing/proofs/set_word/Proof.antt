@@ -3,8 +3,8 @@ use Rattle.claim_count.proofs.Rules.{rules}
 use Rattle.outcomes_standing.proofs.set_word.Statement.{statement}
 use Rattle.outcomes_standing.proofs.set_word.Tie as tie
 
-admit-requires : tie.Need-admit-requires
-admit-requires c κs = search rules
+check-requires : tie.Need-check-requires
+check-requires c κs = search rules
 
 set-word-number-requires : tie.Need-set-word-number-requires
 set-word-number-requires c κs = search rules
@@ -19,8 +19,8 @@ returns : tie.Need-returns
 unfolding protection
 returns c = search rules
 
-with-word-requires : tie.Need-with-word-requires
-with-word-requires c κs = search rules
+with-grants-requires : tie.Need-with-grants-requires
+with-grants-requires c κs = search rules
 
 accepted-requires : tie.Need-accepted-requires
 accepted-requires c κs = search rules
@@ -32,11 +32,11 @@ pub set-word-spec : {M : Type 1} → statement M
 set-word-spec =
     tie.close
     (tie.spec
-    admit-requires
+    check-requires
     set-word-number-requires
     charged-by-requires
     refused-claim-requires
     returns
-    with-word-requires
+    with-grants-requires
     accepted-requires
     returns-2)

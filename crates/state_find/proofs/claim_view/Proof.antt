@@ -2,6 +2,12 @@ use Rattle.state_find.proofs.Rules.{rules}
 use Rattle.state_find.proofs.claim_view.Statement.{statement}
 use Rattle.state_find.proofs.claim_view.Tie as tie
 
+nothing-told-requires : tie.Need-nothing-told-requires
+nothing-told-requires c κs = search rules
+
+returns : tie.Need-returns
+returns c = search rules
+
 claimed-requires : tie.Need-claimed-requires
 claimed-requires c κs = search rules
 
@@ -20,25 +26,23 @@ speaks-for-requires c κs = search rules
 phase-of-requires : tie.Need-phase-of-requires
 phase-of-requires c κs = search rules
 
-provisioned-requires : tie.Need-provisioned-requires
-provisioned-requires c κs = search rules
+grants-of-requires : tie.Need-grants-of-requires
+grants-of-requires c κs = search rules
 
-word-of-requires : tie.Need-word-of-requires
-word-of-requires c κs = search rules
-
-returns : tie.Need-returns
-returns c = search rules
+returns-2 : tie.Need-returns-2
+returns-2 c = search rules
 
 pub claim-view-spec : {M : Type 1} → statement M
 claim-view-spec =
     tie.close
     (tie.spec
+    nothing-told-requires
+    returns
     claimed-requires
     find-active-requires
     next-found-requires
     owner-found-requires
     speaks-for-requires
     phase-of-requires
-    provisioned-requires
-    word-of-requires
-    returns)
+    grants-of-requires
+    returns-2)

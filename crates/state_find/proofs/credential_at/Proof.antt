@@ -2,18 +2,6 @@ use Rattle.state_find.proofs.Rules.{rules}
 use Rattle.state_find.proofs.credential_at.Statement.{statement}
 use Rattle.state_find.proofs.credential_at.Tie as tie
 
-returns : tie.Need-returns
-returns c = search rules
-
-returns-2 : tie.Need-returns-2
-returns-2 c = search rules
-
-size-in-requires : tie.Need-size-in-requires
-size-in-requires c κs = search rules
-
-returns-3 : tie.Need-returns-3
-returns-3 c = search rules
-
 mul-a : tie.Need-mul-a
 mul-a c = search rules
 
@@ -26,19 +14,9 @@ shared-slice-read-wide16 c = search rules
 wide16-requires : tie.Need-wide16-requires
 wide16-requires c κs = search rules
 
-returns-4 : tie.Need-returns-4
-returns-4 c = search rules
+returns : tie.Need-returns
+returns c = search rules
 
 pub credential-at-spec : {M : Type 1} → statement M
 credential-at-spec =
-    tie.close
-    (tie.spec
-    returns
-    returns-2
-    size-in-requires
-    returns-3
-    mul-a
-    add-a
-    shared-slice-read-wide16
-    wide16-requires
-    returns-4)
+    tie.close (tie.spec mul-a add-a shared-slice-read-wide16 wide16-requires returns)

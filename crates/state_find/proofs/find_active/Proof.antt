@@ -14,9 +14,6 @@ Inv-loop s which n i₀ i = Searching (isActive which) (stateOf s .table .places
 abbrev μ-loop : tie.MeasureT-loop
 μ-loop s which n i₀ i = n - i
 
-returns : tie.Need-returns Inv-loop μ-loop
-returns c = search rules
-
 size-in-requires : tie.Need-size-in-requires Inv-loop μ-loop
 size-in-requires c κs = search rules
 
@@ -53,11 +50,11 @@ loop-less c = search rules
 loop-again : tie.Need-loop-again Inv-loop μ-loop
 loop-again c = search rules
 
-returns-2 : tie.Need-returns-2 Inv-loop μ-loop
-returns-2 c = ⊎-elim (λ w. absurd (omega arith)) (λ w. search rules) (c .before .if2 .came)
+returns : tie.Need-returns Inv-loop μ-loop
+returns c = ⊎-elim (λ w. absurd (omega arith)) (λ w. search rules) (c .before .if1 .came)
 
-returns-3 : tie.Need-returns-3 Inv-loop μ-loop
-returns-3 c = ⊎-elim (λ w. search rules) (λ w. absurd (omega arith)) (c .before .if2 .came)
+returns-2 : tie.Need-returns-2 Inv-loop μ-loop
+returns-2 c = ⊎-elim (λ w. search rules) (λ w. absurd (omega arith)) (c .before .if1 .came)
 
 pub find-active-spec : {M : Type 1} → statement M
 find-active-spec =
@@ -65,7 +62,6 @@ find-active-spec =
     (tie.spec
     Inv-loop
     μ-loop
-    returns
     size-in-requires
     loop-holds
     mul-a
@@ -78,5 +74,5 @@ find-active-spec =
     add-i
     loop-less
     loop-again
-    returns-2
-    returns-3)
+    returns
+    returns-2)

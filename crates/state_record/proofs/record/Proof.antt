@@ -11,8 +11,8 @@ same-length c = search rules
 returns : tie.Need-returns
 returns c = search rules
 
-admit-requires : tie.Need-admit-requires
-admit-requires c κs = search rules
+check-requires : tie.Need-check-requires
+check-requires c κs = search rules
 
 record-number-requires : tie.Need-record-number-requires
 record-number-requires c κs = search rules
@@ -42,7 +42,7 @@ record-spec =
     is-ready-requires
     same-length
     returns
-    admit-requires
+    check-requires
     record-number-requires
     passed-by-requires
     count-requires

@@ -1,6 +1,6 @@
 use Rattle.claim_check.proofs.Rules.{rules}
-use Rattle.claim_check.proofs.viewed_number.Statement.{statement}
-use Rattle.claim_check.proofs.viewed_number.Tie as tie
+use Rattle.claim_check.proofs.claim_number.Statement.{statement}
+use Rattle.claim_check.proofs.claim_number.Tie as tie
 
 enum-told : tie.Need-enum-told
 enum-told c = search rules
@@ -20,8 +20,8 @@ returns c = search rules
 returns-2 : tie.Need-returns-2
 returns-2 c = search rules
 
-pub viewed-number-spec : {M : Type 1} → statement M
-viewed-number-spec =
+pub claim-number-spec : {M : Type 1} → statement M
+claim-number-spec =
     tie.close
     (tie.spec
     enum-told

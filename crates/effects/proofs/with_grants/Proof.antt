@@ -1,6 +1,6 @@
 use Rattle.calls.proofs.Rules.{rules}
-use Rattle.effects.proofs.with_word.Statement.{statement}
-use Rattle.effects.proofs.with_word.Tie as tie
+use Rattle.effects.proofs.with_grants.Statement.{statement}
+use Rattle.effects.proofs.with_grants.Tie as tie
 
 cast-at : tie.Need-cast-at
 cast-at c = search rules
@@ -17,6 +17,6 @@ array-set-from-credentials c = search rules
 returns-2 : tie.Need-returns-2
 returns-2 c = search rules
 
-pub with-word-spec : {M : Type 1} → statement M
-with-word-spec =
+pub with-grants-spec : {M : Type 1} → statement M
+with-grants-spec =
     tie.close (tie.spec cast-at returns mul-credentials array-set-from-credentials returns-2)
