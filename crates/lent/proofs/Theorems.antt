@@ -48,7 +48,7 @@ use Rattle.history.proofs.Told.{look-tells}
 use Rattle.history.proofs.Form.{state-step, state-fresh}
 use Rattle.history.proofs.Theorems.{listing-fits, tells-from, tells-fresh, run-last, history-last, calls-of}
 use Rattle.image.specs.Image as Image
-use Rattle.image.specs.Image.{isImage, imageBytes}
+use Rattle.image.specs.Image.{isImage, stateImage}
 use Rattle.image.proofs.Laws.{stands-is, image-state}
 use Rattle.resumed.specs.Resumed.{toldBy, cut}
 use Rattle.resumed.proofs.Theorems.{demand3-told, image-tells}
@@ -257,7 +257,7 @@ pub lent-restored : {before image after : List ℕ} → Bytes image → RestoreE
 lent-restored {before} {image} h e k = lent-by (begun (Image.restored image) (toldBy image)) (goes-restored-done before image h e) k
 
 -- ---- a module from the image of what entries left, in whatever slice
-pub goes-again : (w : Since) {last image slice after : List ℕ} → IsState (stateOf last) → Holds w last → Bytes image → image ≡ imageBytes (stateOf last) → RestoreEntry slice image 0 after → Goes (cycledSince w) after
+pub goes-again : (w : Since) {last image slice after : List ℕ} → IsState (stateOf last) → Holds w last → Bytes image → image ≡ stateImage (stateOf last) → RestoreEntry slice image 0 after → Goes (cycledSince w) after
 goes-again w {image = image} {after = after} v h g is r =
     let i : IsImageOf w image = image-of w v h is in
     let made : IsState (Image.restored image) = image-state image g (i .accepted) in
