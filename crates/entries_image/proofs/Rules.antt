@@ -16,7 +16,7 @@ use Rattle.claims.specs.declared.State.{State}
 use Rattle.layout.specs.Layout.{stateLength, stateOf, stateWritten, holdsState}
 use Rattle.layout.proofs.Laws.{state-written}
 use Rattle.image.specs.declared.ImageRead.{ImageRead}
-use Rattle.image.specs.Image.{imageLong, imageBytes, imageRoom, lacksRoom, isImage, restored, readImage, ImageWritten}
+use Rattle.image.specs.Image.{imageLong, stateImage, imageRoom, lacksRoom, isImage, restored, readImage, ImageWritten}
 use Rattle.entries_image.specs.Entries.{imageNumber, restoreNumber, ImageEntry, RestoreEntry}
 
 -- ---- the writer: no image is 0 bytes long, and a buffer that is too short is kept
@@ -24,9 +24,9 @@ room-some : (st : State) → imageRoom st ≡ 0 → ⊥
 unfolding imageRoom imageLong
 room-some st e = omega arith
 
-short-kept : (st : State) (old : List ℕ) → lacksRoom st (length old) ≡ true → over 0 (imageRoom st) (imageBytes st) old ≡ old
+short-kept : (st : State) (old : List ℕ) → lacksRoom st (length old) ≡ true → over 0 (imageRoom st) (stateImage st) old ≡ old
 unfolding lacksRoom
-short-kept st old t = over-short 0 (imageRoom st) (imageBytes st) old (omega (arith, ltb-true (length old) (imageRoom st) t))
+short-kept st old t = over-short 0 (imageRoom st) (stateImage st) old (omega (arith, ltb-true (length old) (imageRoom st) t))
 
 module _ (state old : List ℕ) {h : Bool} (e : h ≡ holdsState state) where
   pub image-none : not h ≡ true → ImageEntry state old 1 old 0

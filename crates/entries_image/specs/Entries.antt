@@ -9,7 +9,7 @@ use Rattle.rows.specs.Rows.{over}
 use Rattle.claims.specs.Numbers as No
 use Rattle.claims.specs.Numbers.{_when_, _unless_, _▸_}
 use Rattle.layout.specs.Layout.{stateLength, stateOf, stateBytes, holdsState}
-use Rattle.image.specs.Image.{imageBytes, imageRoom, lacksRoom, isImage, restored}
+use Rattle.image.specs.Image.{stateImage, imageRoom, lacksRoom, isImage, restored}
 
 -- ---- the writer: 1 for "a slice that holds no state", 15 for a buffer that is too short
 unfoldable pub imageNumber : List ℕ → ℕ → ℕ
@@ -20,7 +20,7 @@ imageNumber state room =
 pub record ImageEntry (state old : List ℕ) (answer : ℕ) (new : List ℕ) (long : ℕ) : Type 0 where
   pub number-is : answer ≡ imageNumber state (length old)
   -- the image, and after it what the buffer held; on a refusal all that it held
-  pub image-is : new ≡ cond (eqb (imageNumber state (length old)) No.done) (over 0 (imageRoom (stateOf state)) (imageBytes (stateOf state)) old) old
+  pub image-is : new ≡ cond (eqb (imageNumber state (length old)) No.done) (over 0 (imageRoom (stateOf state)) (stateImage (stateOf state)) old) old
   pub length-is : long ≡ cond (eqb (imageNumber state (length old)) No.done) (imageRoom (stateOf state)) 0
 
 -- ---- the restorer: "Making a fresh module tests only the length" of the slice; then 14 for bytes that are no image

@@ -4,7 +4,7 @@ use Prim.Native.Nat.{ℕ, zero, suc}
 use mathlib.Core.Path.{_≡_, refl}
 use mathlib.Core.Bool.{Bool, true, false}
 use mathlib.Core.List.{List, [], _∷_, _++_}
-use lib.ListN.{length, replicate, set, take}
+use lib.ListN.{length, replicate, set, take, drop}
 use Rattle.lists.specs.Lists.{join, padded, select}
 use Rattle.rows.specs.Bytes.{bytesOf, numberOf, numberAt}
 use Rattle.rows.specs.Rows.{rows, every, pairwise}
@@ -13,11 +13,12 @@ use Rattle.names.specs.declared.Kind.{Kind}
 use Rattle.names.specs.declared.Kind.the-variants.{User, Saved}
 use Rattle.table.specs.Table.{standing, tableOf}
 use Rattle.table.specs.declared.Process.{Process}
-use Rattle.claims.specs.Module.{closedSession, unprovisioned, provisioned}
+use Rattle.claims.specs.Module.{closedSession, unprovisioned}
 use Rattle.claims.specs.declared.Grants.{Grants}
 use Rattle.claims.specs.declared.Phase.the-variants.{Chosen}
 use Rattle.claims.specs.declared.State.{State}
-use Rattle.image.specs.Image.{imageLong, numbersBytes, numbersIn, maskOf, wordIn, savedOf, savedBytes, imageOf, imageBytes, maskIn, rowCountIn, grantsSaid, grantsIn, savedFrom, keptIn, restored, cycled, headFits, wordFits, isKeepable, differ, isImage}
+use Rattle.image.specs.declared.SavedRow.{SavedRow}
+use Rattle.image.specs.Image.{savedAt, isRowOffset, imageLong, numbersBytes, numbersIn, maskOf, wordIn, savedBytes, imageBytes, headIn, grantsSaid, grantsIn, savedFrom, savedIn, imageIn, isOwner, isKeepable, differ, keep, headFits, wordFits, imageFits, isImage, savedProcess, restored, savedRow, savedOf, imageOf, stateImage, cycled}
 
 -- document 01: "P is 16 zero bytes then 32 of 0x11; Q is 16 zero bytes then 32 of 0x22; R is P with its last byte 0x12."
 abbrev P : List ℕ
@@ -66,15 +67,15 @@ made =
     }
 
 pub record Drawn : Type 0 where
-  pub written : imageBytes drawn ≡ bytes
+  pub written : stateImage drawn ≡ bytes
   pub long : length bytes ≡ 146
   pub accepted : isImage bytes ≡ true
   pub read : restored bytes ≡ made
   pub after : cycled drawn ≡ made
-  pub again : imageBytes made ≡ bytes
+  pub again : stateImage made ≡ bytes
 
 pub drawn-is : Drawn
-unfolding join padded select bytesOf numberOf numberAt rows every pairwise sameBytes sameName standing tableOf provisioned imageLong numbersBytes numbersIn maskOf wordIn savedOf savedBytes imageOf imageBytes maskIn rowCountIn grantsSaid grantsIn savedFrom keptIn restored cycled headFits wordFits isKeepable differ isImage
+unfolding join padded select bytesOf numberOf numberAt rows every pairwise sameBytes sameName standing tableOf isRowOffset imageLong numbersBytes numbersIn maskOf wordIn savedBytes imageBytes headIn grantsSaid grantsIn savedFrom savedIn imageIn isOwner isKeepable differ headFits wordFits imageFits isImage savedProcess restored savedRow savedOf imageOf stateImage cycled
 drawn-is = record { written = refl; long = refl; accepted = refl; read = refl; after = refl; again = refl }
 
 -- a byte changed: the place, and what it holds then
@@ -86,9 +87,15 @@ abbrev empty : List ℕ
 empty = set (take 42 bytes) 6 0
 
 -- and the bytes of n rows of different names
-abbrev many : ℕ → List Process
+abbrev row : ℕ → ℕ → List ℕ → SavedRow
+row c n name = record { owner = record { 0 = c }; next = n; name = record { bytes = name } }
+
+abbrev many : ℕ → List SavedRow
 many zero = []
-many (suc n) = process 0 Saved 1 (n ∷ replicate 47 0) ∷ many n
+many (suc n) = row 0 1 (n ∷ replicate 47 0) ∷ many n
+
+abbrev of : List SavedRow → List ℕ
+of l = imageBytes (record { offset = savedAt; grants = two; saved = l })
 
 pub record Refused : Type 0 where
   -- "Its length is 42 + 52n": a byte too many, one too few; a row too many, one too few
@@ -101,7 +108,7 @@ pub record Refused : Type 0 where
   pub count-3 : changed 6 3 ≡ false
   pub count-258 : changed 7 1 ≡ false
   -- "n at most 12"
-  pub rows-13 : isImage (imageOf two (many 13)) ≡ false
+  pub rows-13 : isImage (of (many 13)) ≡ false
   -- "mask of provisioned credentials (bits 8 to 15 zero)"
   pub mask-8 : changed 1 1 ≡ false
   pub mask-15 : changed 1 128 ≡ false
@@ -112,6 +119,8 @@ pub record Refused : Type 0 where
   pub words-at-266 : changed 5 1 ≡ false
   pub rows-at-43 : changed 8 43 ≡ false
   pub rows-at-298 : changed 9 1 ≡ false
+  -- the rows at 43, as the head says then
+  pub rows-moved : isImage (set (take 42 bytes ++ (0 ∷ drop 42 bytes)) 8 43) ≡ false
   -- "zero where unprovisioned": each byte of a word; and one whose credential was taken out of the mask
   pub word-low : changed 18 1 ≡ false
   pub word-high : changed 41 1 ≡ false
@@ -126,8 +135,8 @@ pub record Refused : Type 0 where
   pub name-twice : isImage (take 98 bytes ++ P) ≡ false
 
 pub refused : Refused
-unfolding join padded select bytesOf numberOf numberAt rows every pairwise sameBytes sameName standing tableOf provisioned imageLong numbersBytes numbersIn maskOf wordIn savedOf savedBytes imageOf imageBytes maskIn rowCountIn grantsSaid grantsIn savedFrom keptIn restored cycled headFits wordFits isKeepable differ isImage
-refused = record { long = refl; short = refl; long-empty = refl; short-empty = refl; nothing = refl; count-1 = refl; count-3 = refl; count-258 = refl; rows-13 = refl; mask-8 = refl; mask-15 = refl; words-7 = refl; words-264 = refl; words-at-11 = refl; words-at-266 = refl; rows-at-43 = refl; rows-at-298 = refl; word-low = refl; word-high = refl; word-left = refl; owner-2 = refl; owner-8 = refl; owner-256 = refl; number-0 = refl; name-twice = refl }
+unfolding join padded select bytesOf numberOf numberAt rows every pairwise sameBytes sameName standing tableOf isRowOffset imageLong numbersBytes numbersIn maskOf wordIn savedBytes imageBytes headIn grantsSaid grantsIn savedFrom savedIn imageIn isOwner isKeepable differ headFits wordFits imageFits isImage savedProcess restored savedRow savedOf imageOf stateImage cycled
+refused = record { long = refl; short = refl; long-empty = refl; short-empty = refl; nothing = refl; count-1 = refl; count-3 = refl; count-258 = refl; rows-13 = refl; mask-8 = refl; mask-15 = refl; words-7 = refl; words-264 = refl; words-at-11 = refl; words-at-266 = refl; rows-at-43 = refl; rows-at-298 = refl; rows-moved = refl; word-low = refl; word-high = refl; word-left = refl; owner-2 = refl; owner-8 = refl; owner-256 = refl; number-0 = refl; name-twice = refl }
 
 -- what is an image though it looks strange
 pub record Accepted : Type 0 where
@@ -135,7 +144,7 @@ pub record Accepted : Type 0 where
   pub no-row : isImage empty ≡ true
   pub no-credential : isImage (set (set (set (replicate 42 0) 2 8) 4 10) 8 42) ≡ true
   -- as many as there are places
-  pub rows-12 : isImage (imageOf two (many 12)) ≡ true
+  pub rows-12 : isImage (of (many 12)) ≡ true
   -- a next number of 256, with a low byte of 0; the last, under which nothing is accepted any more
   pub number-256 : isImage (set (set bytes 44 0) 45 1) ≡ true
   pub number-65535 : isImage (set (set bytes 44 255) 45 255) ≡ true
@@ -144,8 +153,19 @@ pub record Accepted : Type 0 where
   pub name-zero : isImage (take 98 bytes ++ replicate 48 0) ≡ true
   -- rows of one credential, in any order
   pub owner-0 : changed 94 0 ≡ true
-  pub turned : isImage (imageOf two (process 1 Saved 300 Q ∷ process 0 Saved 3 P ∷ [])) ≡ true
+  pub turned : isImage (of (row 1 300 Q ∷ row 0 3 P ∷ [])) ≡ true
 
 pub accepted : Accepted
-unfolding join padded select bytesOf numberOf numberAt rows every pairwise sameBytes sameName standing tableOf provisioned imageLong numbersBytes numbersIn maskOf wordIn savedOf savedBytes imageOf imageBytes maskIn rowCountIn grantsSaid grantsIn savedFrom keptIn restored cycled headFits wordFits isKeepable differ isImage
+unfolding join padded select bytesOf numberOf numberAt rows every pairwise sameBytes sameName standing tableOf isRowOffset imageLong numbersBytes numbersIn maskOf wordIn savedBytes imageBytes headIn grantsSaid grantsIn savedFrom savedIn imageIn isOwner isKeepable differ headFits wordFits imageFits isImage savedProcess restored savedRow savedOf imageOf stateImage cycled
 accepted = record { no-row = refl; no-credential = refl; rows-12 = refl; number-256 = refl; number-65535 = refl; name-close = refl; name-zero = refl; owner-0 = refl; turned = refl }
+
+-- which rows are kept: the first of two with one name; one whose name only a row has that was not kept; none of a credential that is not provisioned, none at 0
+pub record KeptRows : Type 0 where
+  pub all : keep two [] (row 0 3 P ∷ row 1 300 Q ∷ []) ≡ row 0 3 P ∷ row 1 300 Q ∷ []
+  pub first : keep two [] (row 0 3 P ∷ row 1 300 P ∷ row 1 1 Q ∷ []) ≡ row 0 3 P ∷ row 1 1 Q ∷ []
+  pub free : keep two [] (row 0 0 P ∷ row 1 300 P ∷ []) ≡ row 1 300 P ∷ []
+  pub owners : keep two [] (row 2 3 P ∷ row 8 3 Q ∷ row 256 3 R ∷ []) ≡ []
+
+pub kept-rows : KeptRows
+unfolding every sameBytes sameName isOwner isKeepable differ keep
+kept-rows = record { all = refl; first = refl; free = refl; owners = refl }

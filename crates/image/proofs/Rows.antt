@@ -19,12 +19,10 @@ use Rattle.rows.specs.Rows.{every}
 use Rattle.rows.proofs.Bytes.{length-bytes, number-back, number-forth, number-small, number-in, number-low, number-taken, part-front}
 use Rattle.rows.proofs.Rows.{Codec}
 use Rattle.names.specs.Names.{nameLength, readName}
-use Rattle.names.specs.declared.Kind.{Kind}
-use Rattle.names.specs.declared.Kind.the-variants.{Saved}
 use Rattle.names.proofs.Laws.{name-last}
-use Rattle.table.specs.declared.Process.{Process}
 use Rattle.claims.specs.declared.Grants.{Grants}
 use Rattle.facts.specs.Facts.{FormedGrants, WideGrants}
+use Rattle.image.specs.declared.SavedRow.{SavedRow}
 use Rattle.image.specs.Image.{savedOwnerAt, savedNextAt, savedNameAt, savedSize, maskOf, wordIn, grantsSaid, savedBytes, savedFrom, wordFits}
 
 -- ---- every list of as many bytes is a number, or a row
@@ -120,42 +118,37 @@ grants-length m [] = refl
 grants-length m (w ∷ ws) = rw (grants-length (m / 2) ws)
 
 -- ---- a row
-pub record RowFits (p : Process) : Type 0 where
-  pub saved : p .kind ≡ Saved
-  pub session : p .session .0 ≡ 0
-  pub credential : p .credential .0 < 256 ^ 2
-  pub next : p .next < 256 ^ 2
-  pub name : length (p .name .bytes) ≡ nameLength
+pub record RowFits (r : SavedRow) : Type 0 where
+  pub owner : r .owner .0 < 256 ^ 2
+  pub next : r .next < 256 ^ 2
+  pub name : length (r .name .bytes) ≡ nameLength
 
-saved-long : (p : Process) → length (p .name .bytes) ≡ nameLength → length (savedBytes p) ≡ savedSize
+saved-long : (r : SavedRow) → length (r .name .bytes) ≡ nameLength → length (savedBytes r) ≡ savedSize
 unfolding savedBytes
-saved-long p h = simp length-append (omega (arith, length-bytes 2 (p .credential .0), length-bytes 2 (p .next)))
+saved-long r h = simp length-append (omega (arith, length-bytes 2 (r .owner .0), length-bytes 2 (r .next)))
 
 -- rows, one after another: their length, whatever else is in them
-pub rows-long : {l : List Process} → Each (λ p. length (p .name .bytes) ≡ nameLength) l → length (join (map savedBytes l)) ≡ length l * savedSize
+pub rows-long : {l : List SavedRow} → Each (λ r. length (r .name .bytes) ≡ nameLength) l → length (join (map savedBytes l)) ≡ length l * savedSize
 unfolding join
 rows-long each-nil = sym (zero-mul savedSize)
 rows-long (each-cons {x} {l} p w) = rw (length-append, suc-mul, saved-long x p, rows-long w) (add-comm savedSize (length l * savedSize))
 
-module _ (p : Process) (w : RowFits p) where
-  owner-at : numberAt 2 savedOwnerAt (savedBytes p) ≡ p .credential .0
+module _ (r : SavedRow) (w : RowFits r) where
+  owner-at : numberAt 2 savedOwnerAt (savedBytes r) ≡ r .owner .0
   unfolding savedBytes
-  owner-at = number-in 2 (p .credential .0) [] (bytesOf 2 (p .next) ++ p .name .bytes) (w .credential)
+  owner-at = number-in 2 (r .owner .0) [] (bytesOf 2 (r .next) ++ r .name .bytes) (w .owner)
 
-  next-at : numberAt 2 savedNextAt (savedBytes p) ≡ p .next
+  next-at : numberAt 2 savedNextAt (savedBytes r) ≡ r .next
   unfolding savedBytes bytesOf
-  next-at = number-in 2 (p .next) (bytesOf 2 (p .credential .0)) (p .name .bytes) (w .next)
+  next-at = number-in 2 (r .next) (bytesOf 2 (r .owner .0)) (r .name .bytes) (w .next)
 
-  name-at : drop savedNameAt (savedBytes p) ≡ p .name .bytes
+  name-at : drop savedNameAt (savedBytes r) ≡ r .name .bytes
   unfolding savedBytes bytesOf
   name-at = refl
 
-  saved-is : (k : Kind) (s : ℕ) → p .kind ≡ k → p .session .0 ≡ s → record { credential = p .credential; kind = k; session = record { 0 = s }; next = p .next; name = p .name } ≡ p
-  saved-is k s e f = rw (← e, ← f)
-
-  saved-back : savedFrom (savedBytes p) ≡ p
+  saved-back : savedFrom (savedBytes r) ≡ r
   unfolding savedFrom
-  saved-back = rw (owner-at, next-at, name-at) (saved-is Saved 0 (w .saved) (w .session))
+  saved-back = rw (owner-at, next-at, name-at)
 
 module _ (b : List ℕ) (n : length b ≡ savedSize) (h : Bytes b) where
   saved-forth : savedBytes (savedFrom b) ≡ b
@@ -167,13 +160,7 @@ module _ (b : List ℕ) (n : length b ≡ savedSize) (h : Bytes b) where
   saved-fits : RowFits (savedFrom b)
   unfolding savedFrom
   saved-fits =
-      record {
-        saved = refl;
-        session = refl;
-        credential = number-low 2 savedOwnerAt b h;
-        next = number-low 2 savedNextAt b h;
-        name = simp length-drop (omega arith);
-      }
+      record { owner = number-low 2 savedOwnerAt b h; next = number-low 2 savedNextAt b h; name = simp length-drop (omega arith) }
 
 -- the name in a row, as the code reads it
 pub saved-name : (row : List ℕ) → length row ≡ savedSize → readName (take nameLength (drop savedNameAt row)) .name ≡ savedFrom row .name

@@ -1,23 +1,27 @@
--- Document 02, order 2: "Write an image and make a fresh module from it, with its credentials and words." The image's bytes, which bytes are one, and
--- the module that one makes. docs/IMAGE.md draws it.
-use Prim.Native.Nat.{ℕ, _+_, _*_, _/_, _%_}
+-- Document 02, order 2: "Write an image and make a fresh module from it, with its credentials and words." What an image holds, its bytes, which bytes are one,
+-- and the module that one makes. docs/IMAGE.md draws it.
+use Prim.Native.Nat.{ℕ, _+_, _*_, _/_, _%_, _≤_}
 use mathlib.Core.Path.{_≡_}
 use mathlib.Core.Bool.{Bool, true, false, cond, not, _&&_, _||_}
 use mathlib.Core.List.{List, [], _∷_, _++_, map}
 use lib.Dec.{eqb, leb, ltb}
-use lib.ListN.{length, drop, replicate}
+use lib.ListN.{length, getD, drop, replicate}
 use Rattle.lists.specs.Lists.{join, select}
 use Rattle.rows.specs.Bytes.{bytesOf, numberOf, numberAt}
 use Rattle.rows.specs.Rows.{rows, every, pairwise, over}
 use Rattle.names.specs.Names.{nameLength, sameName}
+use Rattle.names.specs.declared.Credential.{Credential}
 use Rattle.names.specs.declared.Kind.the-variants.{Saved}
 use Rattle.table.specs.Table.{standing, tableOf, isSaved, places}
 use Rattle.table.specs.declared.Process.{Process}
 use Rattle.table.specs.declared.Table.{Table}
-use Rattle.claims.specs.Module.{closedSession, unprovisioned, provisioned, sessionCount, credentialCount}
+use Rattle.claims.specs.Module.{closedSession, unprovisioned, sessionCount, credentialCount}
 use Rattle.claims.specs.declared.Grants.{Grants}
 use Rattle.claims.specs.declared.State.{State}
+use Rattle.image.specs.declared.ImageHead.{ImageHead}
 use Rattle.image.specs.declared.ImageRead.{ImageRead}
+use Rattle.image.specs.declared.ImageTest.{ImageTest}
+use Rattle.image.specs.declared.SavedRow.{SavedRow}
 
 -- ---- where its numbers, its words and its rows lie. `src/lib.rt` has these names for the code
 abbrev pub maskAt : ℕ
@@ -57,9 +61,19 @@ savedNameAt = savedNextAt + 2
 abbrev pub savedSize : ℕ
 savedSize = savedNameAt + nameLength
 
+-- "offset of rows 42": the only one that an image has
+unfoldable pub isRowOffset : ℕ → Bool
+isRowOffset offset = eqb offset savedAt
+
 -- "Its length is 42 + 52n"
-unfoldable pub imageLong : ℕ → ℕ
-imageLong n = savedAt + n * savedSize
+unfoldable pub imageLong : ℕ → ℕ → ℕ
+imageLong offset n = offset + n * savedSize
+
+-- ---- what an image holds: the credentials' grants, and the rows of the saved processes; and from where on its rows lie
+pub record Image : Type 0 where
+  pub offset : ℕ
+  pub grants : List Grants
+  pub saved : List SavedRow
 
 -- ---- numbers of k bytes, one after another: the bytes that say them, and the first n that bytes say
 unfoldable pub numbersBytes : ℕ → List ℕ → List ℕ
@@ -70,8 +84,8 @@ numbersIn n k b = map numberOf (rows n k b)
 
 -- ---- "Five 2-byte little endian numbers head it: mask of provisioned credentials (bits 8 to 15 zero), count of words 8, offset of words 10,
 -- count of rows n, offset of rows 42."
-abbrev pub headNumbers : ℕ → ℕ → List ℕ
-headNumbers mask n = mask ∷ credentialCount ∷ wordsAt ∷ n ∷ savedAt ∷ []
+abbrev pub headNumbers : ℕ → ℕ → ℕ → List ℕ
+headNumbers mask n offset = mask ∷ credentialCount ∷ wordsAt ∷ n ∷ offset ∷ []
 
 -- bit i is credential i's
 unfoldable pub maskOf : List Grants → ℕ
@@ -82,29 +96,25 @@ maskOf (g ∷ l) = maskOf l * 2 + cond (g .provisioned) 1 0
 unfoldable pub wordIn : Grants → ℕ
 wordIn g = cond (g .provisioned) (g .word) 0
 
--- ---- "then n rows of 52 bytes, the saved processes only, in table order: credential 2, next number 2, name 48"
-abbrev pub isKept : Process → Bool
-isKept p = isSaved (p .kind)
+-- ---- "then n rows of 52 bytes, .. credential 2, next number 2, name 48"
+unfoldable pub savedBytes : SavedRow → List ℕ
+savedBytes r = bytesOf 2 (r .owner .0) ++ (bytesOf 2 (r .next) ++ r .name .bytes)
 
-unfoldable pub savedOf : State → List Process
-savedOf st = select isKept (standing (st .table))
-
-unfoldable pub savedBytes : Process → List ℕ
-savedBytes p = bytesOf 2 (p .credential .0) ++ (bytesOf 2 (p .next) ++ p .name .bytes)
-
--- ---- the image of credentials and saved processes, and of a state
-unfoldable pub imageOf : List Grants → List Process → List ℕ
-imageOf l kept = numbersBytes 2 (headNumbers (maskOf l) (length kept)) ++ (numbersBytes wordSize (map wordIn l) ++ join (map savedBytes kept))
-
-unfoldable pub imageBytes : State → List ℕ
-imageBytes st = imageOf (st .credentials) (savedOf st)
+unfoldable pub imageBytes : Image → List ℕ
+imageBytes i =
+    numbersBytes 2 (headNumbers (maskOf (i .grants)) (length (i .saved)) (i .offset))
+    ++ (numbersBytes wordSize (map wordIn (i .grants)) ++ join (map savedBytes (i .saved)))
 
 -- ---- what bytes say, read so
-unfoldable pub maskIn : List ℕ → ℕ
-maskIn b = numberAt 2 maskAt b
-
-unfoldable pub rowCountIn : List ℕ → ℕ
-rowCountIn b = numberAt 2 rowCountAt b
+unfoldable pub headIn : List ℕ → ImageHead
+headIn b =
+    record {
+      mask = numberAt 2 maskAt b;
+      words = numberAt 2 wordCountAt b;
+      from = numberAt 2 wordOffsetAt b;
+      rows = numberAt 2 rowCountAt b;
+      offset = numberAt 2 rowOffsetAt b;
+    }
 
 -- a mask and words, and the credentials that they say
 unfoldable pub grantsSaid : ℕ → List ℕ → List Grants
@@ -112,76 +122,110 @@ grantsSaid mask [] = []
 grantsSaid mask (word ∷ words) = record { provisioned = eqb (mask % 2) 1; word = word } ∷ grantsSaid (mask / 2) words
 
 unfoldable pub grantsIn : List ℕ → List Grants
-grantsIn b = grantsSaid (maskIn b) (numbersIn credentialCount wordSize (drop wordsAt b))
+grantsIn b = grantsSaid (headIn b .mask) (numbersIn credentialCount wordSize (drop wordsAt b))
 
--- "Restored processes are saved ones."
-unfoldable pub savedFrom : List ℕ → Process
-savedFrom row =
-    record {
-      credential = record { 0 = numberAt 2 savedOwnerAt row };
-      kind = Saved;
-      session = record { 0 = 0 };
-      next = numberAt 2 savedNextAt row;
-      name = record { bytes = drop savedNameAt row };
-    }
+unfoldable pub savedFrom : List ℕ → SavedRow
+savedFrom row = record { owner = record { 0 = numberAt 2 savedOwnerAt row }; next = numberAt 2 savedNextAt row; name = record { bytes = drop savedNameAt row } }
 
-unfoldable pub keptIn : List ℕ → List Process
-keptIn b = map savedFrom (rows (rowCountIn b) savedSize (drop savedAt b))
+-- n rows from an offset on, and those that the head speaks of
+abbrev pub savedAmong : ℕ → ℕ → List ℕ → List SavedRow
+savedAmong offset n b = map savedFrom (rows n savedSize (drop offset b))
 
--- ---- a fresh module with these credentials, in which these processes stand; the one that an image makes, and what a state is after a power cycle
-abbrev pub closedModule : List Grants → Table → State
-closedModule l t = record { sessions = replicate sessionCount closedSession; credentials = l; table = t }
+unfoldable pub savedIn : List ℕ → List SavedRow
+savedIn b = savedAmong (headIn b .offset) (headIn b .rows) b
 
-abbrev pub moduleOf : List Grants → List Process → State
-moduleOf l kept = closedModule l (tableOf kept)
+unfoldable pub imageIn : List ℕ → Image
+imageIn b = record { offset = headIn b .offset; grants = grantsIn b; saved = savedIn b }
 
-unfoldable pub restored : List ℕ → State
-restored b = moduleOf (grantsIn b) (keptIn b)
+-- ---- which rows are kept. "provisioned owners .. and next numbers of at least 1 (a save has counted one)"
+unfoldable pub isOwner : List Grants → Credential → Bool
+isOwner grants c = getD grants (c .0) unprovisioned .provisioned
 
-unfoldable pub cycled : State → State
-cycled st = moduleOf (st .credentials) (savedOf st)
+unfoldable pub isKeepable : List Grants → SavedRow → Bool
+isKeepable grants r = isOwner grants (r .owner) && leb 1 (r .next)
+
+-- "different names"
+unfoldable pub differ : SavedRow → SavedRow → Bool
+differ r q = not (sameName (r .name) (q .name))
+
+-- in order: a row is kept where it is such a one and its name differs from that of each kept before. The reader takes an image where all are (`kept-image` of the laws)
+unfoldable pub keep : List Grants → List SavedRow → List SavedRow → List SavedRow
+keep grants kept [] = []
+keep grants kept (r ∷ l) =
+    cond (isKeepable grants r && every (λ q. differ q r) kept) (r ∷ keep grants (kept ++ (r ∷ [])) l) (keep grants kept l)
 
 -- ---- "The reader accepts exactly these forms with provisioned owners, different names and next numbers of at least 1 (a save has counted one)"
 
 -- the five numbers. "n at most 12"
-unfoldable pub headFits : List ℕ → Bool
-headFits b =
-    ltb (maskIn b) 256
-    && (eqb (numberAt 2 wordCountAt b) credentialCount
-    && (eqb (numberAt 2 wordOffsetAt b) wordsAt
-    && (leb (rowCountIn b) places
-    && eqb (numberAt 2 rowOffsetAt b) savedAt)))
+unfoldable pub headFits : ImageHead → Bool
+headFits h =
+    ltb (h .mask) 256
+    && (eqb (h .words) credentialCount
+    && (eqb (h .from) wordsAt
+    && (leb (h .rows) places
+    && isRowOffset (h .offset))))
 
 -- "zero where unprovisioned"
 unfoldable pub wordFits : Grants → Bool
 wordFits g = g .provisioned || eqb (g .word) 0
 
--- "provisioned owners .. and next numbers of at least 1"
-unfoldable pub isKeepable : State → Process → Bool
-isKeepable st p = provisioned st (p .credential) && leb 1 (p .next)
-
--- "different names"
-unfoldable pub differ : Process → Process → Bool
-differ p q = not (sameName (p .name) (q .name))
+-- what it holds: words, owners, numbers and names
+unfoldable pub imageFits : Image → Bool
+imageFits i = every wordFits (i .grants) && (every (isKeepable (i .grants)) (i .saved) && pairwise differ (i .saved))
 
 unfoldable pub isImage : List ℕ → Bool
-isImage b =
-    eqb (length b) (imageLong (rowCountIn b))
-    && (headFits b
-    && (every wordFits (grantsIn b)
-    && (every (isKeepable (restored b)) (keptIn b)
-    && pairwise differ (keptIn b))))
+isImage b = headFits (headIn b) && (eqb (length b) (imageLong (headIn b .offset) (headIn b .rows)) && imageFits (imageIn b))
+
+-- the test's answer, with what it read
+unfoldable pub imageTest : List ℕ → ImageTest
+imageTest b = record { fits = isImage b; head = headIn b; grants = grantsIn b }
+
+-- ---- the module that an image makes: a fresh one with these credentials, in which these processes stand. "Restored processes are saved ones."
+unfoldable pub savedProcess : SavedRow → Process
+savedProcess r = record { credential = r .owner; kind = Saved; session = record { 0 = 0 }; next = r .next; name = r .name }
+
+abbrev pub closedModule : List Grants → Table → State
+closedModule l t = record { sessions = replicate sessionCount closedSession; credentials = l; table = t }
+
+abbrev pub moduleOf : Image → State
+moduleOf i = closedModule (i .grants) (tableOf (map savedProcess (i .saved)))
+
+unfoldable pub restored : List ℕ → State
+restored b = moduleOf (imageIn b)
+
+-- ---- the image of a state: "the saved processes only, in table order"
+unfoldable pub savedRow : Process → SavedRow
+savedRow p = record { owner = p .credential; next = p .next; name = p .name }
+
+abbrev pub isSavedOne : Process → Bool
+isSavedOne p = isSaved (p .kind)
+
+abbrev pub savedRows : List Process → List SavedRow
+savedRows l = map savedRow (select isSavedOne l)
+
+unfoldable pub savedOf : State → List SavedRow
+savedOf st = savedRows (standing (st .table))
+
+unfoldable pub imageOf : State → Image
+imageOf st = record { offset = savedAt; grants = st .credentials; saved = savedOf st }
+
+unfoldable pub stateImage : State → List ℕ
+stateImage st = imageBytes (imageOf st)
+
+-- what a state is after a power cycle
+unfoldable pub cycled : State → State
+cycled st = moduleOf (imageOf st)
 
 -- ---- the reader's answer. Bytes that are no image make a module without credentials, which nobody is given
 abbrev pub noImage : ImageRead
-noImage = record { fits = false; state = moduleOf (replicate credentialCount unprovisioned) [] }
+noImage = record { fits = false; state = closedModule (replicate credentialCount unprovisioned) (tableOf []) }
 
 unfoldable pub readImage : List ℕ → ImageRead
 readImage b = cond (isImage b) (record { fits = true; state = restored b }) noImage
 
 -- ---- the writer's: how long the image of a state is, whether a buffer is too short for it, and the buffer afterwards
 unfoldable pub imageRoom : State → ℕ
-imageRoom st = imageLong (length (savedOf st))
+imageRoom st = imageLong savedAt (length (savedOf st))
 
 unfoldable pub lacksRoom : State → ℕ → Bool
 lacksRoom st room = ltb room (imageRoom st)
@@ -190,4 +234,10 @@ pub record ImageWritten (st : State) (old : List ℕ) (long : ℕ) (new : List �
   -- "it answers the length, 0 on a refusal"
   pub length-is : long ≡ cond (lacksRoom st (length old)) 0 (imageRoom st)
   -- later bytes are not touched, and none of a buffer that is too short
-  pub bytes-are : new ≡ over 0 (imageRoom st) (imageBytes st) old
+  pub bytes-are : new ≡ over 0 (imageRoom st) (stateImage st) old
+
+-- ---- what the reader's loops ask: n rows lie in bytes from an offset on, and nothing behind them
+pub record SavedLie (b : List ℕ) (offset n : ℕ) : Type 0 where
+  pub few : n ≤ places
+  pub from : isRowOffset offset ≡ true
+  pub long : length b ≡ imageLong offset n

@@ -1,8 +1,11 @@
 // The image of a module: where its numbers, its words and its rows lie. docs/IMAGE.md draws it; specs/Image.antt has the same names, and which bytes
 // are an image. Each part begins where the one before it ends, and so does each field.
 use claims::CREDENTIALS;
+use claims::Grants;
 use claims::State;
+use names::Credential;
 use names::NAME_LENGTH;
+use names::Name;
 
 // ---- the five numbers at its head
 
@@ -16,7 +19,7 @@ pub const ROW_COUNT_AT: usize = WORD_OFFSET_AT + 2;
 
 pub const ROW_OFFSET_AT: usize = ROW_COUNT_AT + 2;
 
-// ---- the words, and the rows
+// ---- the words, and the rows where they begin
 
 pub const WORDS_AT: usize = ROW_OFFSET_AT + 2;
 
@@ -24,7 +27,7 @@ pub const WORD_SIZE: usize = 4;
 
 pub const SAVED_AT: usize = WORDS_AT + CREDENTIALS * WORD_SIZE;
 
-// ---- a row
+// ---- a row of a saved process
 
 pub const SAVED_OWNER_AT: usize = 0;
 
@@ -33,6 +36,31 @@ pub const SAVED_NEXT_AT: usize = SAVED_OWNER_AT + 2;
 pub const SAVED_NAME_AT: usize = SAVED_NEXT_AT + 2;
 
 pub const SAVED_SIZE: usize = SAVED_NAME_AT + NAME_LENGTH;
+
+// A saved process, as an image has it.
+pub struct SavedRow {
+    pub owner: Credential,
+    pub next: u16,
+    pub name: Name,
+}
+
+// ---- what was read of bytes
+
+// The five numbers that bytes say at their head: the mask, how many words there are and from where on, how many rows and from where on.
+pub struct ImageHead {
+    pub mask: u16,
+    pub words: usize,
+    pub from: usize,
+    pub rows: usize,
+    pub offset: usize,
+}
+
+// Whether bytes are an image; and, whether they are or not, the head and the credentials that they say.
+pub struct ImageTest {
+    pub fits: bool,
+    pub head: ImageHead,
+    pub grants: [Grants; CREDENTIALS],
+}
 
 // What bytes say when they are read as an image. Where they are none, the module has no credentials.
 pub struct ImageRead {

@@ -13,8 +13,8 @@ use Rattle.rows.specs.Rows.{rows, every}
 use Rattle.table.specs.Table.{places}
 use Rattle.claims.specs.Module.{wordGrants, credentialCount}
 use Rattle.claims.specs.declared.Grants.{Grants}
-use Rattle.image.specs.Image.{grantsIn, wordFits, isImage}
-use Rattle.image.proofs.Laws.{image, grants-eight}
+use Rattle.image.specs.Image.{grantsIn, imageIn, wordFits, isImage}
+use Rattle.image.proofs.Laws.{sound, image, grants-eight}
 use Rattle.image_figures.specs.Figures.{sum, classCount, classesBelow, classesHeld, classesGranted, figuresIn, isGood, lineOf}
 use Rattle.image_figures.specs.declared.Figures.{Figures}
 use Rattle.image_figures.specs.declared.Line.{Line}
@@ -40,7 +40,7 @@ pub line-small : (said image : List ℕ) → SmallLine (lineOf said image)
 unfolding lineOf figuresIn
 line-small said b =
     split (isGood said b)
-    (λ e. rw e (record { rows-few = image b (good-is said b e) .few; classes-few = rw (grants-eight b) at (granted-few (grantsIn b)) }))
+    (λ e. rw e (record { rows-few = image b (good-is said b e) .head .few; classes-few = rw (grants-eight b) at (granted-few (grantsIn b)) }))
     (λ e. rw e tt)
 
 -- ---- "zero where unprovisioned": such a word holds no class
@@ -62,4 +62,4 @@ provisioned-words (g ∷ l) e =
     (λ p. let z : g .word ≡ 0 = eqb-true (g .word) 0 (rw p at fits) in rw (p, z, none-held) (omega (arith, rest)))
 
 pub provisioned-alone : (b : List ℕ) → isImage b ≡ true → classesGranted (grantsIn b) ≡ classesGranted (select isProvisioned (grantsIn b))
-provisioned-alone b e = provisioned-words (grantsIn b) (image b e .words)
+provisioned-alone b e = unfold imageIn in provisioned-words (grantsIn b) (sound (imageIn b) (image b e .fits) .words)

@@ -18,13 +18,12 @@ use Rattle.rows.specs.Bytes.{numberOf, numberAt}
 use Rattle.rows.specs.Rows.{rows}
 use Rattle.rows.proofs.Rows.{rows-length}
 use Rattle.rows.proofs.Loops.{map-part, and-false}
-use Rattle.table.specs.Table.{places, freePlace}
 use Rattle.claims.specs.Module.{unprovisioned, credentialCount}
 use Rattle.claims.specs.declared.Grants.{Grants}
-use Rattle.image.specs.Image.{savedAt, savedSize, savedNextAt, imageLong, savedFrom, keptIn, grantsIn, rowCountIn, isImage}
-use Rattle.image.proofs.Laws.{image}
+use Rattle.image.specs.declared.ImageTest.{ImageTest}
+use Rattle.image.specs.Image.{savedSize, savedNextAt, headIn, savedFrom, savedAmong, savedIn, headFits, isImage, imageTest, SavedLie}
+use Rattle.image.proofs.Laws.{image-lies, rowAt, saved-room, saved-fits, saved-ends}
 use Rattle.image_figures.proofs.Classes.{classes-counted, classes-few}
-use Rattle.image_test.proofs.Rules.{rowAt, kept, saved-room}
 use Rattle.image_figures.specs.Figures.{sum as Figures·sum, largest as Figures·largest}
 use Rattle.image_figures.specs.Figures.{classCount, classesHeld, classesGranted, largestNext, figuresIn, lengthSize, isSaid, sizeSaid, isGood, lineOf}
 use Rattle.image_figures.specs.declared.Figures.{Figures}
@@ -61,45 +60,43 @@ module _ {grants : List Grants} {sum i : ℕ} (v : SummedTo grants sum i) where
   sum-done h = let k : length grants ≤ i = rw (v .long) h in sym (v .rest ∙ rw (drop-of-length-le grants k) (omega arith))
 
 -- ---- the largest next number: that of the first i rows
-pub record LargestTo (b : List ℕ) (n largest i : ℕ) : Type 0 where
+pub record LargestTo (b : List ℕ) (offset n largest i : ℕ) : Type 0 where
   pub low : i ≤ n
-  pub rest : largestNext (kept b n) ≡ max largest (largestNext (drop i (kept b n)))
+  pub rest : largestNext (savedAmong offset n b) ≡ max largest (largestNext (drop i (savedAmong offset n b)))
 
-pub largest-begin : (b : List ℕ) (n : ℕ) → LargestTo b n 0 0
-largest-begin b n = record { low = omega arith; rest = omega arith }
+pub largest-begin : (b : List ℕ) (offset n : ℕ) → LargestTo b offset n 0 0
+largest-begin b offset n = record { low = omega arith; rest = omega arith }
 
-module _ {b : List ℕ} {n largest i : ℕ} (v : LargestTo b n largest i) where
-  module _ (h : i < n) {next : ℕ} (e : next ≡ numberAt 2 savedNextAt (rowAt b i)) where
-    with-next : largestNext (kept b n) ≡ max largest (max next (largestNext (drop (i + 1) (kept b n))))
+module _ {b : List ℕ} {offset n largest i : ℕ} (v : LargestTo b offset n largest i) where
+  module _ (h : i < n) {next : ℕ} (e : next ≡ numberAt 2 savedNextAt (rowAt b offset i)) where
+    with-next : largestNext (savedAmong offset n b) ≡ max largest (max next (largestNext (drop (i + 1) (savedAmong offset n b))))
     unfolding largestNext Figures·largest savedFrom
-    with-next = v .rest ∙ rw (drop-cons (kept b n) i freePlace (rw (length-map, rows-length) h), map-part savedFrom n savedSize savedAt b i freePlace h, add-one, e) refl
+    with-next = v .rest ∙ rw (drop-cons (savedAmong offset n b) i (savedFrom b) (rw (length-map, rows-length) h), map-part savedFrom n savedSize offset b i (savedFrom b) h, add-one, e) refl
 
-    pub larger-next : {now : ℕ} → largest < next → now ≡ next → LargestTo b n now (i + 1)
+    pub larger-next : {now : ℕ} → largest < next → now ≡ next → LargestTo b offset n now (i + 1)
     larger-next k q = record { low = omega arith; rest = omega (arith, with-next) }
 
-    pub larger-before : {now : ℕ} → next ≤ largest → now ≡ largest → LargestTo b n now (i + 1)
+    pub larger-before : {now : ℕ} → next ≤ largest → now ≡ largest → LargestTo b offset n now (i + 1)
     larger-before k q = record { low = omega arith; rest = omega (arith, with-next) }
 
-  pub largest-done : n ≤ i → largest ≡ largestNext (kept b n)
+  pub largest-done : n ≤ i → largest ≡ largestNext (savedAmong offset n b)
   unfolding largestNext Figures·largest
-  largest-done h = let k : length (kept b n) ≤ i = rw (length-map, rows-length) h in sym (v .rest ∙ rw (drop-of-length-le (kept b n) k) (omega arith))
+  largest-done h = let k : length (savedAmong offset n b) ≤ i = rw (length-map, rows-length) h in sym (v .rest ∙ rw (drop-of-length-le (savedAmong offset n b) k) (omega arith))
 
 -- ---- the three figures
-module _ (b : List ℕ) (t : isImage b ≡ true) {n : ℕ} (e : n ≡ rowCountIn b) where
-  pub figures-few : n ≤ places
-  figures-few = rw e (image b t .few)
+module _ (b : List ℕ) {tested : ImageTest} (e : tested ≡ imageTest b) (t : isImage b ≡ true) where
+  pub figures-lie : SavedLie b (tested .head .offset) (tested .head .rows)
+  unfolding imageTest
+  figures-lie = rw e (image-lies b t)
 
-  pub figures-long : length b ≡ imageLong n
-  figures-long = rw e (image b t .long)
-
-  pub figures-all : {grants : List Grants} {classes largest : ℕ} → grants ≡ grantsIn b → classes ≡ classesGranted grants → largest ≡ largestNext (kept b n)
-      → {figures : Figures} → figures ≡ record { rows = n; classes = classes; largest = largest } → figures ≡ figuresIn b
-  unfolding figuresIn keptIn
-  figures-all f g h q = q ∙ rw (h, g, f, e)
+  pub figures-all : {classes largest : ℕ} → classes ≡ classesGranted (tested .grants) → largest ≡ largestNext (savedAmong (tested .head .offset) (tested .head .rows) b)
+      → {figures : Figures} → figures ≡ record { rows = tested .head .rows; classes = classes; largest = largest } → figures ≡ figuresIn b
+  unfolding figuresIn savedIn imageTest
+  figures-all g h q = q ∙ rw (h, g, e)
 
 -- ---- the length, and the line
 no-bytes : (b : List ℕ) → length b ≡ 0 → isImage b ≡ false
-unfolding isImage imageLong rowCountIn numberAt numberOf
+unfolding isImage headFits headIn numberAt numberOf
 no-bytes [] e = refl
 no-bytes (x ∷ b) e = absurd (omega arith)
 
@@ -113,35 +110,37 @@ module _ (said : List ℕ) where
   size-whole h e = rw (eq-eqb (length said) lengthSize h, e, take-all 2 said (omega arith))
 
   module _ (image : List ℕ) where
-    pub good-cut : {size : ℕ} → size ≡ sizeSaid said → (length image ≡ size → ⊥) → false ≡ isGood said image
-    unfolding isGood
-    good-cut e n = rw (ne-eqb (length image) (sizeSaid said) (rw e at n), and-false (isSaid said))
-
     good-lone : isSaid said ≡ false → length image ≡ sizeSaid said → isImage image ≡ false
     unfolding sizeSaid
     good-lone f e = no-bytes image (rw f at e)
 
-    pub good-image : {size : ℕ} {t : Bool} → size ≡ sizeSaid said → length image ≡ size → t ≡ isImage image → t ≡ isGood said image
+    good-image : length image ≡ sizeSaid said → isImage image ≡ isGood said image
     unfolding isGood
-    good-image e k f =
-        f ∙ split (isSaid said)
-        (λ s. rw (s, eq-eqb (length image) (sizeSaid said) (k ∙ e)))
-        (λ s. rw s (good-lone s (k ∙ e)))
+    good-image k =
+        split (isSaid said)
+        (λ s. rw (s, eq-eqb (length image) (sizeSaid said) k))
+        (λ s. rw s (good-lone s k))
 
     pub good-is : isGood said image ≡ true → isImage image ≡ true
     unfolding isGood
     good-is t = and-right (eqb (length image) (sizeSaid said)) (isImage image) (and-right (isSaid said) _ t)
 
-    module _ {good : Bool} (e : good ≡ isGood said image) where
-      pub line-bad : not good ≡ true → Bad ≡ lineOf said image
-      unfolding lineOf
-      line-bad n = rw (← e, not-true good n)
+    pub line-image : {tested : ImageTest} → tested ≡ imageTest image → not (tested .fits) ≡ false → isImage image ≡ true
+    unfolding imageTest
+    line-image {tested} f n = rw f at (not-false (tested .fits) n)
 
-      pub line-image : not good ≡ false → isImage image ≡ true
-      line-image n = good-is (sym e ∙ not-false good n)
+    module _ {size : ℕ} (e : size ≡ sizeSaid said) where
+      pub line-cut : (length image ≡ size → ⊥) → Bad ≡ lineOf said image
+      unfolding lineOf isGood
+      line-cut n = rw (ne-eqb (length image) (sizeSaid said) (rw e at n), and-false (isSaid said))
 
-      pub line-good : not good ≡ false → {figures : Figures} → figures ≡ figuresIn image → Good figures ≡ lineOf said image
-      unfolding lineOf
-      line-good n g = rw (← e, not-false good n, g)
+      module _ (k : length image ≡ size) {tested : ImageTest} (f : tested ≡ imageTest image) where
+        pub line-bad : not (tested .fits) ≡ true → Bad ≡ lineOf said image
+        unfolding lineOf imageTest
+        line-bad n = rw (← good-image (k ∙ e), rw f at (not-true (tested .fits) n))
 
-pub ruleset rules = (needs, classes-counted, sum-begin, sum-fits, sum-next, sum-done, largest-begin, larger-next, larger-before, largest-done, saved-room, figures-few, figures-long, figures-all, size-none, size-whole, good-cut, good-image, line-bad, line-image, line-good)
+        pub line-good : not (tested .fits) ≡ false → {figures : Figures} → figures ≡ figuresIn image → Good figures ≡ lineOf said image
+        unfolding lineOf
+        line-good n g = rw (← good-image (k ∙ e), line-image f n, g)
+
+pub ruleset rules = (needs, classes-counted, sum-begin, sum-fits, sum-next, sum-done, largest-begin, larger-next, larger-before, largest-done, saved-room, saved-fits, saved-ends, figures-lie, figures-all, size-none, size-whole, line-cut, line-bad, line-image, line-good)

@@ -8,10 +8,10 @@ use lib.ListN.{length}
 use Rattle.lists.specs.Lists.{select}
 use Rattle.rows.specs.Bytes.{numberOf}
 use Rattle.claims.specs.declared.Class.{Class}
-use Rattle.table.specs.declared.Process.{Process}
 use Rattle.claims.specs.Module.{wordGrants}
 use Rattle.claims.specs.declared.Grants.{Grants}
-use Rattle.image.specs.Image.{rowCountIn, grantsIn, keptIn, isImage}
+use Rattle.image.specs.declared.SavedRow.{SavedRow}
+use Rattle.image.specs.Image.{headIn, grantsIn, savedIn, isImage}
 use Rattle.image_figures.specs.declared.Figures.{Figures}
 use Rattle.image_figures.specs.declared.Line.{Line}
 use Rattle.image_figures.specs.declared.Line.the-variants.{Bad, Good}
@@ -41,11 +41,11 @@ classesHeld word = length (select (wordGrants word) (classesBelow classCount))
 unfoldable pub classesGranted : List Grants → ℕ
 classesGranted l = sum (map (λ (g : Grants). classesHeld (g .word)) l)
 
-unfoldable pub largestNext : List Process → ℕ
-largestNext l = largest (map (λ (p : Process). p .next) l)
+unfoldable pub largestNext : List SavedRow → ℕ
+largestNext l = largest (map (λ (r : SavedRow). r .next) l)
 
 unfoldable pub figuresIn : List ℕ → Figures
-figuresIn b = record { rows = rowCountIn b; classes = classesGranted (grantsIn b); largest = largestNext (keptIn b) }
+figuresIn b = record { rows = headIn b .rows; classes = classesGranted (grantsIn b); largest = largestNext (savedIn b) }
 
 -- ---- "images of order 2, each after its length in 2 bytes, little endian": of either, the bytes that are there
 abbrev pub lengthSize : ℕ

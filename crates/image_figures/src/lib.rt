@@ -1,16 +1,11 @@
 // What an image holds, in figures, and the line that a piece of a drawer gets: document 02, order 6. docs/FIGURES.md tells how the desk uses it.
 ghost use mathlib.Core.Path.{_≡_};
 ghost use mathlib.Core.Bool.{true};
-ghost use mathlib.Core.List.{map};
-ghost use Prim.Native.Nat.{_≤_};
-ghost use lib.ListN.{length, drop};
-ghost use Rattle.rows.specs.Rows.{rows};
-ghost use Rattle.table.specs.Table.{places};
-ghost use Rattle.image.specs.Image.{savedAt, savedSize, imageLong, savedFrom, isImage};
-ghost use Rattle.image_figures.specs.Figures.{classesHeld, classesGranted, largestNext, figuresIn, sizeSaid, isGood, lineOf};
+ghost use Rattle.image.specs.Image.{savedAmong, isImage, imageTest, SavedLie};
+ghost use Rattle.image_figures.specs.Figures.{classesHeld, classesGranted, largestNext, figuresIn, sizeSaid, lineOf};
 use claims::CREDENTIALS;
 use claims::Grants;
-use image::SAVED_AT;
+use image::ImageTest;
 use image::SAVED_NEXT_AT;
 use image::SAVED_SIZE;
 
@@ -49,15 +44,14 @@ fn classes_granted(grants: [Grants; CREDENTIALS]) -> u32
     sum
 }
 
-fn largest_next(b: &[u8], n: usize) -> u16
-    requires { ⌜ n ≤ places ⌝ }
-    requires { ⌜ length (now b) ≡ imageLong n ⌝ }
-    ensures { λ r. ⌜ r ≡ largestNext (map savedFrom (rows n savedSize (drop savedAt (now (b .entry))))) ⌝ }
+fn largest_next(b: &[u8], offset: usize, n: usize) -> u16
+    requires { ⌜ SavedLie (now b) offset n ⌝ }
+    ensures { λ r. ⌜ r ≡ largestNext (savedAmong offset n (now (b .entry))) ⌝ }
 {
     let mut largest: u16 = 0;
     let mut i: usize = 0;
     while i < n {
-        let a = SAVED_AT + i * SAVED_SIZE;
+        let a = offset + i * SAVED_SIZE;
         let e = a + SAVED_SIZE;
         let next = rows::number16(&b[a..e], SAVED_NEXT_AT);
         if largest < next {
@@ -68,15 +62,18 @@ fn largest_next(b: &[u8], n: usize) -> u16
     largest
 }
 
-fn figures_in(b: &[u8]) -> Figures
+// The figures of an image, by what its test read.
+fn figures_in(b: &[u8], tested: ImageTest) -> Figures
+    requires { ⌜ tested ≡ imageTest (now b) ⌝ }
     requires { ⌜ isImage (now b) ≡ true ⌝ }
     ensures { λ r. ⌜ r ≡ figuresIn (now (b .entry)) ⌝ }
 {
-    let n = image_head::row_count(b);
-    let classes = classes_granted(image_head::read_grants(b));
-    let largest = largest_next(b, n);
+    let head = tested.head;
+    let grants = tested.grants;
+    let classes = classes_granted(grants);
+    let largest = largest_next(b, head.offset, head.rows);
     Figures {
-        rows: n as u64,
+        rows: head.rows as u64,
         classes: classes as u64,
         largest: largest as u64,
     }
@@ -95,20 +92,15 @@ pub fn size_said(said: &[u8]) -> u16
 }
 
 // After a length that is not whole no byte follows, and no bytes are no image.
-fn is_good(said: &[u8], image: &[u8]) -> bool
-    ensures { λ r. ⌜ r ≡ isGood (now (said .entry)) (now (image .entry)) ⌝ }
-{
-    if image.len() == size_said(said) as usize {
-        return image_test::is_image(image);
-    }
-    false
-}
-
 pub fn line_of(said: &[u8], image: &[u8]) -> Line
     ensures { λ r. ⌜ r ≡ lineOf (now (said .entry)) (now (image .entry)) ⌝ }
 {
-    if !is_good(said, image) {
+    if image.len() != size_said(said) as usize {
         return Line::Bad;
     }
-    Line::Good(figures_in(image))
+    let tested = image_test::test_image(image);
+    if !tested.fits {
+        return Line::Bad;
+    }
+    Line::Good(figures_in(image, tested))
 }

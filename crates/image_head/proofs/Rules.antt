@@ -18,40 +18,40 @@ use Rattle.rows.proofs.Loops.{FilledBy, filled-begin, filled-next, filled-done,
 use Rattle.table.specs.Table.{places}
 use Rattle.claims.specs.Module.{credentialCount}
 use Rattle.claims.specs.declared.Grants.{Grants}
-use Rattle.image.specs.Image.{maskAt, wordCountAt, wordOffsetAt, rowCountAt, rowOffsetAt, wordsAt, wordSize, savedAt, numbersIn, maskIn, rowCountIn, grantsSaid, grantsIn, headFits}
+use Rattle.image.specs.declared.ImageHead.{ImageHead}
+use Rattle.image.specs.Image.{maskAt, wordCountAt, wordOffsetAt, rowCountAt, rowOffsetAt, wordsAt, wordSize, savedAt, isRowOffset, numbersIn, headIn, grantsSaid, headFits}
 use Rattle.image.proofs.Rows.{grants-length}
 
 -- ---- the numbers
-pub rows-counted : (b : List ℕ) {n : ℕ} → n ≡ numberAt 2 rowCountAt b → n ≡ rowCountIn b
-unfolding rowCountIn
-rows-counted b e = e
+pub head-read : (b : List ℕ) {mask words from n offset : ℕ} → mask ≡ numberAt 2 maskAt b → words ≡ numberAt 2 wordCountAt b → from ≡ numberAt 2 wordOffsetAt b → n ≡ numberAt 2 rowCountAt b → offset ≡ numberAt 2 rowOffsetAt b
+    → _≡_ {A = ImageHead} (record { mask = mask; words = words; from = from; rows = n; offset = offset }) (headIn b)
+unfolding headIn
+head-read b e f g p q = rw (e, f, g, p, q)
 
 -- each number that does not fit is enough for a refusal, whatever the others are
-module _ (b : List ℕ) where
-  pub head-mask : {mask : ℕ} → mask ≡ numberAt 2 maskAt b → 255 < mask → false ≡ headFits b
-  unfolding headFits maskIn
-  head-mask e h = let k : 256 ≤ numberAt 2 maskAt b = omega arith in rw (le-ltb (numberAt 2 maskAt b) 256 k)
-
-  pub head-words : {words : ℕ} → words ≡ numberAt 2 wordCountAt b → (words ≡ credentialCount → ⊥) → false ≡ headFits b
+module _ (h : ImageHead) where
+  pub head-mask : 255 < h .mask → false ≡ headFits h
   unfolding headFits
-  head-words e n = rw (ne-eqb (numberAt 2 wordCountAt b) credentialCount (rw e at n), and-false (ltb (maskIn b) 256))
+  head-mask n = let k : 256 ≤ h .mask = omega arith in rw (le-ltb (h .mask) 256 k)
 
-  pub head-from : {from : ℕ} → from ≡ numberAt 2 wordOffsetAt b → (from ≡ wordsAt → ⊥) → false ≡ headFits b
+  pub head-words : (h .words ≡ credentialCount → ⊥) → false ≡ headFits h
   unfolding headFits
-  head-from e n =
-      rw (ne-eqb (numberAt 2 wordOffsetAt b) wordsAt (rw e at n), and-false (eqb (numberAt 2 wordCountAt b) credentialCount), and-false (ltb (maskIn b) 256))
+  head-words n = rw (ne-eqb (h .words) credentialCount n, and-false (ltb (h .mask) 256))
 
-  pub head-rows : {n : ℕ} → n ≡ rowCountIn b → places < n → false ≡ headFits b
+  pub head-from : (h .from ≡ wordsAt → ⊥) → false ≡ headFits h
   unfolding headFits
-  head-rows e h =
-      rw (lt-leb (rowCountIn b) places (rw e at h), and-false (eqb (numberAt 2 wordOffsetAt b) wordsAt), and-false (eqb (numberAt 2 wordCountAt b) credentialCount), and-false (ltb (maskIn b) 256))
+  head-from n = rw (ne-eqb (h .from) wordsAt n, and-false (eqb (h .words) credentialCount), and-false (ltb (h .mask) 256))
 
-  pub head-all : {mask words from n at : ℕ} → mask ≡ numberAt 2 maskAt b → mask ≤ 255 → words ≡ numberAt 2 wordCountAt b → words ≡ credentialCount
-      → from ≡ numberAt 2 wordOffsetAt b → from ≡ wordsAt → n ≡ rowCountIn b → n ≤ places → at ≡ numberAt 2 rowOffsetAt b → eqb at savedAt ≡ headFits b
-  unfolding headFits maskIn
-  head-all e h f k g l p m q =
-      let low : numberAt 2 maskAt b < 256 = omega arith in
-      rw (lt-ltb (numberAt 2 maskAt b) 256 low, eq-eqb (numberAt 2 wordCountAt b) credentialCount (sym f ∙ k), eq-eqb (numberAt 2 wordOffsetAt b) wordsAt (sym g ∙ l), le-leb (rowCountIn b) places (rw p at m), q)
+  pub head-rows : places < h .rows → false ≡ headFits h
+  unfolding headFits
+  head-rows n =
+      rw (lt-leb (h .rows) places n, and-false (eqb (h .from) wordsAt), and-false (eqb (h .words) credentialCount), and-false (ltb (h .mask) 256))
+
+  pub head-all : h .mask ≤ 255 → h .words ≡ credentialCount → h .from ≡ wordsAt → h .rows ≤ places → eqb (h .offset) savedAt ≡ headFits h
+  unfolding headFits isRowOffset
+  head-all m w f r =
+      let low : h .mask < 256 = omega arith in
+      rw (lt-ltb (h .mask) 256 low, eq-eqb (h .words) credentialCount w, eq-eqb (h .from) wordsAt f, le-leb (h .rows) places r)
 
 -- ---- the words
 pub words-next : {b words₀ words : List ℕ} {i : ℕ} → FilledBy numberOf credentialCount wordSize wordsAt b words₀ words i → i < credentialCount → {w : ℕ} → w ≡ numberAt 4 (wordsAt + i * wordSize) b
@@ -99,8 +99,8 @@ module _ {mask : ℕ} {words : List ℕ} {out₀ out : List Grants} {left i : �
   pub said-done : credentialCount ≤ i → out ≡ grantsSaid mask words
   said-done h = copied-all (v .done) (omega (arith, grants-length mask words, v .long))
 
-pub grants-read : (b : List ℕ) {mask : ℕ} {words : List ℕ} {grants : List Grants} → mask ≡ numberAt 2 maskAt b → words ≡ numbersIn credentialCount wordSize (drop wordsAt b) → grants ≡ grantsSaid mask words → grants ≡ grantsIn b
-unfolding grantsIn maskIn
-grants-read b e f g = g ∙ rw (e, f)
+pub grants-read : (b : List ℕ) (mask : ℕ) {words : List ℕ} {grants : List Grants} → words ≡ numbersIn credentialCount wordSize (drop wordsAt b) → grants ≡ grantsSaid mask words
+    → grants ≡ grantsSaid mask (numbersIn credentialCount wordSize (drop wordsAt b))
+grants-read b mask e f = f ∙ rw e
 
-pub ruleset rules = (needs, length-mapped, rows-counted, head-mask, head-words, head-from, head-rows, head-all, filled-begin, words-next, words-done, said-begin, said-next, said-done, grants-read)
+pub ruleset rules = (needs, length-mapped, head-read, head-mask, head-words, head-from, head-rows, head-all, filled-begin, words-next, words-done, said-begin, said-next, said-done, grants-read)

@@ -2,9 +2,10 @@
 ghost use mathlib.Core.Path.{_≡_};
 ghost use lib.ListN.{drop};
 ghost use Rattle.claims.specs.Module.{credentialCount};
-ghost use Rattle.image.specs.Image.{wordsAt, wordSize, numbersIn, grantsSaid, grantsIn, rowCountIn, headFits};
+ghost use Rattle.image.specs.Image.{wordsAt, wordSize, numbersIn, headIn, grantsSaid, headFits};
 use claims::CREDENTIALS;
 use claims::Grants;
+use image::ImageHead;
 use image::MASK_AT;
 use image::ROW_COUNT_AT;
 use image::ROW_OFFSET_AT;
@@ -17,28 +18,34 @@ use table::PLACES;
 
 // ---- the numbers
 
-pub fn row_count(b: &[u8]) -> usize
-    ensures { λ r. ⌜ r ≡ rowCountIn (now (b .entry)) ⌝ }
+pub fn read_head(b: &[u8]) -> ImageHead
+    ensures { λ r. ⌜ r ≡ headIn (now (b .entry)) ⌝ }
 {
-    rows::number16(b, ROW_COUNT_AT) as usize
+    ImageHead {
+        mask: rows::number16(b, MASK_AT),
+        words: rows::number16(b, WORD_COUNT_AT) as usize,
+        from: rows::number16(b, WORD_OFFSET_AT) as usize,
+        rows: rows::number16(b, ROW_COUNT_AT) as usize,
+        offset: rows::number16(b, ROW_OFFSET_AT) as usize,
+    }
 }
 
-pub fn head_fits(b: &[u8]) -> bool
-    ensures { λ r. ⌜ r ≡ headFits (now (b .entry)) ⌝ }
+pub fn head_fits(h: ImageHead) -> bool
+    ensures { λ r. ⌜ r ≡ headFits h ⌝ }
 {
-    if 255 < rows::number16(b, MASK_AT) {
+    if 255 < h.mask {
         return false;
     }
-    if rows::number16(b, WORD_COUNT_AT) as usize != CREDENTIALS {
+    if h.words != CREDENTIALS {
         return false;
     }
-    if rows::number16(b, WORD_OFFSET_AT) as usize != WORDS_AT {
+    if h.from != WORDS_AT {
         return false;
     }
-    if PLACES < row_count(b) {
+    if PLACES < h.rows {
         return false;
     }
-    rows::number16(b, ROW_OFFSET_AT) as usize == SAVED_AT
+    h.offset == SAVED_AT
 }
 
 // ---- the credentials
@@ -77,8 +84,9 @@ fn grants_said(mask: u16, words: [u32; CREDENTIALS]) -> [Grants; CREDENTIALS]
     grants
 }
 
-pub fn read_grants(b: &[u8]) -> [Grants; CREDENTIALS]
-    ensures { λ r. ⌜ r ≡ grantsIn (now (b .entry)) ⌝ }
+// The credentials of a mask and the words that bytes have.
+pub fn read_grants(b: &[u8], mask: u16) -> [Grants; CREDENTIALS]
+    ensures { λ r. ⌜ r ≡ grantsSaid mask (numbersIn credentialCount wordSize (drop wordsAt (now (b .entry)))) ⌝ }
 {
-    grants_said(rows::number16(b, MASK_AT), read_words(b))
+    grants_said(mask, read_words(b))
 }

@@ -1,11 +1,9 @@
 // The module that an image makes, read into a value. docs/IMAGE.md draws the image.
 ghost use mathlib.Core.Path.{_≡_};
 ghost use mathlib.Core.List.{map};
-ghost use Prim.Native.Nat.{_≤_};
-ghost use lib.ListN.{length, drop};
-ghost use Rattle.rows.specs.Rows.{rows};
-ghost use Rattle.table.specs.Table.{places, tableOf};
-ghost use Rattle.image.specs.Image.{savedAt, savedSize, imageLong, savedFrom, closedModule, readImage};
+ghost use lib.ListN.{length};
+ghost use Rattle.table.specs.Table.{tableOf};
+ghost use Rattle.image.specs.Image.{savedSize, savedFrom, savedAmong, savedProcess, closedModule, readImage, SavedLie};
 use claims::CREDENTIALS;
 use claims::Grants;
 use claims::Phase;
@@ -13,11 +11,11 @@ use claims::SESSIONS;
 use claims::SessionState;
 use claims::State;
 use image::ImageRead;
-use image::SAVED_AT;
 use image::SAVED_NAME_AT;
 use image::SAVED_NEXT_AT;
 use image::SAVED_OWNER_AT;
 use image::SAVED_SIZE;
+use image::SavedRow;
 use names::Credential;
 use names::Kind;
 use names::Session;
@@ -26,7 +24,7 @@ use table::Table;
 
 // ---- the rows
 
-fn saved_from(row: &[u8]) -> Process
+fn saved_from(row: &[u8]) -> SavedRow
     requires { ⌜ length (now row) ≡ savedSize ⌝ }
     ensures { λ r. ⌜ r ≡ savedFrom (now (row .entry)) ⌝ }
 {
@@ -34,27 +32,38 @@ fn saved_from(row: &[u8]) -> Process
     let next = rows::number16(row, SAVED_NEXT_AT);
     let read = names::read_name(&row[SAVED_NAME_AT..SAVED_SIZE]);
     let name = read.name;
-    Process {
-        credential: Credential(owner),
-        kind: Kind::Saved,
-        session: Session(0),
+    SavedRow {
+        owner: Credential(owner),
         next: next,
         name: name,
     }
 }
 
-fn read_saved(b: &[u8], n: usize) -> Table
-    requires { ⌜ n ≤ places ⌝ }
-    requires { ⌜ length (now b) ≡ imageLong n ⌝ }
-    ensures { λ r. ⌜ r ≡ tableOf (map savedFrom (rows n savedSize (drop savedAt (now (b .entry))))) ⌝ }
+fn saved_process(row: SavedRow) -> Process
+    ensures { λ r. ⌜ r ≡ savedProcess row ⌝ }
+{
+    let owner = row.owner;
+    let name = row.name;
+    Process {
+        credential: owner,
+        kind: Kind::Saved,
+        session: Session(0),
+        next: row.next,
+        name: name,
+    }
+}
+
+fn read_saved(b: &[u8], offset: usize, n: usize) -> Table
+    requires { ⌜ SavedLie (now b) offset n ⌝ }
+    ensures { λ r. ⌜ r ≡ tableOf (map savedProcess (savedAmong offset n (now (b .entry)))) ⌝ }
 {
     let empty = table::empty();
     let mut places = empty.places;
     let mut i: usize = 0;
     while i < n {
-        let a = SAVED_AT + i * SAVED_SIZE;
+        let a = offset + i * SAVED_SIZE;
         let e = a + SAVED_SIZE;
-        places[i] = saved_from(&b[a..e]);
+        places[i] = saved_process(saved_from(&b[a..e]));
         i += 1;
     }
     Table {
@@ -82,7 +91,8 @@ fn module_of(grants: [Grants; CREDENTIALS], t: Table) -> State
 pub fn read_image(b: &[u8]) -> ImageRead
     ensures { λ r. ⌜ r ≡ readImage (now (b .entry)) ⌝ }
 {
-    if !image_test::is_image(b) {
+    let tested = image_test::test_image(b);
+    if !tested.fits {
         let none = Grants {
             provisioned: false,
             word: 0,
@@ -93,9 +103,11 @@ pub fn read_image(b: &[u8]) -> ImageRead
             state: module_of([none; CREDENTIALS], empty),
         };
     }
-    let saved = read_saved(b, image_head::row_count(b));
+    let head = tested.head;
+    let grants = tested.grants;
+    let saved = read_saved(b, head.offset, head.rows);
     ImageRead {
         fits: true,
-        state: module_of(image_head::read_grants(b), saved),
+        state: module_of(grants, saved),
     }
 }

@@ -2,8 +2,8 @@
 -- Assumes nothing.
 use mathlib.Core.Path.{sym, _∙_}
 use Rattle.lists.proofs.Once.{OneAnswer}
-use Rattle.image_test.proofs.is_image.Kinds as is-image-kinds
-use Rattle.image_test.proofs.is_image.Reads as is-image
+use Rattle.image_test.proofs.test_image.Kinds as test-image-kinds
+use Rattle.image_test.proofs.test_image.Reads as test-image
 
-pub is-image-once : OneAnswer 1 is-image-kinds.ps is-image-kinds.r is-image.Post
-is-image-once κs a x y s t p q = p ∙ sym q
+pub test-image-once : OneAnswer 1 test-image-kinds.ps test-image-kinds.r test-image.Post
+test-image-once κs a x y s t p q = p ∙ sym q

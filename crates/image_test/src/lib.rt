@@ -1,21 +1,21 @@
 // Whether bytes are an image, tested where they lie. docs/IMAGE.md draws it.
 ghost use mathlib.Core.Path.{_≡_};
-ghost use mathlib.Core.List.{map};
-ghost use Prim.Native.Nat.{_≤_, _<_};
+ghost use mathlib.Core.Bool.{true};
+ghost use Prim.Native.Nat.{_<_};
 ghost use lib.Dec.{eqb};
-ghost use lib.ListN.{length, drop, getD};
-ghost use Rattle.rows.specs.Rows.{rows, every, pairwise};
-ghost use Rattle.table.specs.Table.{places};
-ghost use Rattle.claims.specs.Module.{unprovisioned};
-ghost use Rattle.image.specs.Image.{savedAt, savedSize, imageLong, savedFrom, wordFits, differ, isImage};
-ghost use Rattle.image_test.specs.Tests.{isKeepableBy, laterDiffer};
+ghost use lib.ListN.{length};
+ghost use Rattle.rows.specs.Rows.{every, pairwise};
+ghost use Rattle.image.specs.Image.{savedSize, imageLong, savedFrom, savedAmong, isOwner, isKeepable, differ, headFits, wordFits, imageTest, SavedLie};
+ghost use Rattle.image_test.specs.Tests.{laterDiffer, restFits};
 use claims::CREDENTIALS;
 use claims::Grants;
-use image::SAVED_AT;
+use image::ImageHead;
+use image::ImageTest;
 use image::SAVED_NAME_AT;
 use image::SAVED_NEXT_AT;
 use image::SAVED_OWNER_AT;
 use image::SAVED_SIZE;
+use names::Credential;
 
 // ---- the words
 
@@ -38,9 +38,10 @@ fn words_fit(grants: [Grants; CREDENTIALS]) -> bool
 // ---- the rows, each by itself
 
 // Whether a row's owner is provisioned: nobody over 7 is.
-fn is_provisioned(grants: [Grants; CREDENTIALS], owner: usize) -> bool
-    ensures { λ r. ⌜ r ≡ getD grants owner unprovisioned .provisioned ⌝ }
+fn is_owner(grants: [Grants; CREDENTIALS], c: Credential) -> bool
+    ensures { λ r. ⌜ r ≡ isOwner grants c ⌝ }
 {
+    let owner = c.0 as usize;
     if owner < CREDENTIALS {
         let one = grants[owner];
         return one.provisioned;
@@ -49,22 +50,22 @@ fn is_provisioned(grants: [Grants; CREDENTIALS], owner: usize) -> bool
 }
 
 fn is_keepable(grants: [Grants; CREDENTIALS], row: &[u8]) -> bool
-    ensures { λ r. ⌜ r ≡ isKeepableBy grants (savedFrom (now (row .entry))) ⌝ }
+    ensures { λ r. ⌜ r ≡ isKeepable grants (savedFrom (now (row .entry))) ⌝ }
 {
-    if !is_provisioned(grants, rows::number16(row, SAVED_OWNER_AT) as usize) {
+    let owner = Credential(rows::number16(row, SAVED_OWNER_AT));
+    if !is_owner(grants, owner) {
         return false;
     }
     1 <= rows::number16(row, SAVED_NEXT_AT)
 }
 
-fn are_keepable(b: &[u8], n: usize, grants: [Grants; CREDENTIALS]) -> bool
-    requires { ⌜ n ≤ places ⌝ }
-    requires { ⌜ length (now b) ≡ imageLong n ⌝ }
-    ensures { λ r. ⌜ r ≡ every (isKeepableBy grants) (map savedFrom (rows n savedSize (drop savedAt (now (b .entry))))) ⌝ }
+fn are_keepable(b: &[u8], offset: usize, n: usize, grants: [Grants; CREDENTIALS]) -> bool
+    requires { ⌜ SavedLie (now b) offset n ⌝ }
+    ensures { λ r. ⌜ r ≡ every (isKeepable grants) (savedAmong offset n (now (b .entry))) ⌝ }
 {
     let mut i: usize = 0;
     while i < n {
-        let a = SAVED_AT + i * SAVED_SIZE;
+        let a = offset + i * SAVED_SIZE;
         let e = a + SAVED_SIZE;
         if !is_keepable(grants, &b[a..e]) {
             return false;
@@ -89,17 +90,16 @@ fn differ<'a>(a: &'a [u8], b: &'a [u8]) -> bool
 }
 
 // Whether the name of the row at i differs from that of each later one.
-fn differs(b: &[u8], n: usize, i: usize) -> bool
-    requires { ⌜ n ≤ places ⌝ }
-    requires { ⌜ length (now b) ≡ imageLong n ⌝ }
+fn differs(b: &[u8], offset: usize, n: usize, i: usize) -> bool
+    requires { ⌜ SavedLie (now b) offset n ⌝ }
     requires { ⌜ i < n ⌝ }
-    ensures { λ r. ⌜ r ≡ laterDiffer (now (b .entry)) n i ⌝ }
+    ensures { λ r. ⌜ r ≡ laterDiffer (now (b .entry)) offset n i ⌝ }
 {
-    let a = SAVED_AT + i * SAVED_SIZE;
+    let a = offset + i * SAVED_SIZE;
     let e = a + SAVED_SIZE;
     let mut j = i + 1;
     while j < n {
-        let f = SAVED_AT + j * SAVED_SIZE;
+        let f = offset + j * SAVED_SIZE;
         let g = f + SAVED_SIZE;
         if !differ(&b[a..e], &b[f..g]) {
             return false;
@@ -109,14 +109,13 @@ fn differs(b: &[u8], n: usize, i: usize) -> bool
     true
 }
 
-fn all_differ(b: &[u8], n: usize) -> bool
-    requires { ⌜ n ≤ places ⌝ }
-    requires { ⌜ length (now b) ≡ imageLong n ⌝ }
-    ensures { λ r. ⌜ r ≡ pairwise differ (map savedFrom (rows n savedSize (drop savedAt (now (b .entry))))) ⌝ }
+fn all_differ(b: &[u8], offset: usize, n: usize) -> bool
+    requires { ⌜ SavedLie (now b) offset n ⌝ }
+    ensures { λ r. ⌜ r ≡ pairwise differ (savedAmong offset n (now (b .entry))) ⌝ }
 {
     let mut first: usize = 0;
     while first < n {
-        if !differs(b, n, first) {
+        if !differs(b, offset, n, first) {
             return false;
         }
         first += 1;
@@ -126,31 +125,46 @@ fn all_differ(b: &[u8], n: usize) -> bool
 
 // ---- the whole
 
-// Whether bytes are as long as an image of n rows.
-fn is_long(b: &[u8], n: usize) -> bool
-    requires { ⌜ n ≤ places ⌝ }
-    ensures { λ r. ⌜ r ≡ eqb (length (now (b .entry))) (imageLong n) ⌝ }
+// Whether bytes are as long as an image with this head.
+fn is_long(b: &[u8], h: ImageHead) -> bool
+    requires { ⌜ headFits h ≡ true ⌝ }
+    ensures { λ r. ⌜ r ≡ eqb (length (now (b .entry))) (imageLong (h .offset) (h .rows)) ⌝ }
 {
-    b.len() == SAVED_AT + n * SAVED_SIZE
+    b.len() == h.offset + h.rows * SAVED_SIZE
 }
 
-// The head first, so that the length that it asks for is a small number.
-pub fn is_image(b: &[u8]) -> bool
-    ensures { λ r. ⌜ r ≡ isImage (now (b .entry)) ⌝ }
+// Whether the words and the rows fit, of bytes whose head does: the length that it asks for is then a small number.
+fn rest_fits(b: &[u8], h: ImageHead, grants: [Grants; CREDENTIALS]) -> bool
+    requires { ⌜ headFits h ≡ true ⌝ }
+    ensures { λ r. ⌜ r ≡ restFits (now (b .entry)) h grants ⌝ }
 {
-    if !image_head::head_fits(b) {
+    if !is_long(b, h) {
         return false;
     }
-    let n = image_head::row_count(b);
-    if !is_long(b, n) {
-        return false;
-    }
-    let grants = image_head::read_grants(b);
     if !words_fit(grants) {
         return false;
     }
-    if !are_keepable(b, n, grants) {
+    let offset = h.offset;
+    let n = h.rows;
+    if !are_keepable(b, offset, n, grants) {
         return false;
     }
-    all_differ(b, n)
+    all_differ(b, offset, n)
+}
+
+// Whether bytes are an image, and what was read for it.
+pub fn test_image(b: &[u8]) -> ImageTest
+    ensures { λ r. ⌜ r ≡ imageTest (now (b .entry)) ⌝ }
+{
+    let head = image_head::read_head(b);
+    let grants = image_head::read_grants(b, head.mask);
+    let mut fits = false;
+    if image_head::head_fits(head) {
+        fits = rest_fits(b, head, grants);
+    }
+    ImageTest {
+        fits: fits,
+        head: head,
+        grants: grants,
+    }
 }

@@ -1,7 +1,7 @@
 -- The laws that close the needs of this crate's functions by `search rules`: each premise is as a place's record has it.
 -- Assumes nothing.
 use Prim.Native.Nat.{ℕ, _+_, _-_, _*_, _<_, _≤_}
-use mathlib.Core.Path.{_≡_, sym, _∙_}
+use mathlib.Core.Path.{_≡_, refl, sym, ap, _∙_}
 use mathlib.Core.Bool.{Bool, true, false, cond}
 use mathlib.Core.List.{List, _++_, map, append-assoc}
 use native.Mathlib.Omega.{arith}
@@ -10,13 +10,14 @@ use borrow.Author.Tests.{lt-ltb, le-ltb}
 use borrow.Rule.Slice.PartMut.{putMid}
 use mir.Val.{Fits}
 use mir.Syntax.{w16, w64}
-use lib.ListN.{length, getD, take, drop, length-take, length-drop}
+use lib.ListN.{length, getD, take, drop, length-map, length-take, length-drop}
 use Rattle.lists.specs.Lists.{select, join}
 use Rattle.lists.proofs.Lists.{length-mapped, length-select}
 use Rattle.lists.proofs.Loops.{Counted, counted-none, counted-more, counted-not}
 use Rattle.rows.specs.Bytes.{bytesOf}
 use Rattle.rows.specs.Rows.{over, Put}
 use Rattle.rows.proofs.Bytes.{length-bytes}
+use Rattle.rows.proofs.Loops.{WroteChosen, chosen-begin, chosen-length, chosen-room, chosen-part, chosen-on, chosen-over, chosen-all}
 use Rattle.rows.proofs.Over.{over-short, over-part, put-length, put-next, put-whole}
 use Rattle.names.specs.Names.{nameIn, nameLength}
 use Rattle.names.proofs.Laws.{name-in}
@@ -28,8 +29,9 @@ use Rattle.table.proofs.Rules.{noProcess, front, small}
 use Rattle.claims.specs.Module.{unprovisioned, credentialCount}
 use Rattle.claims.specs.declared.Grants.{Grants}
 use Rattle.claims.specs.declared.State.{State}
-use Rattle.image.specs.Image.{maskAt, wordCountAt, wordOffsetAt, rowCountAt, rowOffsetAt, wordsAt, wordSize, savedAt, savedOwnerAt, savedNextAt, savedNameAt, savedSize, imageLong, numbersBytes, headNumbers, maskOf, wordIn, isKept, savedOf, savedBytes, imageOf, imageBytes, imageRoom, lacksRoom, ImageWritten}
-use Rattle.image_write.proofs.Rows.{Masked, masked-none, masked-low, masked-on, masked-all, worded-none, worded-length, worded-on, worded-all, Saving, saving-none, saving-room, saving-hit, saving-miss, saving-length, saving-all}
+use Rattle.image.specs.declared.SavedRow.{SavedRow}
+use Rattle.image.specs.Image.{maskAt, wordCountAt, wordOffsetAt, rowCountAt, rowOffsetAt, wordsAt, wordSize, savedAt, savedOwnerAt, savedNextAt, savedNameAt, savedSize, imageLong, numbersBytes, headNumbers, maskOf, wordIn, savedBytes, imageBytes, savedRow, isSavedOne, savedRows, savedOf, imageOf, stateImage, imageRoom, lacksRoom, ImageWritten}
+use Rattle.image_write.proofs.Rows.{Masked, masked-none, masked-low, masked-on, masked-all, worded-none, worded-length, worded-on, worded-all}
 
 -- ---- the mask
 module _ {l : List Grants} {mask left : ℕ} (v : Masked l mask left) where
@@ -51,9 +53,9 @@ number-put : (at m : ℕ) (x : List ℕ) {y : List ℕ} → y ≡ over at 2 (byt
 number-put at m x e = record { long = length-bytes 2 m; is = e }
 
 -- ---- the head: five numbers, one after another
-module _ (old : List ℕ) (mask n : ℕ) {a b c d new : List ℕ}
+module _ (old : List ℕ) (mask n offset : ℕ) {a b c d new : List ℕ}
     (p : a ≡ over maskAt 2 (bytesOf 2 mask) old) (q : b ≡ over wordCountAt 2 (bytesOf 2 credentialCount) a) (r : c ≡ over wordOffsetAt 2 (bytesOf 2 wordsAt) b)
-    (s : d ≡ over rowCountAt 2 (bytesOf 2 n) c) (t : new ≡ over rowOffsetAt 2 (bytesOf 2 savedAt) d) where
+    (s : d ≡ over rowCountAt 2 (bytesOf 2 n) c) (t : new ≡ over rowOffsetAt 2 (bytesOf 2 offset) d) where
   mask-put : Put maskAt 2 (bytesOf 2 mask) old a
   mask-put = number-put maskAt mask old p
 
@@ -66,10 +68,10 @@ module _ (old : List ℕ) (mask n : ℕ) {a b c d new : List ℕ}
   rows-put : Put rowCountAt 2 (bytesOf 2 n) c d
   rows-put = number-put rowCountAt n c s
 
-  offset-put : Put rowOffsetAt 2 (bytesOf 2 savedAt) d new
-  offset-put = number-put rowOffsetAt savedAt d t
+  offset-put : Put rowOffsetAt 2 (bytesOf 2 offset) d new
+  offset-put = number-put rowOffsetAt offset d t
 
-  pub head-put : wordsAt ≤ length old → Put 0 wordsAt (numbersBytes 2 (headNumbers mask n)) old new
+  pub head-put : wordsAt ≤ length old → Put 0 wordsAt (numbersBytes 2 (headNumbers mask n offset)) old new
   unfolding numbersBytes join bytesOf
   head-put h = put-next (put-next (put-next (put-next mask-put count-put (omega arith)) words-put (omega arith)) rows-put (omega arith)) offset-put (omega arith)
 
@@ -85,118 +87,117 @@ word-none g e = rw e
 -- ---- those counted that are saved
 pub record Counting (l : List Process) (n k i : ℕ) : Type 0 where
   pub small : n ≤ places
-  pub counted : Counted isKept l n k i
+  pub counted : Counted isSavedOne l n k i
 
 module _ (t : Table) {n : ℕ} (e : n ≡ size t) where
   pub count-begin : length (t .places) ≡ places → Counting (t .places) n 0 0
   count-begin h =
       let k : n ≤ places = small t e h in
-      record { small = k; counted = counted-none isKept (t .places) n (omega arith) }
+      record { small = k; counted = counted-none isSavedOne (t .places) n (omega arith) }
 
-  pub count-all : {k i : ℕ} → Counting (t .places) n k i → n ≤ i → k ≡ length (select isKept (standing t))
+  pub count-all : {k i : ℕ} → Counting (t .places) n k i → n ≤ i → k ≡ length (savedRows (standing t))
   count-all {k} {i} v h =
       let q : i ≡ n = omega (arith, v .counted .low) in
-      v .counted .is ∙ rw (q, front t e)
+      v .counted .is ∙ rw (q, front t e, length-map)
 
-module _ {l : List Process} {n k k′ i : ℕ} {b : Bool} (v : Counting l n k i) (h : i < n) (e : b ≡ isKept (getD l i noProcess)) where
+module _ {l : List Process} {n k k′ i : ℕ} {b : Bool} (v : Counting l n k i) (h : i < n) (e : b ≡ isSavedOne (getD l i noProcess)) where
   pub count-on : b ≡ true → k′ ≡ k + 1 → Counting l n k′ (i + 1)
   count-on q g = rw g (record { small = v .small; counted = counted-more noProcess (v .counted) h (sym e ∙ q) })
 
   pub count-not : b ≡ false → k′ ≡ k → Counting l n k′ (i + 1)
   count-not q g = rw g (record { small = v .small; counted = counted-not noProcess (v .counted) h (sym e ∙ q) })
 
--- ---- a row: its fields, one after another
-module _ (part : List ℕ) (p : Process) {a b : List ℕ} (h : length part ≡ savedSize)
-    (q : a ≡ over savedOwnerAt 2 (bytesOf 2 (p .credential .0)) part) (r : b ≡ over savedNextAt 2 (bytesOf 2 (p .next)) a) where
-  owner-put : Put savedOwnerAt 2 (bytesOf 2 (p .credential .0)) part a
-  owner-put = number-put savedOwnerAt (p .credential .0) part q
+-- ---- a row
+pub row-made : (p : Process) → _≡_ {A = SavedRow} (record { owner = p .credential; next = p .next; name = p .name }) (savedRow p)
+unfolding savedRow
+row-made p = refl
 
-  next-put : Put savedNextAt 2 (bytesOf 2 (p .next)) a b
-  next-put = number-put savedNextAt (p .next) a r
+-- its fields, one after another
+module _ (part : List ℕ) (r : SavedRow) {a b : List ℕ} (h : length part ≡ savedSize)
+    (q : a ≡ over savedOwnerAt 2 (bytesOf 2 (r .owner .0)) part) (n : b ≡ over savedNextAt 2 (bytesOf 2 (r .next)) a) where
+  owner-put : Put savedOwnerAt 2 (bytesOf 2 (r .owner .0)) part a
+  owner-put = number-put savedOwnerAt (r .owner .0) part q
+
+  next-put : Put savedNextAt 2 (bytesOf 2 (r .next)) a b
+  next-put = number-put savedNextAt (r .next) a n
 
   stored : length b ≡ length part
   stored = put-length next-put ∙ put-length owner-put
 
-  pub saved-put : {ys : List ℕ} → ys ≡ nameIn (take nameLength (drop savedNameAt b)) (p .name) → length ys ≡ length (take nameLength (drop savedNameAt b)) → putMid savedNameAt nameLength b ys ≡ savedBytes p
+  pub saved-put : {ys : List ℕ} → ys ≡ nameIn (take nameLength (drop savedNameAt b)) (r .name) → length ys ≡ length (take nameLength (drop savedNameAt b)) → putMid savedNameAt nameLength b ys ≡ savedBytes r
   unfolding savedBytes
   saved-put {ys} e g =
       let behind : length (take nameLength (drop savedNameAt b)) ≡ nameLength = simp (length-take, length-drop) (omega (arith, stored)) in
       let name-put : Put savedNameAt nameLength ys b (putMid savedNameAt nameLength b ys) = record { long = g ∙ behind; is = over-part savedNameAt nameLength ys b (omega (arith, stored)) } in
-      let all : putMid savedNameAt nameLength b ys ≡ (bytesOf 2 (p .credential .0) ++ bytesOf 2 (p .next)) ++ ys = put-whole (put-next (put-next owner-put next-put (omega arith)) name-put (omega arith)) h in
-      all ∙ rw (e, name-in (take nameLength (drop savedNameAt b)) (p .name) behind) (append-assoc (bytesOf 2 (p .credential .0)) (bytesOf 2 (p .next)) (p .name .bytes))
+      let all : putMid savedNameAt nameLength b ys ≡ (bytesOf 2 (r .owner .0) ++ bytesOf 2 (r .next)) ++ ys = put-whole (put-next (put-next owner-put next-put (omega arith)) name-put (omega arith)) h in
+      all ∙ rw (e, name-in (take nameLength (drop savedNameAt b)) (r .name) behind) (append-assoc (bytesOf 2 (r .owner .0)) (bytesOf 2 (r .next)) (r .name .bytes))
 
 -- ---- the rows
 module _ (t : Table) {n : ℕ} (e : n ≡ size t) where
-  pub rows-begin : {old : List ℕ} → length (t .places) ≡ places → imageLong (length (select isKept (standing t))) ≤ length old → Saving old (t .places) n old 0 0
+  pub rows-begin : {old : List ℕ} → length (t .places) ≡ places → imageLong savedAt (length (savedRows (standing t))) ≤ length old
+      → WroteChosen isSavedOne savedRow savedBytes savedSize savedAt places (t .places) n old old 0 0
   unfolding imageLong
   rows-begin {old} h r =
       let k : n ≤ places = small t e h in
-      saving-none old (t .places) n (omega arith) k (rw (front t e) r)
+      chosen-begin isSavedOne savedRow savedBytes savedSize savedAt places (t .places) n old (omega arith) k (rw (front t e) r)
 
-  pub rows-end : {old new : List ℕ} {k i : ℕ} → Saving old (t .places) n new k i → n ≤ i
-      → Put savedAt (length (select isKept (standing t)) * savedSize) (join (map savedBytes (select isKept (standing t)))) old new
-  rows-end v h = rw (front t e) at (saving-all v h)
+  pub rows-end : {old new : List ℕ} {k i : ℕ} → WroteChosen isSavedOne savedRow savedBytes savedSize savedAt places (t .places) n old new k i → n ≤ i
+      → Put savedAt (length (savedRows (standing t)) * savedSize) (join (map savedBytes (savedRows (standing t)))) old new
+  rows-end v h = rw (front t e) at (chosen-all v h)
 
-module _ {old : List ℕ} {l : List Process} {n : ℕ} {new : List ℕ} {k i : ℕ} {b : Bool} (v : Saving old l n new k i) (h : i < n) (e : b ≡ isKept (getD l i noProcess)) where
-  pub rows-room : b ≡ true → savedAt + k * savedSize + savedSize ≤ length new
-  rows-room t = saving-room v h (sym e ∙ t)
-
-  pub rows-on : {k′ : ℕ} {ys new′ : List ℕ}
-      → b ≡ true → ys ≡ savedBytes (getD l i noProcess)
-      → new′ ≡ putMid (savedAt + k * savedSize) (savedAt + k * savedSize + savedSize - (savedAt + k * savedSize)) new ys → k′ ≡ k + 1
-      → length ys ≡ length (take (savedAt + k * savedSize + savedSize - (savedAt + k * savedSize)) (drop (savedAt + k * savedSize) new))
-      → Saving old l n new′ k′ (i + 1)
-  rows-on t q g m s = rw (g, m) (saving-hit v h (sym e ∙ t) q s)
-
-  pub rows-over : {k′ : ℕ} {new′ : List ℕ} → b ≡ false → new′ ≡ new → k′ ≡ k → Saving old l n new′ k′ (i + 1)
-  rows-over t g m = rw (g, m) (saving-miss v h (sym e ∙ t))
+pub rows-on : {old : List ℕ} {l : List Process} {n : ℕ} {new : List ℕ} {k i : ℕ} {b : Bool} → WroteChosen isSavedOne savedRow savedBytes savedSize savedAt places l n old new k i → i < n
+    → b ≡ isSavedOne (getD l i noProcess) → b ≡ true → {row : SavedRow} {k′ : ℕ} {ys new′ : List ℕ} → row ≡ savedRow (getD l i noProcess) → ys ≡ savedBytes row
+    → new′ ≡ putMid (savedAt + k * savedSize) (savedAt + k * savedSize + savedSize - (savedAt + k * savedSize)) new ys → k′ ≡ k + 1
+    → length ys ≡ length (take (savedAt + k * savedSize + savedSize - (savedAt + k * savedSize)) (drop (savedAt + k * savedSize) new))
+    → WroteChosen isSavedOne savedRow savedBytes savedSize savedAt places l n old new′ k′ (i + 1)
+rows-on v h e t q r g m s = chosen-on v noProcess h e t (r ∙ ap savedBytes q) g m s
 
 -- ---- the whole
-module _ (t : Table) {kept : ℕ} (e : kept ≡ length (select isKept (standing t))) (h : length (t .places) ≡ places) where
-  kept-few : kept ≤ places
-  kept-few = omega (arith, length-select isKept (standing t), standing-few t h)
+module _ (t : Table) {saved : ℕ} (e : saved ≡ length (savedRows (standing t))) (h : length (t .places) ≡ places) where
+  saved-few : saved ≤ places
+  saved-few = omega (arith, e ∙ length-map (select isSavedOne (standing t)) savedRow, length-select isSavedOne (standing t), standing-few t h)
 
-  pub rows-fit : Fits w64 (kept * savedSize)
-  rows-fit = omega (arith, kept-few)
+  pub rows-fit : Fits w64 (saved * savedSize)
+  rows-fit = omega (arith, saved-few)
 
-  pub image-fits : Fits w64 (savedAt + kept * savedSize)
-  image-fits = omega (arith, kept-few)
+  pub image-fits : Fits w64 (savedAt + saved * savedSize)
+  image-fits = omega (arith, saved-few)
 
-  pub kept-fits : Fits w16 kept
-  kept-fits = omega (arith, kept-few)
+  pub saved-fits : Fits w16 saved
+  saved-fits = omega (arith, saved-few)
 
-module _ (st : State) (old : List ℕ) {kept : ℕ} (e : kept ≡ length (select isKept (standing (st .table)))) where
+module _ (st : State) (old : List ℕ) {saved : ℕ} (e : saved ≡ length (savedRows (standing (st .table)))) where
   -- the image's length, by the count
-  room-is : imageRoom st ≡ savedAt + kept * savedSize
+  room-is : imageRoom st ≡ savedAt + saved * savedSize
   unfolding imageRoom imageLong savedOf
   room-is = rw e
 
-  module _ (h : length old < savedAt + kept * savedSize) where
+  module _ (h : length old < savedAt + saved * savedSize) where
     pub short-length : 0 ≡ cond (lacksRoom st (length old)) 0 (imageRoom st)
     unfolding lacksRoom
-    short-length = rw (room-is, lt-ltb (length old) (savedAt + kept * savedSize) h)
+    short-length = rw (room-is, lt-ltb (length old) (savedAt + saved * savedSize) h)
 
-    pub short-stays : old ≡ over 0 (imageRoom st) (imageBytes st) old
-    short-stays = sym (over-short 0 (imageRoom st) (imageBytes st) old (omega (arith, room-is)))
+    pub short-stays : old ≡ over 0 (imageRoom st) (stateImage st) old
+    short-stays = sym (over-short 0 (imageRoom st) (stateImage st) old (omega (arith, room-is)))
 
-  module _ (h : savedAt + kept * savedSize ≤ length old) where
-    pub image-length : savedAt + kept * savedSize ≡ cond (lacksRoom st (length old)) 0 (imageRoom st)
+  module _ (h : savedAt + saved * savedSize ≤ length old) where
+    pub image-length : savedAt + saved * savedSize ≡ cond (lacksRoom st (length old)) 0 (imageRoom st)
     unfolding lacksRoom
-    image-length = rw (room-is, le-ltb (length old) (savedAt + kept * savedSize) h)
+    image-length = rw (room-is, le-ltb (length old) (savedAt + saved * savedSize) h)
 
     -- a head, whatever it says, and then the words leave the room for the rows
-    pub rows-start : (mask n : ℕ) {a b : List ℕ} → Put 0 wordsAt (numbersBytes 2 (headNumbers mask n)) old a → Put wordsAt (credentialCount * wordSize) (numbersBytes wordSize (map wordIn (st .credentials))) a b
-        → imageLong (length (select isKept (standing (st .table)))) ≤ length b
+    pub rows-start : (mask n offset : ℕ) {a b : List ℕ} → Put 0 wordsAt (numbersBytes 2 (headNumbers mask n offset)) old a → Put wordsAt (credentialCount * wordSize) (numbersBytes wordSize (map wordIn (st .credentials))) a b
+        → imageLong savedAt (length (savedRows (standing (st .table)))) ≤ length b
     unfolding imageLong
-    rows-start mask n p q = omega (arith, put-length p, put-length q)
+    rows-start mask n offset p q = omega (arith, put-length p, put-length q)
 
     pub image-put : {mask : ℕ} {a b new : List ℕ} → mask ≡ maskOf (st .credentials)
-        → Put 0 wordsAt (numbersBytes 2 (headNumbers mask kept)) old a → Put wordsAt (credentialCount * wordSize) (numbersBytes wordSize (map wordIn (st .credentials))) a b
-        → Put savedAt (length (select isKept (standing (st .table))) * savedSize) (join (map savedBytes (select isKept (standing (st .table))))) b new → new ≡ over 0 (imageRoom st) (imageBytes st) old
-    unfolding imageRoom imageLong imageBytes imageOf savedOf
+        → Put 0 wordsAt (numbersBytes 2 (headNumbers mask saved savedAt)) old a → Put wordsAt (credentialCount * wordSize) (numbersBytes wordSize (map wordIn (st .credentials))) a b
+        → Put savedAt (length (savedRows (standing (st .table))) * savedSize) (join (map savedBytes (savedRows (standing (st .table))))) b new → new ≡ over 0 (imageRoom st) (stateImage st) old
+    unfolding imageRoom imageLong stateImage imageBytes imageOf savedOf
     image-put m p q r = put-next (put-next p q (omega arith)) r (omega arith) .is ∙ rw (m, e) (simp append-assoc)
 
-pub image-written : {st : State} {old new : List ℕ} {long : ℕ} → long ≡ cond (lacksRoom st (length old)) 0 (imageRoom st) → new ≡ over 0 (imageRoom st) (imageBytes st) old → ImageWritten st old long new
+pub image-written : {st : State} {old new : List ℕ} {long : ℕ} → long ≡ cond (lacksRoom st (length old)) 0 (imageRoom st) → new ≡ over 0 (imageRoom st) (stateImage st) old → ImageWritten st old long new
 image-written l b = record { length-is = l; bytes-are = b }
 
-pub ruleset rules = (needs, length-mapped, masked-none, mask-double, mask-more, mask-hit, mask-miss, masked-all, head-put, word-is, word-none, worded-none, worded-length, worded-on, worded-all, count-begin, count-on, count-not, count-all, saved-put, rows-begin, rows-end, rows-room, rows-on, rows-over, saving-length, rows-fit, image-fits, kept-fits, short-length, short-stays, image-length, rows-start, image-put, image-written)
+pub ruleset rules = (needs, length-mapped, masked-none, mask-double, mask-more, mask-hit, mask-miss, masked-all, head-put, word-is, word-none, worded-none, worded-length, worded-on, worded-all, count-begin, count-on, count-not, count-all, saved-put, row-made, rows-begin, rows-end, chosen-room, chosen-part, rows-on, chosen-over, chosen-length, rows-fit, image-fits, saved-fits, short-length, short-stays, image-length, rows-start, image-put, image-written)

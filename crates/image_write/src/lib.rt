@@ -3,11 +3,11 @@ ghost use mathlib.Core.Path.{_≡_};
 ghost use mathlib.Core.List.{map};
 ghost use Prim.Native.Nat.{_*_, _≤_};
 ghost use lib.ListN.{length};
-ghost use Rattle.lists.specs.Lists.{join, select};
+ghost use Rattle.lists.specs.Lists.{join};
 ghost use Rattle.rows.specs.Rows.{Put};
 ghost use Rattle.table.specs.Table.{standing};
 ghost use Rattle.claims.specs.Module.{credentialCount};
-ghost use Rattle.image.specs.Image.{wordsAt, wordSize, savedAt, savedSize, imageLong, numbersBytes, headNumbers, maskOf, wordIn, isKept, savedBytes, ImageWritten};
+ghost use Rattle.image.specs.Image.{wordsAt, wordSize, savedAt, savedSize, imageLong, numbersBytes, headNumbers, maskOf, wordIn, savedBytes, savedRow, isSavedOne, savedRows, ImageWritten};
 use claims::CREDENTIALS;
 use claims::Grants;
 use claims::State;
@@ -19,6 +19,7 @@ use image::SAVED_NAME_AT;
 use image::SAVED_NEXT_AT;
 use image::SAVED_OWNER_AT;
 use image::SAVED_SIZE;
+use image::SavedRow;
 use image::WORD_COUNT_AT;
 use image::WORD_OFFSET_AT;
 use image::WORD_SIZE;
@@ -47,15 +48,15 @@ fn mask_of(l: [Grants; CREDENTIALS]) -> u16
     mask
 }
 
-fn put_head(buffer: &mut [u8], mask: u16, n: u16)
+fn put_numbers(buffer: &mut [u8], mask: u16, n: u16, offset: u16)
     requires { ⌜ wordsAt ≤ length (now buffer) ⌝ }
-    ensures { λ r. ⌜ Put 0 wordsAt (numbersBytes 2 (headNumbers mask n)) (now (buffer .entry)) (now (buffer .exit)) ⌝ }
+    ensures { λ r. ⌜ Put 0 wordsAt (numbersBytes 2 (headNumbers mask n offset)) (now (buffer .entry)) (now (buffer .exit)) ⌝ }
 {
     rows::put_number16(buffer, MASK_AT, mask);
     rows::put_number16(buffer, WORD_COUNT_AT, CREDENTIALS as u16);
     rows::put_number16(buffer, WORD_OFFSET_AT, WORDS_AT as u16);
     rows::put_number16(buffer, ROW_COUNT_AT, n);
-    rows::put_number16(buffer, ROW_OFFSET_AT, SAVED_AT as u16);
+    rows::put_number16(buffer, ROW_OFFSET_AT, offset);
 }
 
 // ---- the words
@@ -81,8 +82,8 @@ fn put_words(buffer: &mut [u8], l: [Grants; CREDENTIALS])
 
 // ---- the rows: the saved processes, in table order
 
-fn is_kept(p: Process) -> bool
-    ensures { λ r. ⌜ r ≡ isKept p ⌝ }
+fn is_saved_one(p: Process) -> bool
+    ensures { λ r. ⌜ r ≡ isSavedOne p ⌝ }
 {
     let kind = p.kind;
     match kind {
@@ -92,35 +93,47 @@ fn is_kept(p: Process) -> bool
     }
 }
 
-fn count_kept(t: Table) -> usize
-    ensures { λ r. ⌜ r ≡ length (select isKept (standing t)) ⌝ }
+fn saved_row(p: Process) -> SavedRow
+    ensures { λ r. ⌜ r ≡ savedRow p ⌝ }
+{
+    let owner = p.credential;
+    let name = p.name;
+    SavedRow {
+        owner: owner,
+        next: p.next,
+        name: name,
+    }
+}
+
+fn count_saved(t: Table) -> usize
+    ensures { λ r. ⌜ r ≡ length (savedRows (standing t)) ⌝ }
 {
     let n = table::size(t);
     let places = t.places;
-    let mut kept: usize = 0;
+    let mut saved: usize = 0;
     let mut i: usize = 0;
     while i < n {
         let p = places[i];
-        if is_kept(p) {
-            kept += 1;
+        if is_saved_one(p) {
+            saved += 1;
         }
         i += 1;
     }
-    kept
+    saved
 }
 
-fn put_saved(part: &mut [u8], p: Process)
+fn put_saved_row(part: &mut [u8], row: SavedRow)
     requires { ⌜ length (now part) ≡ savedSize ⌝ }
-    ensures { λ r. ⌜ now (part .exit) ≡ savedBytes p ⌝ }
+    ensures { λ r. ⌜ now (part .exit) ≡ savedBytes row ⌝ }
 {
-    rows::put_number16(part, SAVED_OWNER_AT, p.credential.0);
-    rows::put_number16(part, SAVED_NEXT_AT, p.next);
-    names::put_name(&mut part[SAVED_NAME_AT..SAVED_SIZE], p.name);
+    rows::put_number16(part, SAVED_OWNER_AT, row.owner.0);
+    rows::put_number16(part, SAVED_NEXT_AT, row.next);
+    names::put_name(&mut part[SAVED_NAME_AT..SAVED_SIZE], row.name);
 }
 
-fn put_rows(buffer: &mut [u8], t: Table)
-    requires { ⌜ imageLong (length (select isKept (standing t))) ≤ length (now buffer) ⌝ }
-    ensures { λ r. ⌜ Put savedAt (length (select isKept (standing t)) * savedSize) (join (map savedBytes (select isKept (standing t)))) (now (buffer .entry)) (now (buffer .exit)) ⌝ }
+fn put_saved(buffer: &mut [u8], t: Table)
+    requires { ⌜ imageLong savedAt (length (savedRows (standing t))) ≤ length (now buffer) ⌝ }
+    ensures { λ r. ⌜ Put savedAt (length (savedRows (standing t)) * savedSize) (join (map savedBytes (savedRows (standing t)))) (now (buffer .entry)) (now (buffer .exit)) ⌝ }
 {
     let n = table::size(t);
     let places = t.places;
@@ -128,10 +141,10 @@ fn put_rows(buffer: &mut [u8], t: Table)
     let mut i: usize = 0;
     while i < n {
         let p = places[i];
-        if is_kept(p) {
+        if is_saved_one(p) {
             let a = SAVED_AT + k * SAVED_SIZE;
             let e = a + SAVED_SIZE;
-            put_saved(&mut buffer[a..e], p);
+            put_saved_row(&mut buffer[a..e], saved_row(p));
             k += 1;
         }
         i += 1;
@@ -146,13 +159,13 @@ pub fn write_image(buffer: &mut [u8], st: State) -> usize
 {
     let credentials = st.credentials;
     let t = st.table;
-    let kept = count_kept(t);
-    let long = SAVED_AT + kept * SAVED_SIZE;
+    let saved = count_saved(t);
+    let long = SAVED_AT + saved * SAVED_SIZE;
     if buffer.len() < long {
         return 0;
     }
-    put_head(buffer, mask_of(credentials), kept as u16);
+    put_numbers(buffer, mask_of(credentials), saved as u16, SAVED_AT as u16);
     put_words(buffer, credentials);
-    put_rows(buffer, t);
+    put_saved(buffer, t);
     long
 }

@@ -6,10 +6,11 @@ use mathlib.Core.Bool.{Bool, true, false, cond}
 use mathlib.Core.List.{List, [], _∷_, _++_, map}
 use native.Mathlib.Omega.{arith}
 use lib.Dec.{eqb, ltb}
-use lib.ListN.{length, getD, take, replicate}
+use lib.ListN.{length, getD, take, replicate, length-map}
 use borrow.Author.Tests.{ltb-true, le-ltb, eq-eqb}
 use Rattle.lists.specs.Each.{Each, each-nil, each-cons}
 use Rattle.lists.proofs.Tests.{split, and-left, and-right}
+use Rattle.lists.specs.Lists.{select}
 use Rattle.lists.proofs.Lists.{length-select}
 use Rattle.rows.specs.Bytes.{Bytes}
 use Rattle.rows.specs.Rows.{every, over}
@@ -32,7 +33,7 @@ use Rattle.history.specs.History.{eventOf}
 use Rattle.history.specs.Fits.{IsWord, Fits}
 use Rattle.history.proofs.Form.{state-step, state-fresh}
 use Rattle.image.specs.Image as Image
-use Rattle.image.specs.Image.{imageLong, isKept, savedOf, imageBytes, imageRoom, lacksRoom}
+use Rattle.image.specs.Image.{imageLong, isSavedOne, savedRow, savedOf, stateImage, imageRoom, lacksRoom}
 use Rattle.image.proofs.Laws.{image-state}
 use Rattle.resumed.specs.Resumed.{toldBy}
 use Rattle.resumed.specs.Changes.{hasSaved, touchesImage, changesImage, newest}
@@ -141,16 +142,16 @@ module _ (st : State) (v : IsState st) where
 
   room-enough : lacksRoom st (length buffer) ≡ false
   unfolding lacksRoom imageRoom imageLong savedOf
-  room-enough = le-ltb (length buffer) (imageRoom st) (omega (arith, length-select isKept (processes st), v .rules .few))
+  room-enough = le-ltb (length buffer) (imageRoom st) (omega (arith, length-map (select isSavedOne (processes st)) savedRow, length-select isSavedOne (processes st), v .rules .few))
 
   number-done : imageNumber (stateBytes st) (length buffer) ≡ 0
   unfolding imageNumber _when_ _unless_ _▸_
   number-done = rw (held st v, back st v, room-enough)
 
-  image-on : ImageEntry (stateBytes st) buffer 0 (over 0 (imageRoom st) (imageBytes st) buffer) (imageRoom st)
+  image-on : ImageEntry (stateBytes st) buffer 0 (over 0 (imageRoom st) (stateImage st) buffer) (imageRoom st)
   image-on = record { number-is = sym number-done; image-is = rw (number-done, back st v); length-is = rw (number-done, back st v) }
 
-  image-there : take (imageRoom st) (over 0 (imageRoom st) (imageBytes st) buffer) ≡ imageBytes st
+  image-there : take (imageRoom st) (over 0 (imageRoom st) (stateImage st) buffer) ≡ stateImage st
   image-there = rw (back st v) at (image-written image-on (rw (back st v) v))
 
 abbrev entering : Step → Happening
@@ -165,8 +166,8 @@ host st v (s ∷ steps) (each-cons f fits) e {image} {end} {last} {rest} k =
     let next : State = step st (s .call) in
     let is : IsState next = state-step st (s .call) f v in
     let entered : Entered (lent st) (Called true (s .call) (s .answer)) (lent next) = called-on st v f number-is in
-    let go : (b : Bool) → changesImage st (s .call) (number st (s .call)) ≡ b → Hosted (lent next) (cond b (imageBytes next) image) (map entering steps ++ rest) last end =
-    λ b c. host next is steps fits more (subst (λ x. Hosted (lent (after next steps)) (newest (cond x (imageBytes next) image) next (callsOf steps)) rest last end) c k)
+    let go : (b : Bool) → changesImage st (s .call) (number st (s .call)) ≡ b → Hosted (lent next) (cond b (stateImage next) image) (map entering steps ++ rest) last end =
+    λ b c. host next is steps fits more (subst (λ x. Hosted (lent (after next steps)) (newest (cond x (stateImage next) image) next (callsOf steps)) rest last end) c k)
     in
     split (changesImage st (s .call) (number st (s .call)))
     (λ c. written entered (image-on next is) (subst (λ l. Hosted (lent next) l (map entering steps ++ rest) last end) (sym (image-there next is)) (go true c)))
@@ -211,7 +212,7 @@ resumed-hosted : Hosted (lent (Image.restored image)) image (map entering resumi
 unfolding opened hasSaved touchesImage newest
 resumed-hosted = host (Image.restored image) (image-state image image-bytes (examples .accepted-is)) resuming again-fit (kept-between .goes-on) none
 
-pub lived-hosted : (slice : List ℕ) → length slice ≡ stateLength → Hosted (lent (fresh grants)) (imageBytes (fresh grants)) lived end rowless
+pub lived-hosted : (slice : List ℕ) → length slice ≡ stateLength → Hosted (lent (fresh grants)) (stateImage (fresh grants)) lived end rowless
 lived-hosted slice e =
     host (fresh grants) grants-state (saving ++ others) before-fit (kept-between .numbers-are)
     (rw (kept-between .newest-is) (cycled {slices = lends slice} image-bytes (restore-on slice e) resumed-hosted))

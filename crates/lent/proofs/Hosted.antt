@@ -22,7 +22,7 @@ use Rattle.history.specs.Lives.{nobody}
 use Rattle.history.specs.Fits.{IsWord, Fits}
 use Rattle.history.proofs.Form.{state-step}
 use Rattle.image.specs.Image as Image
-use Rattle.image.specs.Image.{imageBytes}
+use Rattle.image.specs.Image.{stateImage}
 use Rattle.resumed.specs.Resumed.{toldBy}
 use Rattle.resumed.specs.Changes.{changesImage}
 use Rattle.resumed.proofs.Changes.{image-kept}
@@ -34,12 +34,12 @@ use Rattle.lent.proofs.Theorems.{not-fine-bytes, Goes, goes-is, goes-st
 
 -- ---- an entry that is not on the list leaves the image
 module _ (w : Since) (b : Slices) (g : Goes w b) where
-  call-keeps : (fine : Bool) (call : Call) (n : ℕ) (after : List ℕ) → (fine ≡ true → Fits call) → Entry fine (b .state) call n after → changesImage (stateOf (b .state)) call n ≡ false → imageBytes (stateOf after) ≡ imageBytes (stateOf (b .state))
+  call-keeps : (fine : Bool) (call : Call) (n : ℕ) (after : List ℕ) → (fine ≡ true → Fits call) → Entry fine (b .state) call n after → changesImage (stateOf (b .state)) call n ≡ false → stateImage (stateOf after) ≡ stateImage (stateOf (b .state))
   call-keeps true call n after fits e h =
       let st : State = reached w in
       let left : stateOf after ≡ step st call = ap stateOf (made-bytes w b g e) ∙ state-back (state-step st call (fits refl) (g .is) .formed) in
       rw (left, goes-is w b g) (image-kept st call (rw (goes-is w b g, made-number w b g e) at h))
-  call-keeps false call n after fits e h = ap (λ x. imageBytes (stateOf x)) (e .bytes-are ∙ not-fine-bytes (b .state) call)
+  call-keeps false call n after fits e h = ap (λ x. stateImage (stateOf x)) (e .bytes-are ∙ not-fine-bytes (b .state) call)
 
 fresh-refused : {before flags words after : List ℕ} {n : ℕ} → FreshEntry before flags words n after → eqb n 0 ≡ false → after ≡ before
 unfolding _unless_
@@ -48,14 +48,14 @@ fresh-refused {before} {flags} {words} {n = n} e h =
     (λ can. let z : n ≡ 0 = e .number-is ∙ rw can in clash (rw z) h)
     (λ can. e .bytes-are ∙ rw can)
 
-entry-keeps : {b after : Slices} {entry : Made} (w : Since) → Goes w b → Entered b entry after → entryChanges b entry ≡ false → imageBytes (stateOf (after .state)) ≡ imageBytes (stateOf (b .state))
+entry-keeps : {b after : Slices} {entry : Made} (w : Since) → Goes w b → Entered b entry after → entryChanges b entry ≡ false → stateImage (stateOf (after .state)) ≡ stateImage (stateOf (b .state))
 entry-keeps {b} {after} w g (called {fine} {call} {n} fits e) h = call-keeps w b g fine call n (after .state) fits e h
 entry-keeps {b} {after} w g (list-called {fine} {s} {claim} {wanted} {n} {r} e) h = call-keeps w b g fine (ListProcesses s claim wanted (length (r .old))) n (after .state) (λ q. tt) (e .entry) h
-entry-keeps w g (renewed fits e) h = ap (λ x. imageBytes (stateOf x)) (fresh-refused e h)
-entry-keeps w g (restored {n = n} bytes e) h = ap (λ x. imageBytes (stateOf x)) (restore-refused e (eqb-false n 0 h))
+entry-keeps w g (renewed fits e) h = ap (λ x. stateImage (stateOf x)) (fresh-refused e h)
+entry-keeps w g (restored {n = n} bytes e) h = ap (λ x. stateImage (stateOf x)) (restore-refused e (eqb-false n 0 h))
 
 -- ---- so the image that was written last is that of the state now, through power cycles too
-newest-by : {b last : Slices} {image newest : List ℕ} {happenings : List Happening} (w : Since) → Goes w b → image ≡ imageBytes (stateOf (b .state)) → Hosted b image happenings last newest → IsNewest (sinceAll w happenings) last newest
+newest-by : {b last : Slices} {image newest : List ℕ} {happenings : List Happening} (w : Since) → Goes w b → image ≡ stateImage (stateOf (b .state)) → Hosted b image happenings last newest → IsNewest (sinceAll w happenings) last newest
 unfolding sinceAll
 newest-by {b} w g is none =
     let h : Holds w b = goes-holds w b g in

@@ -20,7 +20,7 @@ use Rattle.facts.specs.Facts.{IsState}
 use Rattle.layout.specs.Layout.{stateLength, stateBytes, stateOf, holdsState}
 use Rattle.layout.proofs.Laws.{state-back, formed-wide, holds-is}
 use Rattle.history.specs.Lives.{told}
-use Rattle.image.specs.Image.{imageBytes, isImage, restored, cycled, imageRoom, lacksRoom}
+use Rattle.image.specs.Image.{stateImage, isImage, restored, cycled, imageRoom, lacksRoom}
 use Rattle.image.proofs.Laws.{long-is, image-state, one-image, state-image, state-restored}
 use Rattle.entries_image.specs.Entries.{imageNumber, ImageEntry, restoreNumber, RestoreEntry}
 use Rattle.resumed.proofs.Theorems.{told-cut}
@@ -65,23 +65,23 @@ module _ {state old new : List ℕ} {long : ℕ} (e : ImageEntry state old 0 new
   room : 0 + imageRoom st ≤ length old
   room = omega (arith, image-number state (length old) (e .number-is))
 
-  whole : length (imageBytes st) ≡ imageRoom st
+  whole : length (stateImage st) ≡ imageRoom st
   whole = long-is (formed-wide (v .formed))
 
-  new-is : new ≡ over 0 (imageRoom st) (imageBytes st) old
+  new-is : new ≡ over 0 (imageRoom st) (stateImage st) old
   new-is = rw (← e .number-is) at (e .image-is)
 
   long-answered : long ≡ imageRoom st
   long-answered = rw (← e .number-is) at (e .length-is)
 
-  pub image-written : take long new ≡ imageBytes st
-  image-written = rw (long-answered, new-is) (written-in 0 (imageRoom st) (imageBytes st) old whole room)
+  pub image-written : take long new ≡ stateImage st
+  image-written = rw (long-answered, new-is) (written-in 0 (imageRoom st) (stateImage st) old whole room)
 
   pub image-later : drop long new ≡ drop long old
-  image-later = rw (long-answered, new-is) (rw zero-add at (later-kept 0 (imageRoom st) (imageBytes st) old whole room))
+  image-later = rw (long-answered, new-is) (rw zero-add at (later-kept 0 (imageRoom st) (stateImage st) old whole room))
 
 -- ---- of slices in which entries ended: it makes the module that the calls come to, after a power cycle, and tells of each name what was told
-pub image-of : (w : Since) {last : Slices} {image : List ℕ} → IsState (stateOf (last .state)) → Holds w last → image ≡ imageBytes (stateOf (last .state)) → IsImageOf w image
+pub image-of : (w : Since) {last : Slices} {image : List ℕ} → IsState (stateOf (last .state)) → Holds w last → image ≡ stateImage (stateOf (last .state)) → IsImageOf w image
 image-of w {last} v h is =
     record {
       accepted = rw is (state-image v);
@@ -102,7 +102,7 @@ module _ {before image after : List ℕ} (h : Bytes image) (r : RestoreEntry bef
   back : stateOf after ≡ restored image
   back = ap stateOf (restore-done r) ∙ state-back (made .formed)
 
-  pub restored-image : imageBytes (stateOf after) ≡ image
+  pub restored-image : stateImage (stateOf after) ≡ image
   restored-image = rw back (one-image image h (restore-image r))
 
   pub image-again : {old new : List ℕ} {long : ℕ} → ImageEntry after old 0 new long → take long new ≡ image

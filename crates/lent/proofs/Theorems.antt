@@ -49,7 +49,7 @@ use Rattle.history.proofs.Form.{state-step, state-fresh}
 use Rattle.history.proofs.Calls.{steps}
 use Rattle.history.proofs.Theorems.{listing-fits, tells-from, demand3-told, tells-fresh, run-last, history-last}
 use Rattle.image.specs.Image as Image
-use Rattle.image.specs.Image.{isImage, imageBytes}
+use Rattle.image.specs.Image.{isImage, stateImage}
 use Rattle.image.proofs.Laws.{stands-is, image-state}
 use Rattle.resumed.specs.Resumed.{toldBy}
 use Rattle.resumed.proofs.Theorems.{image-tells}
@@ -258,7 +258,7 @@ pub lent-restored : {before after : Slices} {image : List ℕ} → Bytes image �
 lent-restored {before} {after} {image} h e k = lent-by (begun (Image.restored image) (toldBy image)) (goes-restored-done before after image h e) k
 
 -- ---- a module from the image of what entries left, in whatever slice
-pub goes-again : (w : Since) {last slices after : Slices} {image : List ℕ} → IsState (stateOf (last .state)) → Holds w last → Bytes image → image ≡ imageBytes (stateOf (last .state)) → RestoreEntry (slices .state) image 0 (after .state) → Goes (cycledSince w) after
+pub goes-again : (w : Since) {last slices after : Slices} {image : List ℕ} → IsState (stateOf (last .state)) → Holds w last → Bytes image → image ≡ stateImage (stateOf (last .state)) → RestoreEntry (slices .state) image 0 (after .state) → Goes (cycledSince w) after
 goes-again w {last} {slices} {after} {image} v h g is r =
     let i : IsImageOf w image = image-of w {last = last} v h is in
     let made : IsState (Image.restored image) = image-state image g (i .accepted) in

@@ -10,7 +10,7 @@ use Rattle.rows.specs.Bytes.{Bytes}
 use Rattle.claims.specs.Numbers as No
 use Rattle.calls.specs.Calls.{ListProcesses}
 use Rattle.layout.specs.Layout.{stateOf}
-use Rattle.image.specs.Image.{imageBytes}
+use Rattle.image.specs.Image.{stateImage}
 use Rattle.resumed.specs.Changes.{changesImage}
 use Rattle.entries_image.specs.Entries.{ImageEntry, RestoreEntry}
 use Rattle.lent.specs.Lent.{Slices, Made, Called, Listed, Renewed, Restored, Entered, Since, noting, Holds, cycledSince, IsImageOf}
@@ -60,6 +60,6 @@ sinceAll w (one ∷ happenings) = sinceAll (afterwards one w) happenings
 pub record IsNewest (w : Since) (last : Slices) (newest : List ℕ) : Type 0 where
   pub holds : Holds w last
   -- the image that was written last is byte for byte that of the state now
-  pub bytes : newest ≡ imageBytes (stateOf (last .state))
+  pub bytes : newest ≡ stateImage (stateOf (last .state))
   -- so it makes the module that the calls come to, after a power cycle
   pub image : IsImageOf w newest

@@ -4,11 +4,11 @@
 use Prim.Native.Nat.{ℕ, zero, suc, _+_, _<_}
 use mathlib.Core.Path.{_≡_, refl, sym, ap, _∙_}
 use mathlib.Core.Bool.{Bool, true, false, cond, not, _&&_, _||_}
-use mathlib.Core.List.{List, [], _∷_}
+use mathlib.Core.List.{List, [], _∷_, map}
 use native.Mathlib.Nat.{not-suc-le-zero, le-of-suc-le-suc}
 use native.Mathlib.Omega.{arith}
 use lib.Dec.{eqb}
-use lib.ListN.{length, getD, set}
+use lib.ListN.{length, getD, set, length-map}
 use borrow.Author.Tests.{not-true, eqb-true, eqb-false}
 use Rattle.lists.specs.Lists.{firstIndex, select, reject, removeAt}
 use Rattle.lists.proofs.Tests.{split, clash, and-left, and-right, and-both}
@@ -33,6 +33,7 @@ use Rattle.claims.specs.Module.{activePlace, activeProcess}
 use Rattle.claims.specs.Claim.{checked}
 use Rattle.claims.specs.declared.Claim.{Claim}
 use Rattle.claims.specs.declared.Claim.the-variants.{Elevated, ByUser}
+use Rattle.claims.specs.declared.Grants.{Grants}
 use Rattle.claims.specs.declared.State.{State}
 use Rattle.claims.specs.declared.UserClaim.{UserClaim}
 use Rattle.calls.specs.Calls.{Call, Open, Close, Drop, Select, Start, Continue, Elevate, End, Record, ListProcesses, Kill, SetWord, number, withTable, userProcess, elevation, activated, saved, oneMore, namedPlace, reach, counted, ended, effect}
@@ -41,7 +42,8 @@ use Rattle.facts.specs.Facts.{processes, Rules}
 use Rattle.facts.proofs.Laws.{apart-turn}
 use Rattle.history.proofs.Facts.{Added, Admitted, Facts, facts}
 use Rattle.history.proofs.Keeping.{active-more, named-more, stands-counted, step-accepted, step-by}
-use Rattle.image.specs.Image.{isKept, savedOf, imageOf, imageBytes}
+use Rattle.image.specs.declared.SavedRow.{SavedRow}
+use Rattle.image.specs.Image.{savedAt, isSavedOne, savedRow, savedOf, imageBytes, imageOf, stateImage}
 use Rattle.resumed.specs.Changes.{hasSaved, touchesImage, changesImage, RowsChange, newest}
 
 -- ---- the elements that pass a test are the same where one that fails it is replaced by such a one or removed, or all of some that fail it are
@@ -86,46 +88,48 @@ module _ {A : Type 0} (f : A → Bool) where
       split (f x) (λ e. rw e (omega (arith, rest))) (λ e. rw e rest)
 
 -- ---- an active process is not in an image
-active-unkept : (which : Active) (p : Process) → isActive which p ≡ true → isKept p ≡ false
-active-unkept (UserOf s c) p e = rw (user-of p s c e .kind)
-active-unkept (ElevationIn s) p e = rw (elevation-in p s e .kind)
+active-unsaved : (which : Active) (p : Process) → isActive which p ≡ true → isSavedOne p ≡ false
+active-unsaved (UserOf s c) p e = rw (user-of p s c e .kind)
+active-unsaved (ElevationIn s) p e = rw (elevation-in p s e .kind)
 
-running-unkept : (k : Kind) (b : Bool) → (isUser k || isElevation k) && b ≡ true → isSaved k ≡ false
-running-unkept User b e = refl
-running-unkept Elevation b e = refl
-running-unkept Saved b e = clash e refl
+running-unsaved : (k : Kind) (b : Bool) → (isUser k || isElevation k) && b ≡ true → isSaved k ≡ false
+running-unsaved User b e = refl
+running-unsaved Elevation b e = refl
+running-unsaved Saved b e = clash e refl
 
-session-unkept : (s : Session) (p : Process) → isActiveIn s p ≡ true → isKept p ≡ false
+session-unsaved : (s : Session) (p : Process) → isActiveIn s p ≡ true → isSavedOne p ≡ false
 unfolding isActiveIn
-session-unkept s p e = running-unkept (p .kind) _ e
+session-unsaved s p e = running-unsaved (p .kind) _ e
 
 -- ---- all that an image is written of is the same
 record Same (st next : State) : Type 0 where
   pub credentials : next .credentials ≡ st .credentials
   pub saved : savedOf next ≡ savedOf st
 
-same-bytes : {st next : State} → Same st next → imageBytes next ≡ imageBytes st
-unfolding imageBytes
-same-bytes {st} {next} e = ap (λ l. imageOf l (savedOf next)) (e .credentials) ∙ ap (imageOf (st .credentials)) (e .saved)
+same-bytes : {st next : State} → Same st next → stateImage next ≡ stateImage st
+unfolding stateImage imageOf
+same-bytes {st} {next} e =
+    ap (λ (l : List Grants). imageBytes (record { offset = savedAt; grants = l; saved = savedOf next })) (e .credentials)
+    ∙ ap (λ (l : List SavedRow). imageBytes (record { offset = savedAt; grants = st .credentials; saved = l })) (e .saved)
 
 same-then : {st mid next : State} → Same st mid → Same mid next → Same st next
 same-then a b = record { credentials = b .credentials ∙ a .credentials; saved = b .saved ∙ a .saved }
 
 module _ (st : State) where
-  same-appended : (which : Active) (s : Session) (y : Process) → Added st which s (y .credential) (y .name) → isKept y ≡ false → Same st (withTable st (appended (st .table) y))
+  same-appended : (which : Active) (s : Session) (y : Process) → Added st which s (y .credential) (y .name) → isSavedOne y ≡ false → Same st (withTable st (appended (st .table) y))
   unfolding savedOf
   same-appended which s y f e =
-      record { credentials = refl; saved = rw (standing-appended (st .table) y (f .room), select-snoc isKept (processes st) y, e) }
+      record { credentials = refl; saved = rw (standing-appended (st .table) y (f .room), select-snoc isSavedOne (processes st) y, e) }
 
-  same-replaced : (i : ℕ) (y : Process) → isKept (getD (processes st) i freePlace) ≡ false → isKept y ≡ false → Same st (withTable st (replaced (st .table) i y))
+  same-replaced : (i : ℕ) (y : Process) → isSavedOne (getD (processes st) i freePlace) ≡ false → isSavedOne y ≡ false → Same st (withTable st (replaced (st .table) i y))
   unfolding savedOf
   same-replaced i y e k =
-      record { credentials = refl; saved = rw (standing-replaced (st .table) i y) (select-set isKept (processes st) i freePlace y e k) }
+      record { credentials = refl; saved = rw (standing-replaced (st .table) i y) (ap (map savedRow) (select-set isSavedOne (processes st) i freePlace y e k)) }
 
-  same-removed : (i : ℕ) → isKept (getD (processes st) i freePlace) ≡ false → Same st (withTable st (removed (st .table) i))
+  same-removed : (i : ℕ) → isSavedOne (getD (processes st) i freePlace) ≡ false → Same st (withTable st (removed (st .table) i))
   unfolding savedOf
   same-removed i e =
-      record { credentials = refl; saved = rw (standing-removed (st .table) i) (select-remove isKept (processes st) i freePlace e) }
+      record { credentials = refl; saved = rw (standing-removed (st .table) i) (ap (map savedRow) (select-remove isSavedOne (processes st) i freePlace e)) }
 
   -- order 3's one number is an active process's
   same-counted : (s : Session) (claim : Claim) → Admitted st s claim → Same st (counted st s claim)
@@ -134,7 +138,7 @@ module _ (st : State) where
   same-counted s (ByUser u) f =
       let which : Active = UserOf s (u .credential) in
       let x : Process = getD (processes st) (activePlace st which) freePlace in
-      let e : isKept x ≡ false = active-unkept which x (f .stands .passes) in
+      let e : isSavedOne x ≡ false = active-unsaved which x (f .stands .passes) in
       same-replaced (activePlace st which) (oneMore x) e e
 
 -- ---- what an accepted call does
@@ -149,25 +153,25 @@ module _ (st : State) where
       let mid : State = counted st s (ByUser u) in
       let stands = stands-counted st s (ByUser u) f (isActive which) (active-more which) i (f .stands) in
       same-then (same-counted st s (ByUser u) f)
-      (same-removed mid i (active-unkept which (getD (processes mid) i freePlace) (stands .passes)))
+      (same-removed mid i (active-unsaved which (getD (processes mid) i freePlace) (stands .passes)))
 
   -- a kill of a process that is not saved
   module _ (name : Name) (among : Among) where
-    abbrev unkeptNamed : Process → Bool
-    unkeptNamed p = isNamed name among p && not (isKept p)
+    abbrev unsavedNamed : Process → Bool
+    unsavedNamed p = isNamed name among p && not (isSavedOne p)
 
-    unkept-more : (p : Process) → unkeptNamed (oneMore p) ≡ unkeptNamed p
-    unkept-more p = rw (named-more name among p)
+    unsaved-more : (p : Process) → unsavedNamed (oneMore p) ≡ unsavedNamed p
+    unsaved-more p = rw (named-more name among p)
 
-    unkept-named : hasSaved st name ≡ false → (i : ℕ) → Stands (isNamed name among) (processes st) freePlace i → Stands unkeptNamed (processes st) freePlace i
+    unsaved-named : hasSaved st name ≡ false → (i : ℕ) → Stands (isNamed name among) (processes st) freePlace i → Stands unsavedNamed (processes st) freePlace i
     unfolding hasSaved isNamed
-    unkept-named h i f =
+    unsaved-named h i f =
         let x : Process = getD (processes st) i freePlace in
-        let fails : isKept x && sameName (x .name) name ≡ false = each-at i freePlace (f .inside) (each-fails (λ p. isKept p && sameName (p .name) name) (processes st) h) in
+        let fails : isSavedOne x && sameName (x .name) name ≡ false = each-at i freePlace (f .inside) (each-fails (λ p. isSavedOne p && sameName (p .name) name) (processes st) h) in
         let named : sameName (x .name) name ≡ true = and-right (isAmong among x) (sameName (x .name) name) (f .passes) in
         record {
           inside = f .inside;
-          passes = split (isKept x) (λ k. clash named (rw k at fails)) (λ k. and-both (f .passes) (rw k));
+          passes = split (isSavedOne x) (λ k. clash named (rw k at fails)) (λ k. and-both (f .passes) (rw k));
         }
 
   same-killed : (s : Session) (claim : Claim) (name : Name) → Facts st (Kill s claim name) → hasSaved st name ≡ false → Same st (effect st (Kill s claim name))
@@ -177,9 +181,9 @@ module _ (st : State) where
       let i : ℕ = namedPlace st name among in
       let mid : State = counted st s claim in
       let x : Process = getD (processes mid) i freePlace in
-      let stands = stands-counted st s claim (f .admission) (unkeptNamed name among) (unkept-more name among) i (unkept-named name among h i (f .stands)) in
+      let stands = stands-counted st s claim (f .admission) (unsavedNamed name among) (unsaved-more name among) i (unsaved-named name among h i (f .stands)) in
       same-then (same-counted st s claim (f .admission))
-      (same-removed mid i (not-true (isKept x) (and-right (isNamed name among x) (not (isKept x)) (stands .passes))))
+      (same-removed mid i (not-true (isSavedOne x) (and-right (isNamed name among x) (not (isSavedOne x)) (stands .passes))))
 
   same-effect : (call : Call) → Facts st call → touchesImage st call ≡ false → Same st (effect st call)
   unfolding touchesImage effect savedOf
@@ -189,7 +193,7 @@ module _ (st : State) where
         credentials = refl;
         saved =
             rw (standing-without-session (st .table) s)
-            (select-rejected isKept (isActiveIn s) (session-unkept s) (processes st));
+            (ap (map savedRow) (select-rejected isSavedOne (isActiveIn s) (session-unsaved s) (processes st)));
       }
   same-effect (Select s byte) f h = record { credentials = refl; saved = refl }
   same-effect (Start s c name) f h = same-appended st (UserOf s c) s (userProcess s c name) f refl
@@ -197,7 +201,7 @@ module _ (st : State) where
   same-effect (Elevate s c name verdict) f h = same-appended st (ElevationIn s) s (elevation s c name) f refl
   same-effect (Drop s) f h =
       let i : ℕ = activePlace st (ElevationIn s) in
-      same-removed st i (active-unkept (ElevationIn s) (getD (processes st) i freePlace) (f .passes))
+      same-removed st i (active-unsaved (ElevationIn s) (getD (processes st) i freePlace) (f .passes))
   same-effect (End s u keep) f h = same-ended s u keep f h
   same-effect (Record s claim class) f h = same-counted st s claim f
   same-effect (ListProcesses s claim wanted room) f h = same-counted st s claim f
@@ -205,12 +209,12 @@ module _ (st : State) where
   same-effect (SetWord s claim c word) f h = clash refl h
 
 -- ---- a call, refused or not
-pub image-kept : (st : State) (call : Call) → changesImage st call (number st call) ≡ false → imageBytes (step st call) ≡ imageBytes st
+pub image-kept : (st : State) (call : Call) → changesImage st call (number st call) ≡ false → stateImage (step st call) ≡ stateImage st
 image-kept st call h =
     same-bytes (step-by st call (Same st) (record { credentials = refl; saved = refl }) (same-counted st) (λ z. same-effect st call (facts st call z) (rw z at h)))
 
 -- so, over any calls, the image that was written last is that of the state now
-pub newest-is : (st : State) (calls : List Call) → newest (imageBytes st) st calls ≡ imageBytes (run st calls)
+pub newest-is : (st : State) (calls : List Call) → newest (stateImage st) st calls ≡ stateImage (run st calls)
 unfolding newest run
 newest-is st [] = refl
 newest-is st (call ∷ calls) =
@@ -220,13 +224,13 @@ newest-is st (call ∷ calls) =
 
 -- ---- and each that is on the list, where it is done, changes its rows or sets a word
 module _ (st : State) where
-  rows-replaced : (i : ℕ) (y : Process) → i < length (processes st) → length (savedOf (withTable st (replaced (st .table) i y))) + cond (isKept (getD (processes st) i freePlace)) 1 0 ≡ length (savedOf st) + cond (isKept y) 1 0
+  rows-replaced : (i : ℕ) (y : Process) → i < length (processes st) → length (savedOf (withTable st (replaced (st .table) i y))) + cond (isSavedOne (getD (processes st) i freePlace)) 1 0 ≡ length (savedOf st) + cond (isSavedOne y) 1 0
   unfolding savedOf
-  rows-replaced i y h = rw (standing-replaced (st .table) i y) (count-set isKept (processes st) i freePlace y h)
+  rows-replaced i y h = rw (standing-replaced (st .table) i y, length-map (select isSavedOne (set (processes st) i y)) savedRow, length-map (select isSavedOne (processes st)) savedRow) (count-set isSavedOne (processes st) i freePlace y h)
 
-  rows-removed : (i : ℕ) → i < length (processes st) → length (savedOf (withTable st (removed (st .table) i))) + cond (isKept (getD (processes st) i freePlace)) 1 0 ≡ length (savedOf st)
+  rows-removed : (i : ℕ) → i < length (processes st) → length (savedOf (withTable st (removed (st .table) i))) + cond (isSavedOne (getD (processes st) i freePlace)) 1 0 ≡ length (savedOf st)
   unfolding savedOf
-  rows-removed i h = rw (standing-removed (st .table) i) (count-remove isKept (processes st) i freePlace h)
+  rows-removed i h = rw (standing-removed (st .table) i, length-map (select isSavedOne (removeAt i (processes st))) savedRow, length-map (select isSavedOne (processes st)) savedRow) (count-remove isSavedOne (processes st) i freePlace h)
 
 module _ (st : State) (v : Rules st) where
   rows-ended : (s : Session) (u : UserClaim) (keep : Bool) → Facts st (End s u keep) → keep ≡ true → length (savedOf (effect st (End s u keep))) ≡ length (savedOf st) + 1
@@ -238,7 +242,7 @@ module _ (st : State) (v : Rules st) where
       let mid : State = counted st s (ByUser u) in
       let x : Process = getD (processes mid) i freePlace in
       let stands = stands-counted st s (ByUser u) f (isActive which) (active-more which) i (f .stands) in
-      let rows = rw (active-unkept which x (stands .passes)) at (rows-replaced mid i (saved x) (stands .inside)) in
+      let rows = rw (active-unsaved which x (stands .passes)) at (rows-replaced mid i (saved x) (stands .inside)) in
       omega (arith, rows, ap length (same-counted st s (ByUser u) f .saved))
 
   rows-continued : (s : Session) (c : Credential) (name : Name) → Facts st (Continue s c name) → length (savedOf st) ≡ length (savedOf (effect st (Continue s c name))) + 1
@@ -246,28 +250,28 @@ module _ (st : State) (v : Rules st) where
   rows-continued s c name f =
       let i : ℕ = namedPlace st name (SavedOf c) in
       let x : Process = getD (processes st) i freePlace in
-      let was : isKept x ≡ true = rw (saved-of x c (named-among x name (SavedOf c) (f .stands .passes)) .kind) in
+      let was : isSavedOne x ≡ true = rw (saved-of x c (named-among x name (SavedOf c) (f .stands .passes)) .kind) in
       let rows = rw was at (rows-replaced st i (activated s x) (f .stands .inside)) in
       omega (arith, rows)
 
   -- the saved process of the name is the one that the kill finds: no other has the name
-  kept-there : (name : Name) (among : Among) → hasSaved st name ≡ true → (i : ℕ) → Stands (isNamed name among) (processes st) freePlace i → Stands isKept (processes st) freePlace i
+  kept-there : (name : Name) (among : Among) → hasSaved st name ≡ true → (i : ℕ) → Stands (isNamed name among) (processes st) freePlace i → Stands isSavedOne (processes st) freePlace i
   unfolding hasSaved
   kept-there name among h i f =
       let l : List Process = processes st in
-      let isIt : Process → Bool = λ p. isKept p && sameName (p .name) name in
+      let isIt : Process → Bool = λ p. isSavedOne p && sameName (p .name) name in
       let j : ℕ = firstIndex isIt l in
       let there : Stands isIt l freePlace j = found isIt l freePlace h in
       let x : Process = getD l i freePlace in
       let y : Process = getD l j freePlace in
-      let kept : isKept y ≡ true = and-left (isKept y) (sameName (y .name) name) (there .passes) in
+      let kept : isSavedOne y ≡ true = and-left (isSavedOne y) (sameName (y .name) name) (there .passes) in
       split (eqb i j)
       (λ e. record { inside = f .inside; passes = rw (eqb-true i j e) kept })
       (λ e.
       absurd
       (pairs-at apart-turn i j freePlace (f .inside) (there .inside) (eqb-false i j e) (v .pairs)
       .names
-      (ap (λ (n : Name). n .bytes) (named-name x name among (f .passes)) ∙ sym (same-iff (y .name) name .0 (and-right (isKept y) (sameName (y .name) name) (there .passes))))))
+      (ap (λ (n : Name). n .bytes) (named-name x name among (f .passes)) ∙ sym (same-iff (y .name) name .0 (and-right (isSavedOne y) (sameName (y .name) name) (there .passes))))))
 
   rows-killed : (s : Session) (claim : Claim) (name : Name) → Facts st (Kill s claim name) → hasSaved st name ≡ true → length (savedOf st) ≡ length (savedOf (effect st (Kill s claim name))) + 1
   unfolding effect
@@ -275,7 +279,7 @@ module _ (st : State) (v : Rules st) where
       let among : Among = reach (checked st s claim) in
       let i : ℕ = namedPlace st name among in
       let mid : State = counted st s claim in
-      let stands = stands-counted st s claim (f .admission) isKept (λ p. refl) i (kept-there name among h i (f .stands)) in
+      let stands = stands-counted st s claim (f .admission) isSavedOne (λ p. refl) i (kept-there name among h i (f .stands)) in
       let rows = rw (stands .passes) at (rows-removed mid i (stands .inside)) in
       omega (arith, rows, ap length (same-counted st s claim (f .admission) .saved))
 

@@ -18,13 +18,13 @@ use Rattle.history.specs.Lives.{Life, Gone, Live, Kept, count, Event, told}
 use Rattle.history.specs.History.{history}
 use Rattle.history.specs.Since.{toldSince, isNew}
 use Rattle.history.proofs.Examples.{lives}
-use Rattle.image.specs.Image.{numbersIn, maskIn, rowCountIn, grantsSaid, grantsIn, savedFrom, keptIn, restored, imageLong, headFits, wordFits, isKeepable, differ, isImage, imageBytes, imageOf, numbersBytes, maskOf, wordIn, savedOf, savedBytes}
+use Rattle.image.specs.Image.{isRowOffset, imageLong, numbersBytes, numbersIn, maskOf, wordIn, savedBytes, imageBytes, headIn, grantsSaid, grantsIn, savedFrom, savedIn, imageIn, isOwner, isKeepable, differ, headFits, wordFits, imageFits, isImage, savedProcess, restored, savedRow, savedOf, imageOf, stateImage}
 use Rattle.resumed.specs.Resumed.{toldBy}
 use Rattle.resumed.specs.Changes.{hasSaved, touchesImage, changesImage, newest}
 
 -- all that the examples compute with
 unfoldable pub opened : Type 1
-unfolding lives isNew numberOf numberAt rows every pairwise numbersIn maskIn rowCountIn grantsSaid grantsIn savedFrom keptIn restored imageLong headFits wordFits isKeepable differ isImage imageBytes imageOf numbersBytes maskOf wordIn savedOf savedBytes
+unfolding lives isNew numberOf numberAt rows every pairwise isRowOffset imageLong numbersBytes numbersIn maskOf wordIn savedBytes imageBytes headIn grantsSaid grantsIn savedFrom savedIn imageIn isOwner isKeepable differ headFits wordFits imageFits isImage savedProcess restored savedRow savedOf imageOf stateImage
 opened = Type 0
 
 -- credential 0 has the classes 0 to 4, no other is provisioned; P is saved, with next number 3
@@ -104,8 +104,8 @@ kept = continued ++ (End (session 0) (userYes 0 4) true ∷ Start (session 0) (c
 pub record Cycled : Type 0 where
   pub of-P : told (toldBy image) (history (restored image) kept) P ≡ Kept (credential 0) (4 ∷ 3 ∷ 2 ∷ 1 ∷ 0 ∷ [])
   pub of-Q : told (toldBy image) (history (restored image) kept) Q ≡ Live (session 0) (credential 0) (0 ∷ [])
-  pub then-P : toldBy (imageBytes (run (restored image) kept)) P ≡ Kept (credential 0) (4 ∷ 3 ∷ 2 ∷ 1 ∷ 0 ∷ [])
-  pub then-Q : toldBy (imageBytes (run (restored image) kept)) Q ≡ Gone
+  pub then-P : toldBy (stateImage (run (restored image) kept)) P ≡ Kept (credential 0) (4 ∷ 3 ∷ 2 ∷ 1 ∷ 0 ∷ [])
+  pub then-Q : toldBy (stateImage (run (restored image) kept)) Q ≡ Gone
 
 pub cycled : Cycled
 unfolding opened
@@ -161,8 +161,8 @@ pub record KeptBetween : Type 0 where
   pub numbers-are : Answered (fresh grants) (saving ++ others)
   -- one is written after the end, and none later: it is that of the last state
   pub written-once : changing (fresh grants) (callsOf (saving ++ others)) ≡ replicate 5 false ++ (true ∷ replicate 11 false)
-  pub newest-is : newest (imageBytes (fresh grants)) (fresh grants) (callsOf (saving ++ others)) ≡ image
-  pub image-is : imageBytes (after (fresh grants) (saving ++ others)) ≡ image
+  pub newest-is : newest (stateImage (fresh grants)) (fresh grants) (callsOf (saving ++ others)) ≡ image
+  pub image-is : stateImage (after (fresh grants) (saving ++ others)) ≡ image
   pub goes-on : Answered (restored image) resuming
   -- the continue changes it again: until one is written, a power cycle takes P back to 3
   pub continue-changes : changing (restored image) (callsOf resuming) ≡ false ∷ false ∷ true ∷ false ∷ false ∷ []

@@ -5,7 +5,7 @@ use mathlib.Core.Path.{_≡_, refl, sym, ap, subst, _∙_}
 use mathlib.Core.Bool.{Bool, true, false, cond, not}
 use mathlib.Core.List.{List, [], _∷_, map}
 use native.Mathlib.Omega.{arith}
-use lib.ListN.{length, drop}
+use lib.ListN.{length}
 use Rattle.lists.specs.Each.{Each, each-nil, each-cons}
 use Rattle.lists.specs.Lists.{join, select, reject}
 use Rattle.lists.proofs.Lists.{length-reject}
@@ -43,12 +43,13 @@ use Rattle.history.proofs.Told.{live-not-gone, length-down, down-below, tells-l
 use Rattle.history.proofs.Calls.{steps}
 use Rattle.history.proofs.Since.{follow-gone}
 use Rattle.history.proofs.Theorems.{tells-from, in-turn-from, demand3-told, claim-told-from}
-use Rattle.image.specs.Image.{savedAt, savedSize, isKept, savedOf, rowCountIn, savedFrom, keptIn, isImage, restored, cycled, numbersBytes, wordSize, imageOf, imageBytes}
+use Rattle.image.specs.declared.SavedRow.{SavedRow}
+use Rattle.image.specs.Image.{Image, isSavedOne, savedOf, savedIn, imageIn, savedProcess, isImage, restored, cycled, numbersBytes, wordSize, imageOf, imageBytes, stateImage}
 use Rattle.image.proofs.Rows.{select-reject}
-use Rattle.image.proofs.Laws.{stands-is, image-state, state-image, state-restored}
+use Rattle.image.proofs.Laws.{each-map, stands-is, image-back, image-state, state-fit, state-image, state-restored, stands-cycled}
 use Rattle.resumed.specs.Resumed.{toldBy, FromImage, cut}
 
--- ---- "It is shown that no history comes to such a state (a save has counted one)"
+-- ---- no history comes to a saved process at next number 0: "a save has counted one"
 pub counted-from : (first : State) → IsState first → (calls : List Call) → Each Fits calls → Each (λ p. p .kind ≡ Saved → 1 ≤ p .next) (processes (run first calls))
 counted-from first v calls w = each-imp (λ p f. f .counted) (state-run first calls w v .formed .each)
 
@@ -59,25 +60,17 @@ saved-counted pairs eight = counted-from (fresh pairs) (state-fresh pairs eight)
 tells-by : (b : List ℕ) → Rules (restored b) → Tells (toldBy b) (restored b)
 tells-by b v = look-tells (restored b) v (toldBy b) (λ n. ap (look n) (sym (stands-is b)))
 
-saved-from : (l : List (List ℕ)) → Each (λ p. p .kind ≡ Saved) (map savedFrom l)
-unfolding savedFrom
-saved-from [] = each-nil
-saved-from (row ∷ l) = each-cons refl (saved-from l)
-
-kept-life : (k : Kind) (s : Session) (c : Credential) (n : ℕ) → k ≡ Saved → life k s c n ≡ Kept c (down n)
-kept-life k s c n e = rw e
+each-unmap : {A B : Type 0} {P : B → Type 0} (f : A → B) (l : List A) → Each P (map f l) → Each (λ x. P (f x)) l
+each-unmap f [] each-nil = each-nil
+each-unmap f (x ∷ l) (each-cons p v) = each-cons p (each-unmap f l v)
 
 module _ (b : List ℕ) (g : Bytes b) (e : isImage b ≡ true) where
   pub image-tells : Tells (toldBy b) (restored b)
   image-tells = tells-by b (image-state b g e .rules)
 
-  rows-tell : Each (λ p. toldBy b (p .name) ≡ Kept (p .credential) (down (p .next))) (keptIn b)
-  unfolding keptIn
-  rows-tell =
-      each-imp₂
-      (λ p k q. q ∙ kept-life (p .kind) (p .session) (p .credential) (p .next) k)
-      (saved-from (rows (rowCountIn b) savedSize (drop savedAt b)))
-      (subst (λ l. Each (λ p. toldBy b (p .name) ≡ lifeOf p) l) (stands-is b) (image-tells .stands))
+  rows-tell : Each (λ r. toldBy b (r .name) ≡ Kept (r .owner) (down (r .next))) (savedIn b)
+  unfolding savedProcess
+  rows-tell = each-unmap savedProcess (savedIn b) (subst (λ l. Each (λ p. toldBy b (p .name) ≡ lifeOf p) l) (stands-is b) (image-tells .stands))
 
   pub from-image : FromImage b
   unfolding passed
@@ -85,7 +78,7 @@ module _ (b : List ℕ) (g : Bytes b) (e : isImage b ≡ true) where
       record {
         rows = rows-tell;
         numbers = each-imp (λ p q. rw q (length-down (p .next))) rows-tell;
-        others = λ n h. image-tells .gone n (rw (stands-is b) h);
+        others = λ n h. image-tells .gone n (rw (stands-is b) (unfold savedProcess in each-map savedProcess h));
       }
 
   -- any calls on the module that it makes
@@ -106,38 +99,37 @@ idle User e h = clash refl e
 idle Elevation e h = clash refl e
 idle Saved e h = clash h refl
 
-module _ (st : State) (v : Rules st) where
+module _ (st : State) (v : IsState st) where
   abbrev isActiveOne : Process → Bool
-  isActiveOne p = not (isKept p)
+  isActiveOne p = not (isSavedOne p)
 
   stand-cycled : processes (cycled st) ≡ reject isActiveOne (processes st)
-  unfolding cycled savedOf
-  stand-cycled = standing-of (savedOf st) ∙ select-reject isKept (processes st)
+  stand-cycled = stands-cycled v ∙ select-reject isSavedOne (processes st)
 
   rules-cycled : Rules (cycled st)
   rules-cycled =
       record {
-        few = rw stand-cycled (omega (arith, length-reject isActiveOne (processes st), v .few));
+        few = rw stand-cycled (omega (arith, length-reject isActiveOne (processes st), v .rules .few));
         each =
             rw stand-cycled
             (each-imp₂
-            (λ p e (o : Owned st p). record { owner = unfold cycled provisioned in o .owner; seated = λ h. absurd (idle (p .kind) e h) })
+            (λ p e (o : Owned st p). record { owner = unfold cycled imageOf provisioned in o .owner; seated = λ h. absurd (idle (p .kind) e h) })
             (each-left isActiveOne (processes st))
-            (each-reject isActiveOne (v .each)));
-        pairs = rw stand-cycled (pairs-reject isActiveOne (v .pairs));
+            (each-reject isActiveOne (v .rules .each)));
+        pairs = rw stand-cycled (pairs-reject isActiveOne (v .rules .pairs));
       }
 
   pub cycled-life : (n : Name) → look n (processes (cycled st)) ≡ cut (look n (processes st))
   cycled-life n =
       rw stand-cycled
-      (look-reject n cut refl isActiveOne (processes st) (pairs-imp (λ p q a. a .names) (v .pairs))
+      (look-reject n cut refl isActiveOne (processes st) (pairs-imp (λ p q a. a .names) (v .rules .pairs))
       (each-all (processes st) (λ p. cut-life (p .kind) (p .session) (p .credential) (p .next))))
 
 -- what the image of a state tells is what was told of the state, cut there
-pub told-cut : (st : State) → IsState st → (tell : Name → Life) → Tells tell st → (name : Name) → toldBy (imageBytes st) name ≡ cut (tell name)
+pub told-cut : (st : State) → IsState st → (tell : Name → Life) → Tells tell st → (name : Name) → toldBy (stateImage st) name ≡ cut (tell name)
 told-cut st v tell tells n =
-    ap (look n) (sym (stands-is (imageBytes st)) ∙ ap (λ (s : State). processes s) (state-restored v))
-    ∙ cycled-life st (v .rules) n
+    ap (look n) (sym (stands-is (stateImage st)) ∙ ap (λ (s : State). processes s) (state-restored v))
+    ∙ cycled-life st v n
     ∙ ap cut (sym (tells-look tell st tells n))
 
 -- so it is after calls
@@ -146,16 +138,16 @@ module _ (first : State) (v : IsState first) (tell : Name → Life) (tells : Tel
   last = state-run first calls w v
 
   abbrev image : List ℕ
-  image = imageBytes (run first calls)
+  image = stateImage (run first calls)
 
-  pub told-through : (name : Name) → toldBy (imageBytes (run first calls)) name ≡ cut (told tell (history first calls) name)
+  pub told-through : (name : Name) → toldBy (stateImage (run first calls)) name ≡ cut (told tell (history first calls) name)
   told-through = told-cut (run first calls) last (told tell (history first calls)) (tells-from (steps first calls) (v .rules) tell tells)
 
   abbrev again : State
   again = restored image
 
   rules-again : Rules again
-  rules-again = rw (state-restored last) (rules-cycled (run first calls) (last .rules))
+  rules-again = rw (state-restored last) (rules-cycled (run first calls) last)
 
   module _ (more : List Call) (s : Session) (u : UserClaim) (e : admitted (run again more) s (ByUser u) ≡ 0) where
     abbrev name : Name
@@ -184,7 +176,7 @@ module _ (first : State) (v : IsState first) (tell : Name → Life) (tells : Tel
       pub claim-through : Each (λ n. n < u .number) (passed (told tell (history first calls) name))
       claim-through = above (told tell (history first calls) name) refl (in-turn-from (steps first calls) (v .rules) tell tells name)
 
--- ---- "the fresh module being the case of an image without rows"
+-- ---- a fresh module is the case of an image without rows
 each-bytes : {l : List ℕ} → Each (λ a. a < 256) l → Bytes l
 each-bytes each-nil i = omega arith
 each-bytes (each-cons h r) zero = h
@@ -208,26 +200,26 @@ module _ (pairs : List Grants) (eight : Eight pairs) where
   unfolding savedOf fresh select
   none-saved = rw (standing-of [])
 
-  fresh-bytes : Bytes (imageBytes begun)
-  unfolding imageBytes imageOf join
+  fresh-bytes : Bytes (stateImage begun)
+  unfolding stateImage imageBytes imageOf join
   fresh-bytes = rw none-saved (each-bytes (each-append (numbers-each 2 _) (each-append (numbers-each wordSize _) each-nil)))
 
   begun-is : IsState begun
   begun-is = state-fresh pairs eight
 
-  fresh-again : restored (imageBytes begun) ≡ begun
-  unfolding cycled fresh
+  fresh-again : restored (stateImage begun) ≡ begun
+  unfolding cycled imageOf fresh
   fresh-again = state-restored begun-is ∙ rw none-saved
 
-  none-kept : keptIn (imageBytes begun) ≡ []
-  unfolding fresh
-  none-kept = sym (stands-is (imageBytes begun)) ∙ rw fresh-again (standing-of [])
+  none-in : savedIn (stateImage begun) ≡ []
+  unfolding stateImage imageIn imageOf
+  none-in = ap (λ (i : Image). i .saved) (image-back (state-fit begun-is)) ∙ none-saved
 
-  pub fresh-image : (restored (imageBytes (fresh pairs)) ≡ fresh pairs) × (keptIn (imageBytes (fresh pairs)) ≡ [])
-  fresh-image = (fresh-again, none-kept)
+  pub fresh-image : (restored (stateImage (fresh pairs)) ≡ fresh pairs) × (savedIn (stateImage (fresh pairs)) ≡ [])
+  fresh-image = (fresh-again, none-in)
 
   pub fresh-demand3 : (calls : List Call) → Demand3From nobody (history (fresh pairs) calls) (run (fresh pairs) calls)
   fresh-demand3 calls =
-      subst (λ (l : List Process). Demand3From (λ name. look name l) (history begun calls) (run begun calls)) none-kept
-      (subst (λ st. Demand3From (toldBy (imageBytes begun)) (history st calls) (run st calls)) fresh-again
-      (image-demand3 (imageBytes begun) fresh-bytes (state-image begun-is) calls))
+      subst (λ (l : List SavedRow). Demand3From (λ name. look name (map savedProcess l)) (history begun calls) (run begun calls)) none-in
+      (subst (λ st. Demand3From (toldBy (stateImage begun)) (history st calls) (run st calls)) fresh-again
+      (image-demand3 (stateImage begun) fresh-bytes (state-image begun-is) calls))

@@ -7,23 +7,23 @@ use mathlib.Core.List.{List, [], _∷_, map}
 use native.Mathlib.Omega.{arith}
 use Rattle.lists.proofs.Each.{each-at}
 use Rattle.table.specs.Table.{freePlace}
-use Rattle.table.specs.declared.Process.{Process}
 use Rattle.claims.specs.declared.State.{State}
 use Rattle.calls.specs.Calls.{Call, Open, Select, Continue}
 use Rattle.calls.specs.Run.{run}
-use Rattle.calls.proofs.Sequences.{P, session, credential, class, userYes}
+use Rattle.calls.proofs.Sequences.{P, session, credential, userYes}
 use Rattle.history.specs.History.{eventOf, history}
 use Rattle.history.specs.Since.{OnePassed, Demand3From}
-use Rattle.image.specs.Image.{grantsIn, keptIn, moduleOf}
+use Rattle.image.specs.declared.SavedRow.{SavedRow}
+use Rattle.image.specs.Image.{savedAt, grantsIn, savedIn, moduleOf}
 use Rattle.resumed.specs.Resumed.{toldBy}
 use Rattle.resumed.proofs.Examples.{opened, image, recorded}
 
-abbrev numbered : ℕ → Process → Process
-numbered n p = record { credential = p .credential; kind = p .kind; session = p .session; next = n; name = p .name }
+abbrev numbered : ℕ → SavedRow → SavedRow
+numbered n r = record { owner = r .owner; next = n; name = r .name }
 
 -- the image's number is 3
 abbrev goneOnFrom : ℕ → State
-goneOnFrom n = moduleOf (grantsIn image) (map (numbered n) (keptIn image))
+goneOnFrom n = moduleOf (record { offset = savedAt; grants = grantsIn image; saved = map (numbered n) (savedIn image) })
 
 abbrev continued : List Call → List Call
 continued calls = Open (session 0) ∷ Select (session 0) 0x10 ∷ Continue (session 0) (credential 0) P ∷ calls

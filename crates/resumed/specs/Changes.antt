@@ -13,11 +13,11 @@ use Rattle.claims.specs.declared.State.{State}
 use Rattle.calls.specs.Calls.{Call, Open, Close, Drop, Select, Start, Continue, Elevate, End, Record, ListProcesses, Kill, SetWord, number}
 use Rattle.calls.specs.Run.{step}
 use Rattle.facts.specs.Facts.{processes}
-use Rattle.image.specs.Image.{isKept, imageBytes}
+use Rattle.image.specs.Image.{isSavedOne, stateImage}
 
 -- a saved process has the name
 unfoldable pub hasSaved : State → Name → Bool
-hasSaved st name = any (λ p. isKept p && sameName (p .name) name) (processes st)
+hasSaved st name = any (λ p. isSavedOne p && sameName (p .name) name) (processes st)
 
 -- an end with keep, a continue, a kill of a saved process, a set word
 unfoldable pub touchesImage : State → Call → Bool
@@ -57,4 +57,4 @@ RowsChange (SetWord s claim c word) n m = m ≡ n
 unfoldable pub newest : List ℕ → State → List Call → List ℕ
 newest image st [] = image
 newest image st (call ∷ calls) =
-    newest (cond (changesImage st call (number st call)) (imageBytes (step st call)) image) (step st call) calls
+    newest (cond (changesImage st call (number st call)) (stateImage (step st call)) image) (step st call) calls

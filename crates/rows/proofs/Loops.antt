@@ -4,18 +4,18 @@ use Prim.Native.Nat.{ℕ, zero, suc, _+_, _-_, _*_, _<_, _≤_}
 use mathlib.Core.Path.{_≡_, refl, sym, ap, _∙_}
 use mathlib.Core.Bool.{Bool, true, false, _&&_, not, true≢false}
 use mathlib.Core.List.{List, [], _∷_, _++_, map, append-nil}
-use native.Mathlib.Nat.{zero-mul, suc-mul, mul-le-mul-right}
+use native.Mathlib.Nat.{add-zero, zero-mul, suc-mul, mul-le-mul-right}
 use native.Mathlib.Numerals.{add-one}
 use native.Mathlib.Omega.{arith}
 use lib.Bits.{bitOr, or-add-and, and-le-l, and-le-r}
 use borrow.Author.Tests.{eqb-true, eq-eqb, ne-eqb, not-true, not-false}
 use borrow.Rule.Slice.PartMut.{putMid}
 use lib.ListN.{length, getD, take, drop, set, replicate, length-take, length-drop, length-replicate, length-map, List·getD-map, drop-of-length-le}
-use lib.Seq.{take-all, drop-drop, take-suc, drop-cons}
-use Rattle.lists.specs.Lists.{join}
+use lib.Seq.{take-all, drop-drop, take-suc, drop-cons, getD-drop, getD-take, length-take-le}
+use Rattle.lists.specs.Lists.{join, select}
 use Rattle.lists.proofs.Lists.{getD-any}
 use Rattle.lists.proofs.Loops.{Copied, copied-none, copied-more, copied-all}
-use Rattle.lists.proofs.Tests.{split, and-left, and-right, and-both}
+use Rattle.lists.proofs.Tests.{split, below, and-left, and-right, and-both}
 use Rattle.rows.proofs.Rows.{row-at, rows-length, map-append, join-append}
 use Rattle.rows.proofs.Over.{over-none, over-part, put-length, put-next}
 use Rattle.rows.specs.Bytes.{isZero}
@@ -148,6 +148,29 @@ module _ {A : Type 0} where
       let l : length (map g (rows n k (drop off s))) ≤ i = rw (length-map, rows-length) h in
       sym (every-all (v .passed) l)
 
+  -- the record at an index passes with each later one up to i
+  pub record LaterTo (f : A → A → Bool) (g : List ℕ → A) (n k off : ℕ) (s : List ℕ) (d : A) (first i : ℕ) : Type 0 where
+    pub passed : RecordsTo (f (getD (map g (rows n k (drop off s))) first d)) g n k off s (first + 1) i
+
+  pub later-begin : (f : A → A → Bool) (g : List ℕ → A) (n k off : ℕ) (s : List ℕ) (d : A) (first : ℕ) → first < n → LaterTo f g n k off s d first (first + 1)
+  later-begin f g n k off s d first h =
+      record { passed = records-begin (f (getD (map g (rows n k (drop off s))) first d)) g n k off s (first + 1) (omega arith) }
+
+  module _ {f : A → A → Bool} {g : List ℕ → A} {n k off : ℕ} {s : List ℕ} {d : A} {first i : ℕ} (v : LaterTo f g n k off s d first i) where
+    module _ {b : Bool} (l : first < n) (h : i < n)
+        (e : b ≡ f (g (take (off + first * k + k - (off + first * k)) (drop (off + first * k) s))) (g (take (off + i * k + k - (off + i * k)) (drop (off + i * k) s)))) where
+      with-first : b ≡ f (getD (map g (rows n k (drop off s))) first d) (g (take (off + i * k + k - (off + i * k)) (drop (off + i * k) s)))
+      with-first = e ∙ ap (λ (x : A). f x (g (take (off + i * k + k - (off + i * k)) (drop (off + i * k) s)))) (sym (map-part g n k off s first d l))
+
+      pub later-on : not b ≡ false → LaterTo f g n k off s d first (i + 1)
+      later-on q = record { passed = records-on (v .passed) h with-first q }
+
+      pub later-fail : not b ≡ true → false ≡ every (f (getD (map g (rows n k (drop off s))) first d)) (drop (first + 1) (map g (rows n k (drop off s))))
+      later-fail q = records-fail (v .passed) h with-first q
+
+    pub later-all : n ≤ i → true ≡ every (f (getD (map g (rows n k (drop off s))) first d)) (drop (first + 1) (map g (rows n k (drop off s))))
+    later-all h = records-all (v .passed) h
+
   -- all pairs of the records of the rows
   pub record PairedTo (f : A → A → Bool) (g : List ℕ → A) (n k off : ℕ) (s : List ℕ) (i : ℕ) : Type 0 where
     pub passed : PairsTo f (map g (rows n k (drop off s))) i
@@ -239,3 +262,82 @@ module _ {A : Type 0} where
         let t : take i l ≡ l = take-all i l h in
         let q : i ≡ length l = omega (arith, v .low) in
         rw (t, q) at (v .put)
+
+-- ---- the rows of those of the first n of l that pass a test, written one after another: j are written, and those of the elements from i on are left. The first
+-- n are few, so that the places of their rows are small numbers
+module _ {A B : Type 0} where
+  pub record WroteChosen (f : A → Bool) (row : A → B) (enc : B → List ℕ) (k off most : ℕ) (l : List A) (n : ℕ) (old new : List ℕ) (j i : ℕ) : Type 0 where
+    pub low : i ≤ n
+    pub within : n ≤ length l
+    pub small : n ≤ most
+    pub few : j ≤ i
+    pub wrote : Wrote enc k off (map row (select f (take n l))) old new j
+    pub left : drop j (map row (select f (take n l))) ≡ map row (select f (drop i (take n l)))
+
+  pub chosen-begin : (f : A → Bool) (row : A → B) (enc : B → List ℕ) (k off most : ℕ) (l : List A) (n : ℕ) (old : List ℕ) → n ≤ length l → n ≤ most
+      → off + length (map row (select f (take n l))) * k ≤ length old → WroteChosen f row enc k off most l n old old 0 0
+  chosen-begin f row enc k off most l n old h m r =
+      record { low = omega arith; within = h; small = m; few = omega arith; wrote = wrote-begin enc k off (map row (select f (take n l))) old r; left = refl }
+
+  module _ {f : A → Bool} {row : A → B} {enc : B → List ℕ} {k off most : ℕ} {l : List A} {n : ℕ} {old new : List ℕ} {j i : ℕ} (v : WroteChosen f row enc k off most l n old new j i) where
+    abbrev all : List B
+    all = map row (select f (take n l))
+
+    pub chosen-length : length new ≡ length old
+    chosen-length = wrote-length (v .wrote)
+
+    module _ (d : A) {b : Bool} (h : i < n) (e : b ≡ f (getD l i d)) where
+      -- the element at i is the next of those from i on
+      ahead : drop i (take n l) ≡ getD l i d ∷ drop (i + 1) (take n l)
+      ahead = drop-cons (take n l) i d (omega (arith, length-take-le n l (v .within))) ∙ rw (getD-take n l i d h, add-one)
+
+      module _ (t : b ≡ true) where
+        row-left : drop j all ≡ row (getD l i d) ∷ map row (select f (drop (i + 1) (take n l)))
+        unfolding select
+        row-left = v .left ∙ rw (ahead, ← e, t)
+
+        -- so there is a row for it
+        row-inside : j < length all
+        row-inside = below j (length all) (λ p. p) (λ p. absurd (omega (arith, ap length row-left, length-drop j all)))
+
+        row-is : getD all j (row d) ≡ row (getD l i d)
+        row-is = (rw add-zero at (sym (getD-drop j all 0 (row d)))) ∙ ap (λ (x : List B). getD x 0 (row d)) row-left
+
+        pub chosen-room : off + j * k + k ≤ length new
+        chosen-room = wrote-room (v .wrote) row-inside
+
+        pub chosen-part : length (take (off + j * k + k - (off + j * k)) (drop (off + j * k) new)) ≡ k
+        chosen-part = wrote-part (v .wrote) row-inside
+
+        pub chosen-on : {j′ : ℕ} {ys new′ : List ℕ} → ys ≡ enc (row (getD l i d)) → new′ ≡ putMid (off + j * k) (off + j * k + k - (off + j * k)) new ys → j′ ≡ j + 1
+            → length ys ≡ length (take (off + j * k + k - (off + j * k)) (drop (off + j * k) new)) → WroteChosen f row enc k off most l n old new′ j′ (i + 1)
+        chosen-on q g m s =
+            rw (g, m)
+            (record {
+              low = omega arith;
+              within = v .within;
+              small = v .small;
+              few = omega (arith, v .few);
+              wrote = wrote-on (v .wrote) (row d) row-inside (q ∙ ap enc (sym row-is)) s;
+              left = sym (drop-drop 1 j all) ∙ ap (drop 1) row-left;
+            })
+
+      pub chosen-over : {j′ : ℕ} {new′ : List ℕ} → b ≡ false → new′ ≡ new → j′ ≡ j → WroteChosen f row enc k off most l n old new′ j′ (i + 1)
+      unfolding select
+      chosen-over t g m =
+          rw (g, m)
+          (record {
+            low = omega arith;
+            within = v .within;
+            small = v .small;
+            few = omega (arith, v .few);
+            wrote = v .wrote;
+            left = v .left ∙ rw (ahead, ← e, t);
+          })
+
+    pub chosen-all : n ≤ i → Put off (length all * k) (join (map enc all)) old new
+    unfolding select
+    chosen-all h =
+        let past : length (take n l) ≤ i = omega (arith, length-take-le n l (v .within)) in
+        let none : drop j all ≡ [] = v .left ∙ rw (drop-of-length-le (take n l) past) in
+        wrote-all (v .wrote) (omega (arith, ap length none, length-drop j all))

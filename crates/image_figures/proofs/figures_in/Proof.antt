@@ -2,35 +2,21 @@ use Rattle.image_figures.proofs.Rules.{rules}
 use Rattle.image_figures.proofs.figures_in.Statement.{statement}
 use Rattle.image_figures.proofs.figures_in.Tie as tie
 
-row-count-requires : tie.Need-row-count-requires
-row-count-requires c κs = search rules
-
-read-grants-requires : tie.Need-read-grants-requires
-read-grants-requires c κs = search rules
-
 classes-granted-requires : tie.Need-classes-granted-requires
 classes-granted-requires c κs = search rules
 
 largest-next-requires : tie.Need-largest-next-requires
 largest-next-requires c κs = search rules
 
-cast-t7 : tie.Need-cast-t7
-cast-t7 c = search rules
-
 cast-t8 : tie.Need-cast-t8
 cast-t8 c = search rules
+
+cast-t9 : tie.Need-cast-t9
+cast-t9 c = search rules
 
 returns : tie.Need-returns
 returns c = search rules
 
 pub figures-in-spec : {M : Type 1} → statement M
 figures-in-spec =
-    tie.close
-    (tie.spec
-    row-count-requires
-    read-grants-requires
-    classes-granted-requires
-    largest-next-requires
-    cast-t7
-    cast-t8
-    returns)
+    tie.close (tie.spec classes-granted-requires largest-next-requires cast-t8 cast-t9 returns)

@@ -5,10 +5,10 @@ use Rattle.image_figures.proofs.largest_next.Statement.{statement}
 use Rattle.image_figures.proofs.largest_next.Tie as tie
 
 abbrev Inv-loop : tie.InvT-loop
-Inv-loop b n largest₀ i₀ largest i = LargestTo b n largest i
+Inv-loop b offset n largest₀ i₀ largest i = LargestTo b offset n largest i
 
 abbrev μ-loop : tie.MeasureT-loop
-μ-loop b n largest₀ i₀ largest i = n - i
+μ-loop b offset n largest₀ i₀ largest i = n - i
 
 loop-holds : tie.Need-loop-holds Inv-loop μ-loop
 loop-holds c = search rules

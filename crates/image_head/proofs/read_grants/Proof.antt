@@ -2,9 +2,6 @@ use Rattle.image_head.proofs.Rules.{rules}
 use Rattle.image_head.proofs.read_grants.Statement.{statement}
 use Rattle.image_head.proofs.read_grants.Tie as tie
 
-number16-requires : tie.Need-number16-requires
-number16-requires c κs = search rules
-
 read-words-requires : tie.Need-read-words-requires
 read-words-requires c κs = search rules
 
@@ -15,4 +12,4 @@ returns : tie.Need-returns
 returns c = search rules
 
 pub read-grants-spec : {M : Type 1} → statement M
-read-grants-spec = tie.close (tie.spec number16-requires read-words-requires grants-said-requires returns)
+read-grants-spec = tie.close (tie.spec read-words-requires grants-said-requires returns)

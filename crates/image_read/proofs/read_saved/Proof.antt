@@ -4,10 +4,10 @@ use Rattle.image_read.proofs.read_saved.Statement.{statement}
 use Rattle.image_read.proofs.read_saved.Tie as tie
 
 abbrev Inv-loop : tie.InvT-loop
-Inv-loop b n places₀ i₀ places i = ReadTo b n places i
+Inv-loop b offset n places₀ i₀ places i = ReadTo b offset n places i
 
 abbrev μ-loop : tie.MeasureT-loop
-μ-loop b n places₀ i₀ places i = n - i
+μ-loop b offset n places₀ i₀ places i = n - i
 
 empty-requires : tie.Need-empty-requires Inv-loop μ-loop
 empty-requires c κs = search rules
@@ -35,6 +35,9 @@ part-saved-from-end c = search rules
 
 saved-from-requires : tie.Need-saved-from-requires Inv-loop μ-loop
 saved-from-requires c κs = search rules
+
+saved-process-requires : tie.Need-saved-process-requires Inv-loop μ-loop
+saved-process-requires c κs = search rules
 
 mul-places : tie.Need-mul-places Inv-loop μ-loop
 mul-places c = search rules
@@ -69,6 +72,7 @@ read-saved-spec =
     part-saved-from-start
     part-saved-from-end
     saved-from-requires
+    saved-process-requires
     mul-places
     array-set-from-places
     add-i

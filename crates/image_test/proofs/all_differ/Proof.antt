@@ -1,15 +1,15 @@
 use Prim.Native.Nat.{_-_}
 use Rattle.rows.proofs.Loops.{PairedTo}
-use Rattle.image.specs.Image.{savedAt, savedSize, savedFrom, differ}
+use Rattle.image.specs.Image.{savedSize, savedFrom, differ}
 use Rattle.image_test.proofs.Rules.{rules}
 use Rattle.image_test.proofs.all_differ.Statement.{statement}
 use Rattle.image_test.proofs.all_differ.Tie as tie
 
 abbrev Inv-loop : tie.InvT-loop
-Inv-loop b n first₀ first = PairedTo differ savedFrom n savedSize savedAt b first
+Inv-loop b offset n first₀ first = PairedTo differ savedFrom n savedSize offset b first
 
 abbrev μ-loop : tie.MeasureT-loop
-μ-loop b n first₀ first = n - first
+μ-loop b offset n first₀ first = n - first
 
 loop-holds : tie.Need-loop-holds Inv-loop μ-loop
 loop-holds c = search rules

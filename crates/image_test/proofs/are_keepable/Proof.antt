@@ -1,16 +1,15 @@
 use Prim.Native.Nat.{_-_}
 use Rattle.rows.proofs.Loops.{RecordsTo}
-use Rattle.image.specs.Image.{savedAt, savedSize, savedFrom}
-use Rattle.image_test.specs.Tests.{isKeepableBy}
+use Rattle.image.specs.Image.{savedSize, savedFrom, isKeepable}
 use Rattle.image_test.proofs.Rules.{rules}
 use Rattle.image_test.proofs.are_keepable.Statement.{statement}
 use Rattle.image_test.proofs.are_keepable.Tie as tie
 
 abbrev Inv-loop : tie.InvT-loop
-Inv-loop b n grants i₀ i = RecordsTo (isKeepableBy grants) savedFrom n savedSize savedAt b 0 i
+Inv-loop b offset n grants i₀ i = RecordsTo (isKeepable grants) savedFrom n savedSize offset b 0 i
 
 abbrev μ-loop : tie.MeasureT-loop
-μ-loop b n grants i₀ i = n - i
+μ-loop b offset n grants i₀ i = n - i
 
 loop-holds : tie.Need-loop-holds Inv-loop μ-loop
 loop-holds c = search rules

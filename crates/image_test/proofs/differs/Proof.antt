@@ -1,19 +1,15 @@
-use Prim.Native.Nat.{_+_, _-_}
-use mathlib.Core.List.{map}
-use lib.ListN.{getD, drop}
-use Rattle.rows.specs.Rows.{rows}
-use Rattle.rows.proofs.Loops.{RecordsTo}
-use Rattle.table.specs.Table.{freePlace}
-use Rattle.image.specs.Image.{savedAt, savedSize, savedFrom, differ}
+use Prim.Native.Nat.{_-_}
+use Rattle.rows.proofs.Loops.{LaterTo}
+use Rattle.image.specs.Image.{savedSize, savedFrom, differ}
 use Rattle.image_test.proofs.Rules.{rules}
 use Rattle.image_test.proofs.differs.Statement.{statement}
 use Rattle.image_test.proofs.differs.Tie as tie
 
 abbrev Inv-loop : tie.InvT-loop
-Inv-loop b n i a e j₀ j = RecordsTo (differ (getD (map savedFrom (rows n savedSize (drop savedAt b))) i freePlace)) savedFrom n savedSize savedAt b (i + 1) j
+Inv-loop b offset n i a e j₀ j = LaterTo differ savedFrom n savedSize offset b (savedFrom b) i j
 
 abbrev μ-loop : tie.MeasureT-loop
-μ-loop b n i a e j₀ j = n - j
+μ-loop b offset n i a e j₀ j = n - j
 
 mul-a : tie.Need-mul-a Inv-loop μ-loop
 mul-a c = search rules

@@ -5,11 +5,8 @@ use Rattle.image_test.proofs.is_keepable.Tie as tie
 number16-requires : tie.Need-number16-requires
 number16-requires c κs = search rules
 
-cast-is-provisioned : tie.Need-cast-is-provisioned
-cast-is-provisioned c = search rules
-
-is-provisioned-requires : tie.Need-is-provisioned-requires
-is-provisioned-requires c κs = search rules
+is-owner-requires : tie.Need-is-owner-requires
+is-owner-requires c κs = search rules
 
 returns : tie.Need-returns
 returns c = search rules
@@ -22,11 +19,4 @@ returns-2 c = search rules
 
 pub is-keepable-spec : {M : Type 1} → statement M
 is-keepable-spec =
-    tie.close
-    (tie.spec
-    number16-requires
-    cast-is-provisioned
-    is-provisioned-requires
-    returns
-    number16-requires-2
-    returns-2)
+    tie.close (tie.spec number16-requires is-owner-requires returns number16-requires-2 returns-2)

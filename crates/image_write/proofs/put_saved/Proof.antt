@@ -1,40 +1,97 @@
+use Prim.Native.Nat.{_-_}
+use mathlib.Core.Logic.{⊎-elim}
+use Rattle.rows.proofs.Loops.{WroteChosen}
+use Rattle.table.specs.Table.{places}
+use Rattle.image.specs.Image.{savedAt, savedSize, savedBytes, savedRow, isSavedOne}
 use Rattle.image_write.proofs.Rules.{rules}
 use Rattle.image_write.proofs.put_saved.Statement.{statement}
 use Rattle.image_write.proofs.put_saved.Tie as tie
 
-put-number16-requires : tie.Need-put-number16-requires
-put-number16-requires c κs = search rules
+abbrev Inv-loop : tie.InvT-loop
+Inv-loop buffer₀ n stand k₀ i₀ buffer k i = WroteChosen isSavedOne savedRow savedBytes savedSize savedAt places stand n buffer₀ buffer k i
 
-put-number16-requires-2 : tie.Need-put-number16-requires-2
-put-number16-requires-2 c κs = search rules
+abbrev μ-loop : tie.MeasureT-loop
+μ-loop buffer₀ n stand k₀ i₀ buffer k i = n - i
 
-sub-put-name : tie.Need-sub-put-name
-sub-put-name c = search rules
+size-requires : tie.Need-size-requires Inv-loop μ-loop
+size-requires c κs = search rules
 
-part-put-name-start : tie.Need-part-put-name-start
-part-put-name-start c = search rules
+loop-holds : tie.Need-loop-holds Inv-loop μ-loop
+loop-holds c = search rules
 
-part-put-name-end : tie.Need-part-put-name-end
-part-put-name-end c = search rules
+mul-p : tie.Need-mul-p Inv-loop μ-loop
+mul-p c = search rules
 
-put-name-requires : tie.Need-put-name-requires
-put-name-requires c κs = search rules
+array-copy-out-p : tie.Need-array-copy-out-p Inv-loop μ-loop
+array-copy-out-p c = search rules
 
-same-length : tie.Need-same-length
+is-saved-one-requires : tie.Need-is-saved-one-requires Inv-loop μ-loop
+is-saved-one-requires c κs = search rules
+
+mul-a : tie.Need-mul-a Inv-loop μ-loop
+mul-a c = search rules
+
+add-a : tie.Need-add-a Inv-loop μ-loop
+add-a c = search rules
+
+add-e : tie.Need-add-e Inv-loop μ-loop
+add-e c = search rules
+
+sub-put-saved-row : tie.Need-sub-put-saved-row Inv-loop μ-loop
+sub-put-saved-row c = search rules
+
+part-put-saved-row-start : tie.Need-part-put-saved-row-start Inv-loop μ-loop
+part-put-saved-row-start c = search rules
+
+part-put-saved-row-end : tie.Need-part-put-saved-row-end Inv-loop μ-loop
+part-put-saved-row-end c = search rules
+
+saved-row-requires : tie.Need-saved-row-requires Inv-loop μ-loop
+saved-row-requires c κs = search rules
+
+put-saved-row-requires : tie.Need-put-saved-row-requires Inv-loop μ-loop
+put-saved-row-requires c κs = search rules
+
+add-k : tie.Need-add-k Inv-loop μ-loop
+add-k c = search rules
+
+add-i : tie.Need-add-i Inv-loop μ-loop
+add-i c = search rules
+
+loop-less : tie.Need-loop-less Inv-loop μ-loop
+loop-less c = search rules
+
+loop-again : tie.Need-loop-again Inv-loop μ-loop
+loop-again c = ⊎-elim (λ w. search rules) (λ w. search rules) (c .if1 .came)
+
+same-length : tie.Need-same-length Inv-loop μ-loop
 same-length c = search rules
 
-returns : tie.Need-returns
+returns : tie.Need-returns Inv-loop μ-loop
 returns c = search rules
 
 pub put-saved-spec : {M : Type 1} → statement M
 put-saved-spec =
     tie.close
     (tie.spec
-    put-number16-requires
-    put-number16-requires-2
-    sub-put-name
-    part-put-name-start
-    part-put-name-end
-    put-name-requires
+    Inv-loop
+    μ-loop
+    size-requires
+    loop-holds
+    mul-p
+    array-copy-out-p
+    is-saved-one-requires
+    mul-a
+    add-a
+    add-e
+    sub-put-saved-row
+    part-put-saved-row-start
+    part-put-saved-row-end
+    saved-row-requires
+    put-saved-row-requires
+    add-k
+    add-i
+    loop-less
+    loop-again
     same-length
     returns)

@@ -2,8 +2,8 @@ use Rattle.image_write.proofs.Rules.{rules}
 use Rattle.image_write.proofs.write_image.Statement.{statement}
 use Rattle.image_write.proofs.write_image.Tie as tie
 
-count-kept-requires : tie.Need-count-kept-requires
-count-kept-requires c κs = search rules
+count-saved-requires : tie.Need-count-saved-requires
+count-saved-requires c κs = search rules
 
 mul-long : tie.Need-mul-long
 mul-long c = search rules
@@ -17,17 +17,20 @@ returns c = search rules
 mask-of-requires : tie.Need-mask-of-requires
 mask-of-requires c κs = search rules
 
-cast-put-head : tie.Need-cast-put-head
-cast-put-head c = search rules
+cast-put-numbers : tie.Need-cast-put-numbers
+cast-put-numbers c = search rules
 
-put-head-requires : tie.Need-put-head-requires
-put-head-requires c κs = search rules
+cast-put-numbers-2 : tie.Need-cast-put-numbers-2
+cast-put-numbers-2 c = search rules
+
+put-numbers-requires : tie.Need-put-numbers-requires
+put-numbers-requires c κs = search rules
 
 put-words-requires : tie.Need-put-words-requires
 put-words-requires c κs = search rules
 
-put-rows-requires : tie.Need-put-rows-requires
-put-rows-requires c κs = search rules
+put-saved-requires : tie.Need-put-saved-requires
+put-saved-requires c κs = search rules
 
 same-length : tie.Need-same-length
 same-length c = search rules
@@ -39,14 +42,15 @@ pub write-image-spec : {M : Type 1} → statement M
 write-image-spec =
     tie.close
     (tie.spec
-    count-kept-requires
+    count-saved-requires
     mul-long
     add-long
     returns
     mask-of-requires
-    cast-put-head
-    put-head-requires
+    cast-put-numbers
+    cast-put-numbers-2
+    put-numbers-requires
     put-words-requires
-    put-rows-requires
+    put-saved-requires
     same-length
     returns-2)

@@ -1,6 +1,6 @@
 use Rattle.image_write.proofs.Rules.{rules}
-use Rattle.image_write.proofs.put_head.Statement.{statement}
-use Rattle.image_write.proofs.put_head.Tie as tie
+use Rattle.image_write.proofs.put_numbers.Statement.{statement}
+use Rattle.image_write.proofs.put_numbers.Tie as tie
 
 put-number16-requires : tie.Need-put-number16-requires
 put-number16-requires c κs = search rules
@@ -20,9 +20,6 @@ put-number16-requires-3 c κs = search rules
 put-number16-requires-4 : tie.Need-put-number16-requires-4
 put-number16-requires-4 c κs = search rules
 
-cast-put-number16-3 : tie.Need-cast-put-number16-3
-cast-put-number16-3 c = search rules
-
 put-number16-requires-5 : tie.Need-put-number16-requires-5
 put-number16-requires-5 c κs = search rules
 
@@ -32,8 +29,8 @@ same-length c = search rules
 returns : tie.Need-returns
 returns c = search rules
 
-pub put-head-spec : {M : Type 1} → statement M
-put-head-spec =
+pub put-numbers-spec : {M : Type 1} → statement M
+put-numbers-spec =
     tie.close
     (tie.spec
     put-number16-requires
@@ -42,7 +39,6 @@ put-head-spec =
     cast-put-number16-2
     put-number16-requires-3
     put-number16-requires-4
-    cast-put-number16-3
     put-number16-requires-5
     same-length
     returns)

@@ -1,6 +1,6 @@
 use Rattle.image_write.proofs.Rules.{rules}
-use Rattle.image_write.proofs.is_kept.Statement.{statement}
-use Rattle.image_write.proofs.is_kept.Tie as tie
+use Rattle.image_write.proofs.is_saved_one.Statement.{statement}
+use Rattle.image_write.proofs.is_saved_one.Tie as tie
 
 enum-told : tie.Need-enum-told
 enum-told c = search rules
@@ -20,5 +20,5 @@ returns-2 c = search rules
 returns-3 : tie.Need-returns-3
 returns-3 c = search rules
 
-pub is-kept-spec : {M : Type 1} → statement M
-is-kept-spec = tie.close (tie.spec enum-told enum-told-2 enum-told-3 returns returns-2 returns-3)
+pub is-saved-one-spec : {M : Type 1} → statement M
+is-saved-one-spec = tie.close (tie.spec enum-told enum-told-2 enum-told-3 returns returns-2 returns-3)

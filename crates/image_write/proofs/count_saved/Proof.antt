@@ -1,15 +1,14 @@
-use Rattle.image_write.proofs.Rules.{Counting}
 use Prim.Native.Nat.{_-_}
 use mathlib.Core.Logic.{⊎-elim}
-use Rattle.image_write.proofs.Rules.{rules}
-use Rattle.image_write.proofs.count_kept.Statement.{statement}
-use Rattle.image_write.proofs.count_kept.Tie as tie
+use Rattle.image_write.proofs.Rules.{Counting, rules}
+use Rattle.image_write.proofs.count_saved.Statement.{statement}
+use Rattle.image_write.proofs.count_saved.Tie as tie
 
 abbrev Inv-loop : tie.InvT-loop
-Inv-loop n places kept₀ i₀ kept i = Counting places n kept i
+Inv-loop n places saved₀ i₀ saved i = Counting places n saved i
 
 abbrev μ-loop : tie.MeasureT-loop
-μ-loop n places kept₀ i₀ kept i = n - i
+μ-loop n places saved₀ i₀ saved i = n - i
 
 size-requires : tie.Need-size-requires Inv-loop μ-loop
 size-requires c κs = search rules
@@ -23,11 +22,11 @@ mul-p c = search rules
 array-copy-out-p : tie.Need-array-copy-out-p Inv-loop μ-loop
 array-copy-out-p c = search rules
 
-is-kept-requires : tie.Need-is-kept-requires Inv-loop μ-loop
-is-kept-requires c κs = search rules
+is-saved-one-requires : tie.Need-is-saved-one-requires Inv-loop μ-loop
+is-saved-one-requires c κs = search rules
 
-add-kept : tie.Need-add-kept Inv-loop μ-loop
-add-kept c = search rules
+add-saved : tie.Need-add-saved Inv-loop μ-loop
+add-saved c = search rules
 
 add-i : tie.Need-add-i Inv-loop μ-loop
 add-i c = search rules
@@ -41,8 +40,8 @@ loop-again c = ⊎-elim (λ w. search rules) (λ w. search rules) (c .if1 .came)
 returns : tie.Need-returns Inv-loop μ-loop
 returns c = search rules
 
-pub count-kept-spec : {M : Type 1} → statement M
-count-kept-spec =
+pub count-saved-spec : {M : Type 1} → statement M
+count-saved-spec =
     tie.close
     (tie.spec
     Inv-loop
@@ -51,8 +50,8 @@ count-kept-spec =
     loop-holds
     mul-p
     array-copy-out-p
-    is-kept-requires
-    add-kept
+    is-saved-one-requires
+    add-saved
     add-i
     loop-less
     loop-again
