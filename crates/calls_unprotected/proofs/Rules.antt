@@ -28,20 +28,13 @@ use Rattle.calls.specs.declared.Outcome.{Outcome}
 use Rattle.calls.specs.Calls.{Continue, Drop, isFull, namedPlace, number, withTable, activated, protection, outcome}
 use Rattle.calls.proofs.Rules.{rules as calls-rules, by-refusal, by-effect, known-stop, known-pass, active-none, active-some, named-none, named-some, full-is, effect-continue, effect-drop}
 
--- ---- a test that a search answers
-module _ (n : ℕ) {t : Bool} where
-  pub found-hit : true ≡ t → n ≡ n when t
-  found-hit e = when-hit n e refl
+-- ---- a test that a search answers, and others after it
+module _ (n m : ℕ) {t : Bool} where
+  pub found-stop : T (ltb 0 n) → true ≡ t → n ≡ n when t ▸ m
+  found-stop some e = when-stop n e m some refl
 
-  pub none-miss : false ≡ t → 0 ≡ n when t
-  none-miss e = when-miss n e refl
-
-  module _ (m : ℕ) where
-    pub found-stop : T (ltb 0 n) → true ≡ t → n ≡ n when t ▸ m
-    found-stop some e = when-stop n e m some refl
-
-    pub none-pass : {r : ℕ} → false ≡ t → r ≡ m → r ≡ n when t ▸ m
-    none-pass e q = when-pass n e m refl q
+  pub none-pass : {r : ℕ} → false ≡ t → r ≡ m → r ≡ n when t ▸ m
+  none-pass e q = when-pass n e m refl q
 
 module _ (st : State) (m : ℕ) {n : ℕ} (e : n ≡ size (st .table)) where
   pub full-hit : 12 ≤ n → m ≡ m when isFull st
@@ -102,4 +95,4 @@ module _ (st : State) (s : Session) {entry : ℕ} {r : Outcome} (e : entry ≡ e
         by-effect st (Drop s) (part-pass _ e z (unless-miss 6 (active-some st (ElevationIn s) a h) refl)) refl q
         (effect-drop st x s (found-at (isActive (ElevationIn s)) (standing (st .table)) (sym a ∙ h) .is) b)
 
-pub ruleset rules = (calls-rules, found-hit, none-miss, found-stop, none-pass, full-hit, full-miss, continued-is, continue-unknown, continue-none, continue-active, continue-done, drop-unentered, drop-none, drop-done)
+pub ruleset rules = (calls-rules, found-stop, none-pass, full-hit, full-miss, continued-is, continue-unknown, continue-none, continue-active, continue-done, drop-unentered, drop-none, drop-done)
