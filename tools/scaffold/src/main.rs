@@ -89,7 +89,7 @@ fn each(
     for function in functions {
         let file = proof(crate_name, function);
         let Some(lines) = printed.get(*function) else {
-            println!("{}: the prover needs no such file", file.display());
+            println!("{}: the function is proved without it", file.display());
             all = false;
             continue;
         };
