@@ -53,10 +53,9 @@ fn proof(crate_name: &str, function: &str) -> PathBuf {
 
 /// The text of a file, or none where there is no such file.
 fn standing(file: &Path) -> io::Result<Option<String>> {
-    match fs::read_to_string(file) {
-        Ok(text) => Ok(Some(text)),
-        Err(e) if e.kind() == io::ErrorKind::NotFound => Ok(None),
-        Err(e) => Err(e),
+    match file.is_file() {
+        true => fs::read_to_string(file).map(Some),
+        false => Ok(None),
     }
 }
 
