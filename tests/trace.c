@@ -23,7 +23,7 @@ enum { BEGINS = 0, ENDS = 1, MARKS_SIZE = 4096 };
 
 enum { PLACES = SLAVOTUK_PROCESSES, NAME = SLAVOTUK_NAME_SIZE, PAIRS = PLACES * (PLACES - 1) / 2 };
 
-/* Where names lie in a state (docs/STATE.md) and in an image (docs/IMAGE.md): last in a place and in a row, and places last in a state. */
+/* Where names lie in a state (docs/STATE.md) and in an image (docs/IMAGE.md): last in a place, and places last; last in a row. */
 enum { NAME_IN_PLACE = 5, PLACE_SIZE = NAME_IN_PLACE + NAME, PLACES_AT = SLAVOTUK_STATE_SIZE - PLACE_SIZE * PLACES };
 enum { ROWS_AT = SLAVOTUK_IMAGE_HEADER_SIZE, ROW_SIZE = SLAVOTUK_IMAGE_ROW_SIZE, NAME_IN_ROW = ROW_SIZE - NAME };
 

@@ -65,6 +65,7 @@
 //! | [`message`] | all messages of 004 clause 9.2 |
 //! | [`entries`] | the archive's entries as they are, with numbers and byte slices |
 //! | [`Call`] | a call of an entry as a value |
+//! | [`SIGNATURES`] | the parameters of every entry, as text |
 //! | [`layout`] | where things lie in a state, an image and a listing |
 
 #![deny(missing_docs)]

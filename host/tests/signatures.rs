@@ -128,21 +128,13 @@ fn header() -> String {
     fs::read_to_string(root().join("include/slavotuk.h")).expect("the header is there")
 }
 
-/// The sources of all crates with entries.
+/// The sources of all libraries, of which some have entries.
 fn sources() -> String {
     let crates = fs::read_dir(root().join("crates")).expect("the crates are there");
     let folders = crates.map(|folder| folder.expect("a crate can be read").path());
-    let named = |folder: &PathBuf| {
-        folder
-            .file_name()
-            .unwrap()
-            .to_string_lossy()
-            .starts_with("entries_")
-    };
-    let source = |folder: PathBuf| {
-        fs::read_to_string(folder.join("src/lib.rt")).expect("a crate has its source")
-    };
-    folders.filter(named).map(source).collect()
+    folders
+        .filter_map(|folder| fs::read_to_string(folder.join("src/lib.rt")).ok())
+        .collect()
 }
 
 const NOTHING: [&str; 0] = [];

@@ -53,10 +53,9 @@ fn proof(crate_name: &str, function: &str) -> PathBuf {
 
 /// The text of a file, or none where there is no such file.
 fn standing(file: &Path) -> io::Result<Option<String>> {
-    match fs::read_to_string(file) {
-        Ok(text) => Ok(Some(text)),
-        Err(e) if e.kind() == io::ErrorKind::NotFound => Ok(None),
-        Err(e) => Err(e),
+    match file.is_file() {
+        true => fs::read_to_string(file).map(Some),
+        false => Ok(None),
     }
 }
 
@@ -89,7 +88,7 @@ fn each(
     for function in functions {
         let file = proof(crate_name, function);
         let Some(lines) = printed.get(*function) else {
-            println!("{}: the prover needs no such file", file.display());
+            println!("{}: the function is proved without it", file.display());
             all = false;
             continue;
         };
