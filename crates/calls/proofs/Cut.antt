@@ -8,13 +8,13 @@ use lib.Dec.{eqb}
 use borrow.Author.Tests.{eqb-true, eqb-false, eq-eqb, ne-eqb}
 use Rattle.lists.proofs.Tests.{split, and-left}
 use Rattle.names.specs.declared.Session.{Session}
-use Rattle.claims.specs.Numbers.{_when_, _unless_, _▸_}
-use Rattle.claims.specs.Claim.{checked, admitted, grantNumber, passedBy}
-use Rattle.claims.specs.declared.Checked.{Checked}
-use Rattle.claims.specs.declared.Claim.{Claim}
-use Rattle.claims.specs.declared.Class.{Class}
-use Rattle.claims.specs.declared.State.{State}
-use Rattle.claims.proofs.Laws.{stop, pass, rows, by-when, by-unless, by-then, by-grant, clear-first, clear-rest, checked-number}
+use Rattle.module_state.specs.Numbers.{_when_, _unless_, _▸_}
+use Rattle.module_state.specs.Claim.{checked, admitted, grantNumber, passedBy}
+use Rattle.module_state.specs.declared.Checked.{Checked}
+use Rattle.module_state.specs.declared.Claim.{Claim}
+use Rattle.module_state.specs.declared.Class.{Class}
+use Rattle.module_state.specs.declared.State.{State}
+use Rattle.module_state.proofs.Laws.{stop, pass, rows, by-when, by-unless, by-then, by-grant, clear-first, clear-rest, checked-number}
 use Rattle.calls.specs.Calls.{Call, Open, Close, Drop, Select, Start, Continue, Elevate, End, Record, ListProcesses, Kill, SetWord, listOthers, saveOwn, setWords, Protection, Free, Under, protection, Tests, endTests, recordTests, listTests, killTests, setWordTests, tests, asked, numberUnder, number, counted, effect, aheadNumber, protectedNumber, passes, refusedAfter, charged, left, outcome}
 use Rattle.calls.specs.declared.Outcome.{Outcome}
 use Rattle.calls.proofs.Laws.{outcome-done, refusal-leaves}

@@ -18,23 +18,23 @@ use Rattle.table.specs.Table.{standing, tableOf, isOf, isAmong, isNamed}
 use Rattle.table.specs.declared.Active.the-variants.{UserOf, ElevationIn}
 use Rattle.table.specs.declared.Among.the-variants.{All, Of}
 use Rattle.table.specs.declared.Process.{Process}
-use Rattle.claims.specs.Numbers as No
-use Rattle.claims.specs.Numbers.{_when_, _unless_, _▸_}
-use Rattle.claims.specs.Module.{isHandle, closedSession, phaseOf, isClosed, isChosen, grantsOf, provisioned, lookup, hasActive, activeProcess}
-use Rattle.claims.specs.Claim.{phaseNumber, entered, claimed, speaker, claimView, isSpent, turnNumber, claimNumber, checkNumber, checkOf, checked, admitted, lookupNumber, grantNumber}
-use Rattle.claims.specs.declared.Checked.{Checked}
-use Rattle.claims.specs.declared.Claim.{Claim}
-use Rattle.claims.specs.declared.Claim.the-variants.{Elevated, ByUser}
-use Rattle.claims.specs.declared.ClaimView.{ClaimView}
-use Rattle.claims.specs.declared.Class.{Class}
-use Rattle.claims.specs.declared.Grants.{Grants}
-use Rattle.claims.specs.declared.Lookup.the-variants.{NotGranted}
-use Rattle.claims.specs.declared.Phase.{Phase}
-use Rattle.claims.specs.declared.Phase.the-variants.{Chosen}
-use Rattle.claims.specs.declared.SessionState.{SessionState}
-use Rattle.claims.specs.declared.State.{State}
-use Rattle.claims.specs.declared.UserClaim.{UserClaim}
-use Rattle.claims.proofs.Laws.{unless-false, clear-first, clear-rest, clear-when, clear-unless, by-when, by-unless, by-then, by-grant, passed-check, passed-user}
+use Rattle.module_state.specs.Numbers as No
+use Rattle.module_state.specs.Numbers.{_when_, _unless_, _▸_}
+use Rattle.module_state.specs.Module.{isHandle, closedSession, phaseOf, isClosed, isChosen, grantsOf, provisioned, lookup, hasActive, activeProcess}
+use Rattle.module_state.specs.Claim.{phaseNumber, entered, claimed, speaker, claimView, isSpent, turnNumber, claimNumber, checkNumber, checkOf, checked, admitted, lookupNumber, grantNumber}
+use Rattle.module_state.specs.declared.Checked.{Checked}
+use Rattle.module_state.specs.declared.Claim.{Claim}
+use Rattle.module_state.specs.declared.Claim.the-variants.{Elevated, ByUser}
+use Rattle.module_state.specs.declared.ClaimView.{ClaimView}
+use Rattle.module_state.specs.declared.Class.{Class}
+use Rattle.module_state.specs.declared.Grants.{Grants}
+use Rattle.module_state.specs.declared.Lookup.the-variants.{NotGranted}
+use Rattle.module_state.specs.declared.Phase.{Phase}
+use Rattle.module_state.specs.declared.Phase.the-variants.{Chosen}
+use Rattle.module_state.specs.declared.SessionState.{SessionState}
+use Rattle.module_state.specs.declared.State.{State}
+use Rattle.module_state.specs.declared.UserClaim.{UserClaim}
+use Rattle.module_state.proofs.Laws.{unless-false, clear-first, clear-rest, clear-when, clear-unless, by-when, by-unless, by-then, by-grant, passed-check, passed-user}
 use Rattle.calls.specs.declared.Answer.the-variants.{Done, RefusedClaim}
 use Rattle.calls.specs.declared.Outcome.{Outcome}
 use Rattle.calls.specs.Calls.{Call, Open, Close, Select, Start, Continue, Elevate, Drop, End, Record, ListProcesses, Kill, SetWord, killOthers, isVersion, hasNamed, reach, endTests, recordTests, listTests, killTests, setWordTests, asked, number, counted, effect, protection, aheadNumber, protectedNumber, passes, charged, left, answerNumber, refusal, outcome, fresh}

@@ -6,10 +6,10 @@ use borrow.Author.Tests.{eq-eqb, ne-eqb, eqb-true, eqb-false}
 use lib.Dec.{eqb}
 use Rattle.lists.proofs.Tests.{split}
 use Rattle.names.specs.declared.Session.{Session}
-use Rattle.claims.specs.Claim.{checked}
-use Rattle.claims.specs.declared.Checked.{Checked}
-use Rattle.claims.specs.declared.Claim.{Claim}
-use Rattle.claims.specs.declared.State.{State}
+use Rattle.module_state.specs.Claim.{checked}
+use Rattle.module_state.specs.declared.Checked.{Checked}
+use Rattle.module_state.specs.declared.Claim.{Claim}
+use Rattle.module_state.specs.declared.State.{State}
 use Rattle.calls.specs.declared.Answer.the-variants.{Done}
 use Rattle.calls.specs.declared.Outcome.{Outcome}
 use Rattle.calls.specs.Calls.{Call, Protection, Free, Under, protection, tests, asked, number, effect, left, refusal, answerNumber, outcome}

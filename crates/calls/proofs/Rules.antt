@@ -26,21 +26,21 @@ use Rattle.table.specs.declared.Process.{Process}
 use Rattle.table.specs.declared.Table.{Table}
 use Rattle.table.proofs.Laws.{count-few}
 use Rattle.table.proofs.Searched.{found-at, found-none, found-place}
-use Rattle.claims.specs.Numbers.{_when_, _unless_, _▸_}
-use Rattle.claims.specs.Module.{isCredential, closedSession, unprovisioned, hasActive, activePlace, activeProcess}
-use Rattle.claims.specs.Claim.{isSpent, claimed, placed, checked, grantNumber}
-use Rattle.claims.specs.declared.Checked.{Checked}
-use Rattle.claims.specs.declared.Claim.{Claim}
-use Rattle.claims.specs.declared.Claim.the-variants.{Elevated, ByUser}
-use Rattle.claims.specs.declared.Class.{Class}
-use Rattle.claims.specs.declared.Grants.{Grants}
-use Rattle.claims.specs.declared.Phase.{Phase}
-use Rattle.claims.specs.declared.Phase.the-variants.{Closed, Opened, Chosen}
-use Rattle.claims.specs.declared.Placed.{Placed}
-use Rattle.claims.specs.declared.State.{State}
-use Rattle.claims.specs.declared.UserClaim.{UserClaim}
-use Rattle.claims.proofs.Laws.{clear-first, clear-rest, stop, pass, rows, when-true, when-false, unless-true, unless-false, passed-user, checked-number, checked-place}
-use Rattle.claims.proofs.Rules.{rules as claim-rules, nonzero}
+use Rattle.module_state.specs.Numbers.{_when_, _unless_, _▸_}
+use Rattle.module_state.specs.Module.{isCredential, closedSession, unprovisioned, hasActive, activePlace, activeProcess}
+use Rattle.module_state.specs.Claim.{isSpent, claimed, placed, checked, grantNumber}
+use Rattle.module_state.specs.declared.Checked.{Checked}
+use Rattle.module_state.specs.declared.Claim.{Claim}
+use Rattle.module_state.specs.declared.Claim.the-variants.{Elevated, ByUser}
+use Rattle.module_state.specs.declared.Class.{Class}
+use Rattle.module_state.specs.declared.Grants.{Grants}
+use Rattle.module_state.specs.declared.Phase.{Phase}
+use Rattle.module_state.specs.declared.Phase.the-variants.{Closed, Opened, Chosen}
+use Rattle.module_state.specs.declared.Placed.{Placed}
+use Rattle.module_state.specs.declared.State.{State}
+use Rattle.module_state.specs.declared.UserClaim.{UserClaim}
+use Rattle.module_state.proofs.Laws.{clear-first, clear-rest, stop, pass, rows, when-true, when-false, unless-true, unless-false, passed-user, checked-number, checked-place}
+use Rattle.module_state.proofs.Rules.{rules as claim-rules, nonzero}
 use Rattle.calls.specs.declared.Answer.{Answer}
 use Rattle.calls.specs.declared.Answer.the-variants.{Done, Refused}
 use Rattle.calls.specs.declared.Listed.{Listed}

@@ -12,15 +12,15 @@ use Rattle.names.specs.declared.Credential.{Credential}
 use Rattle.names.specs.declared.Name.{Name}
 use Rattle.names.specs.declared.Session.{Session}
 use Rattle.table.specs.Table.{standing, size, tableOf, processAt, firstPlace, isActive, isActiveIn, isAmong, isNamed, appended, replaced, removed, withoutSession}
-use Rattle.claims.specs.Numbers.{_when_, _unless_, _▸_}
-use Rattle.claims.specs.Module.{isHandle, phaseOf, isClosed, isChosen, isCredential, grantsOf, provisioned, wordGrants, lookup, hasActive, activePlace, activeProcess}
-use Rattle.claims.specs.Claim.{phaseNumber, entered, claimed, speaker, claimView, isClaim, isSpent, turnNumber, claimNumber, checkNumber, placed, checkOf, checked, admitted, lookupNumber, grantNumber}
-use Rattle.claims.specs.declared.Claim.{Claim}
-use Rattle.claims.specs.declared.Claim.the-variants.{ByUser}
-use Rattle.claims.specs.declared.Class.{Class}
-use Rattle.claims.specs.declared.Grants.{Grants}
-use Rattle.claims.specs.declared.State.{State}
-use Rattle.claims.specs.declared.UserClaim.{UserClaim}
+use Rattle.module_state.specs.Numbers.{_when_, _unless_, _▸_}
+use Rattle.module_state.specs.Module.{isHandle, phaseOf, isClosed, isChosen, isCredential, grantsOf, provisioned, wordGrants, lookup, hasActive, activePlace, activeProcess}
+use Rattle.module_state.specs.Claim.{phaseNumber, entered, claimed, speaker, claimView, isClaim, isSpent, turnNumber, claimNumber, checkNumber, placed, checkOf, checked, admitted, lookupNumber, grantNumber}
+use Rattle.module_state.specs.declared.Claim.{Claim}
+use Rattle.module_state.specs.declared.Claim.the-variants.{ByUser}
+use Rattle.module_state.specs.declared.Class.{Class}
+use Rattle.module_state.specs.declared.Grants.{Grants}
+use Rattle.module_state.specs.declared.State.{State}
+use Rattle.module_state.specs.declared.UserClaim.{UserClaim}
 use Rattle.calls.specs.Listing.{rowsOf, messageLength, listing}
 use Rattle.calls.specs.Calls.{Call, isDevice, isVersion, isWanted, isFull, hasNamed, namedPlace, isOwn, isShort, reach, endTests, recordTests, listTests, killTests, setWordTests, tests, asked, numberUnder, number, counted, ended, effect, protection, aheadNumber, protectedNumber, passes, refusedAfter, charged, left, refusal, outcome, taken, fresh}
 use Rattle.calls.specs.Run.{step, run, numbers}

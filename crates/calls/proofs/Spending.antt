@@ -5,7 +5,7 @@ use mathlib.Core.Path.{_≡_, refl}
 use mathlib.Core.Bool.{true}
 use mathlib.Core.List.{List, [], _∷_, map}
 use Rattle.table.specs.Table.{standing}
-use Rattle.claims.specs.declared.Claim.the-variants.{Elevated}
+use Rattle.module_state.specs.declared.Claim.the-variants.{Elevated}
 use Rattle.calls.specs.declared.Wanted.the-variants.{Every, Only}
 use Rattle.calls.specs.Calls.{Call, Open, Select, Start, End, Record, ListProcesses, Kill, SetWord, number, left, fresh}
 use Rattle.calls.proofs.Sequences.{P, Q, R, pairs, name, session, credential, class, userYes, yes′, no′, Step, _⇒_, Answered, computed}

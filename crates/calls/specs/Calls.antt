@@ -16,19 +16,19 @@ use Rattle.table.specs.declared.Among.{Among}
 use Rattle.table.specs.declared.Among.the-variants.{All, Of, SavedOf}
 use Rattle.table.specs.declared.Process.{Process}
 use Rattle.table.specs.declared.Table.{Table}
-use Rattle.claims.specs.Numbers as No
-use Rattle.claims.specs.Numbers.{_when_, _unless_, _▸_}
-use Rattle.claims.specs.Module.{isHandle, closedSession, phaseOf, isClosed, isCredential, provisioned, hasActive, activePlace, activeProcess}
-use Rattle.claims.specs.Claim.{entered, checked, admitted, grantNumber}
-use Rattle.claims.specs.declared.Checked.{Checked}
-use Rattle.claims.specs.declared.Claim.{Claim}
-use Rattle.claims.specs.declared.Claim.the-variants.{Elevated, ByUser}
-use Rattle.claims.specs.declared.Class.{Class}
-use Rattle.claims.specs.declared.Grants.{Grants}
-use Rattle.claims.specs.declared.Phase.{Phase}
-use Rattle.claims.specs.declared.Phase.the-variants.{Closed, Opened, Chosen}
-use Rattle.claims.specs.declared.State.{State}
-use Rattle.claims.specs.declared.UserClaim.{UserClaim}
+use Rattle.module_state.specs.Numbers as No
+use Rattle.module_state.specs.Numbers.{_when_, _unless_, _▸_}
+use Rattle.module_state.specs.Module.{isHandle, closedSession, phaseOf, isClosed, isCredential, provisioned, hasActive, activePlace, activeProcess}
+use Rattle.module_state.specs.Claim.{entered, checked, admitted, grantNumber}
+use Rattle.module_state.specs.declared.Checked.{Checked}
+use Rattle.module_state.specs.declared.Claim.{Claim}
+use Rattle.module_state.specs.declared.Claim.the-variants.{Elevated, ByUser}
+use Rattle.module_state.specs.declared.Class.{Class}
+use Rattle.module_state.specs.declared.Grants.{Grants}
+use Rattle.module_state.specs.declared.Phase.{Phase}
+use Rattle.module_state.specs.declared.Phase.the-variants.{Closed, Opened, Chosen}
+use Rattle.module_state.specs.declared.State.{State}
+use Rattle.module_state.specs.declared.UserClaim.{UserClaim}
 use Rattle.calls.specs.declared.Answer.{Answer}
 use Rattle.calls.specs.declared.Answer.the-variants.{Done, Refused, RefusedClaim}
 use Rattle.calls.specs.declared.Listed.{Listed}

@@ -10,7 +10,7 @@ use Rattle.table.specs.Table.{standing, isAmong}
 use Rattle.table.specs.declared.Among.{Among}
 use Rattle.table.specs.declared.Among.the-variants.{All, Of}
 use Rattle.table.specs.declared.Process.{Process}
-use Rattle.claims.specs.declared.State.{State}
+use Rattle.module_state.specs.declared.State.{State}
 use Rattle.calls.specs.declared.Wanted.{Wanted}
 use Rattle.calls.specs.declared.Wanted.the-variants.{Every, Only}
 

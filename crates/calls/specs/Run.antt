@@ -1,7 +1,7 @@
 -- Calls one after another.
 use Prim.Native.Nat.{ℕ}
 use mathlib.Core.List.{List, [], _∷_}
-use Rattle.claims.specs.declared.State.{State}
+use Rattle.module_state.specs.declared.State.{State}
 use Rattle.calls.specs.Calls.{Call, number, outcome}
 
 -- the state after a call, refused or not

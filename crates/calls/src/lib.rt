@@ -1,9 +1,9 @@
 // What a call answers and leaves. `specs` defines each call; the code of its tests and of what it does is in the crates above.
 ghost use mathlib.Core.Path.{_≡_};
 ghost use Rattle.calls.specs.Calls.{answerNumber};
-use claims::Claim;
-use claims::DONE;
-use claims::State;
+use module_state::Claim;
+use module_state::DONE;
+use module_state::State;
 use names::Credential;
 
 // Whose processes a listing is to have.

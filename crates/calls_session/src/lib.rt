@@ -2,12 +2,12 @@
 ghost use mathlib.Core.Path.{_≡_};
 ghost use Rattle.calls.specs.Calls.{Open, Close, Select, isVersion, number, outcome};
 use calls::Outcome;
-use claims::ARGUMENT;
-use claims::DONE;
-use claims::Phase;
-use claims::SESSION;
-use claims::State;
-use claims::VERSION;
+use module_state::ARGUMENT;
+use module_state::DONE;
+use module_state::Phase;
+use module_state::SESSION;
+use module_state::State;
+use module_state::VERSION;
 use names::Session;
 
 // ---- open
@@ -15,10 +15,10 @@ use names::Session;
 fn open_number(st: State, s: Session) -> u8
     ensures { λ r. ⌜ r ≡ number st (Open s) ⌝ }
 {
-    if !claims::is_handle(s) {
+    if !module_state::is_handle(s) {
         return ARGUMENT;
     }
-    if !claims::is_closed(st, s) {
+    if !module_state::is_closed(st, s) {
         return SESSION;
     }
     DONE
@@ -29,9 +29,9 @@ pub fn open_session(st: State, s: Session) -> Outcome
 {
     let n = open_number(st, s);
     if n != DONE {
-        return effects::refused(st, n);
+        return calls_effects::refused(st, n);
     }
-    effects::accepted(effects::with_phase(st, s, Phase::Opened))
+    calls_effects::accepted(calls_effects::with_phase(st, s, Phase::Opened))
 }
 
 // ---- close
@@ -39,10 +39,10 @@ pub fn open_session(st: State, s: Session) -> Outcome
 fn close_number(st: State, s: Session) -> u8
     ensures { λ r. ⌜ r ≡ number st (Close s) ⌝ }
 {
-    if !claims::is_handle(s) {
+    if !module_state::is_handle(s) {
         return ARGUMENT;
     }
-    if claims::is_closed(st, s) {
+    if module_state::is_closed(st, s) {
         return SESSION;
     }
     DONE
@@ -53,11 +53,11 @@ pub fn close_session(st: State, s: Session) -> Outcome
 {
     let n = close_number(st, s);
     if n != DONE {
-        return effects::refused(st, n);
+        return calls_effects::refused(st, n);
     }
     let t = st.table;
-    let left = effects::with_table(st, table_removal::without_session(t, s));
-    effects::accepted(effects::with_phase(left, s, Phase::Closed))
+    let left = calls_effects::with_table(st, table_removal::without_session(t, s));
+    calls_effects::accepted(calls_effects::with_phase(left, s, Phase::Closed))
 }
 
 // ---- select
@@ -71,10 +71,10 @@ fn is_version(byte: u8) -> bool
 fn select_number(st: State, s: Session, byte: u8) -> u8
     ensures { λ r. ⌜ r ≡ number st (Select s byte) ⌝ }
 {
-    if !claims::is_handle(s) {
+    if !module_state::is_handle(s) {
         return ARGUMENT;
     }
-    if claims::is_closed(st, s) {
+    if module_state::is_closed(st, s) {
         return SESSION;
     }
     if !is_version(byte) {
@@ -89,7 +89,7 @@ pub fn select_version(st: State, s: Session, byte: u8) -> Outcome
 {
     let n = select_number(st, s, byte);
     if n != DONE {
-        return effects::refused(st, n);
+        return calls_effects::refused(st, n);
     }
-    effects::accepted(effects::with_phase(st, s, Phase::Chosen))
+    calls_effects::accepted(calls_effects::with_phase(st, s, Phase::Chosen))
 }

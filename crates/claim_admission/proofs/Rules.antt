@@ -7,11 +7,11 @@ use native.Mathlib.Omega.{arith}
 use lib.ListN.{List·getD-eq-default}
 use borrow.Author.Needs.{needs}
 use Rattle.lists.proofs.Lists.{length-mapped}
-use Rattle.claims.specs.declared.ClaimView.{ClaimView}
-use Rattle.claims.specs.declared.State.{State}
-use Rattle.claims.specs.declared.Claim.{Claim}
-use Rattle.claims.specs.declared.Grants.{Grants}
-use Rattle.claims.specs.declared.Phase.{Phase}
+use Rattle.module_state.specs.declared.ClaimView.{ClaimView}
+use Rattle.module_state.specs.declared.State.{State}
+use Rattle.module_state.specs.declared.Claim.{Claim}
+use Rattle.module_state.specs.declared.Grants.{Grants}
+use Rattle.module_state.specs.declared.Phase.{Phase}
 use Rattle.names.specs.declared.Credential.{Credential}
 use Rattle.names.specs.declared.Session.{Session}
 use Rattle.table.specs.Table.{standing, size, freePlace, processAt, isActive, firstPlace}
@@ -20,9 +20,9 @@ use Rattle.table.specs.declared.Found.{Found}
 use Rattle.table.specs.declared.Found.the-variants.{At, Nothing}
 use Rattle.table.specs.declared.Process.{Process}
 use Rattle.table.specs.declared.Table.{Table}
-use Rattle.claims.specs.Module.{phaseOf, grantsOf}
-use Rattle.claims.specs.Claim.{claimed, speaksFor, processFound, claimView}
-use Rattle.claims.proofs.Laws.{view-of, checked-is}
+use Rattle.module_state.specs.Module.{phaseOf, grantsOf}
+use Rattle.module_state.specs.Claim.{claimed, speaksFor, processFound, claimView}
+use Rattle.module_state.proofs.Laws.{view-of, checked-is}
 
 -- ---- the process of a claim
 module _ (t : Table) {f : Found} {p : Process} where

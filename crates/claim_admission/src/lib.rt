@@ -1,10 +1,10 @@
 // The check of a claim on a state by value.
 ghost use mathlib.Core.Path.{_≡_};
-ghost use Rattle.claims.specs.Claim.{processFound, claimView, checked};
-use claims::Checked;
-use claims::Claim;
-use claims::ClaimView;
-use claims::State;
+ghost use Rattle.module_state.specs.Claim.{processFound, claimView, checked};
+use module_state::Checked;
+use module_state::Claim;
+use module_state::ClaimView;
+use module_state::State;
 use names::Session;
 use table::Found;
 use table::Process;
@@ -29,11 +29,11 @@ fn claim_view(st: State, s: Session, claim: Claim) -> ClaimView
     let owner = p.credential;
     let c = claim_check::speaks_for(claim, owner);
     ClaimView {
-        phase: claims::phase_of(st, s),
+        phase: module_state::phase_of(st, s),
         found: found,
         next: p.next,
         credential: c,
-        grants: claims::grants_of(st, c),
+        grants: module_state::grants_of(st, c),
     }
 }
 

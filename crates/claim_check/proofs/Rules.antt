@@ -5,23 +5,23 @@ use mathlib.Core.Path.{_≡_, refl, sym, _∙_}
 use mathlib.Core.Bool.{Bool, true, false, not}
 use lib.Dec.{T, eqb, ltb}
 use borrow.Author.Tests.{eq-eqb, ne-eqb}
-use Rattle.claims.specs.declared.Checked.{Checked}
-use Rattle.claims.specs.declared.ClaimView.{ClaimView}
-use Rattle.claims.specs.declared.Claim.{Claim}
-use Rattle.claims.specs.declared.Claim.the-variants.{Elevated, ByUser}
-use Rattle.claims.specs.declared.Placed.{Placed}
-use Rattle.claims.specs.declared.UserClaim.{UserClaim}
+use Rattle.module_state.specs.declared.Checked.{Checked}
+use Rattle.module_state.specs.declared.ClaimView.{ClaimView}
+use Rattle.module_state.specs.declared.Claim.{Claim}
+use Rattle.module_state.specs.declared.Claim.the-variants.{Elevated, ByUser}
+use Rattle.module_state.specs.declared.Placed.{Placed}
+use Rattle.module_state.specs.declared.UserClaim.{UserClaim}
 use Rattle.names.specs.declared.Credential.{Credential}
 use Rattle.names.specs.declared.Session.{Session}
 use Rattle.table.specs.Table.{foundPlace}
 use Rattle.table.specs.declared.Active.the-variants.{UserOf, ElevationIn}
 use Rattle.table.specs.declared.Found.{Found}
 use Rattle.table.specs.declared.Found.the-variants.{At, Nothing}
-use Rattle.claims.specs.Numbers.{_unless_, _▸_}
-use Rattle.claims.specs.Module.{isCredential}
-use Rattle.claims.specs.Claim.{claimed, speaksFor, isClaim, isFound, isSpent, claimNumber, checkNumber, placed, checkOf, passedBy}
-use Rattle.claims.proofs.Laws.{stop, pass, unless-true, unless-false}
-use Rattle.claims.proofs.Rules.{rules as claims-rules, nonzero}
+use Rattle.module_state.specs.Numbers.{_unless_, _▸_}
+use Rattle.module_state.specs.Module.{isCredential}
+use Rattle.module_state.specs.Claim.{claimed, speaksFor, isClaim, isFound, isSpent, claimNumber, checkNumber, placed, checkOf, passedBy}
+use Rattle.module_state.proofs.Laws.{stop, pass, unless-true, unless-false}
+use Rattle.module_state.proofs.Rules.{rules as claims-rules, nonzero}
 
 -- ---- the claim, by its case
 pub spent-is : (next : ℕ) → eqb next 65535 ≡ isSpent next

@@ -1,19 +1,19 @@
 // The check of a claim, on what a state tells of it: once for all protected calls, wherever the state lies.
 ghost use mathlib.Core.Path.{_≡_};
 ghost use Rattle.table.specs.Table.{foundPlace};
-ghost use Rattle.claims.specs.Claim.{claimed, speaksFor, isClaim, isSpent, turnNumber, claimNumber, checkNumber, placed, checkOf, passedBy};
-use claims::ARGUMENT;
-use claims::CREDENTIAL;
-use claims::Checked;
-use claims::Claim;
-use claims::ClaimView;
-use claims::DONE;
-use claims::NO_PROCESS;
-use claims::OUT_OF_TURN;
-use claims::Placed;
-use claims::SPENT;
-use claims::UserClaim;
-use claims::VERDICT;
+ghost use Rattle.module_state.specs.Claim.{claimed, speaksFor, isClaim, isSpent, turnNumber, claimNumber, checkNumber, placed, checkOf, passedBy};
+use module_state::ARGUMENT;
+use module_state::CREDENTIAL;
+use module_state::Checked;
+use module_state::Claim;
+use module_state::ClaimView;
+use module_state::DONE;
+use module_state::NO_PROCESS;
+use module_state::OUT_OF_TURN;
+use module_state::Placed;
+use module_state::SPENT;
+use module_state::UserClaim;
+use module_state::VERDICT;
 use names::Credential;
 use names::Session;
 use table::Active;
@@ -25,7 +25,7 @@ fn is_claim(claim: Claim) -> bool
 {
     match claim {
         Claim::Elevated => true,
-        Claim::ByUser(u) => claims::is_credential(u.credential),
+        Claim::ByUser(u) => module_state::is_credential(u.credential),
     }
 }
 
@@ -81,7 +81,7 @@ fn elevated_number(view: ClaimView) -> Placed
 {
     let found = view.found;
     let Found::At(place) = found else {
-        return claims::refused(NO_PROCESS);
+        return module_state::refused(NO_PROCESS);
     };
     Placed {
         number: DONE,
@@ -93,15 +93,15 @@ fn user_number(u: UserClaim, view: ClaimView) -> Placed
     ensures { λ r. ⌜ r ≡ placed (claimNumber (Claim.ByUser u) view) (foundPlace 0 (view .found)) ⌝ }
 {
     if !view.grants.provisioned {
-        return claims::refused(CREDENTIAL);
+        return module_state::refused(CREDENTIAL);
     }
     let found = view.found;
     let Found::At(place) = found else {
-        return claims::refused(NO_PROCESS);
+        return module_state::refused(NO_PROCESS);
     };
     let turn = turn_number(view.next, u);
     if turn != DONE {
-        return claims::refused(turn);
+        return module_state::refused(turn);
     }
     Placed {
         number: DONE,
@@ -122,12 +122,12 @@ fn check_number(s: Session, claim: Claim, view: ClaimView) -> Placed
     ensures { λ r. ⌜ r ≡ placed (checkNumber s claim view) (foundPlace 0 (view .found)) ⌝ }
 {
     if !is_claim(claim) {
-        return claims::refused(ARGUMENT);
+        return module_state::refused(ARGUMENT);
     }
     let phase = view.phase;
-    let entry = claims::phase_number(s, phase);
+    let entry = module_state::phase_number(s, phase);
     if entry != DONE {
-        return claims::refused(entry);
+        return module_state::refused(entry);
     }
     claim_number(claim, view)
 }

@@ -12,13 +12,13 @@ use Rattle.names.specs.declared.Session.{Session}
 use Rattle.table.specs.Table.{processAt, replaced}
 use Rattle.table.specs.declared.Process.{Process}
 use Rattle.table.specs.declared.Table.{Table}
-use Rattle.claims.specs.Claim.{isSpent, checked, checkOf, passedBy}
-use Rattle.claims.specs.declared.Checked.{Checked}
-use Rattle.claims.specs.declared.Claim.{Claim}
-use Rattle.claims.specs.declared.Claim.the-variants.{Elevated, ByUser}
-use Rattle.claims.specs.declared.State.{State}
-use Rattle.claims.specs.declared.UserClaim.{UserClaim}
-use Rattle.claims.proofs.Laws.{passed-admitted}
+use Rattle.module_state.specs.Claim.{isSpent, checked, checkOf, passedBy}
+use Rattle.module_state.specs.declared.Checked.{Checked}
+use Rattle.module_state.specs.declared.Claim.{Claim}
+use Rattle.module_state.specs.declared.Claim.the-variants.{Elevated, ByUser}
+use Rattle.module_state.specs.declared.State.{State}
+use Rattle.module_state.specs.declared.UserClaim.{UserClaim}
+use Rattle.module_state.proofs.Laws.{passed-admitted}
 use Rattle.calls.specs.Calls.{Call, Under, protection, number, withTable, oneMore, counted, passes, charged, left, refusal, outcome}
 use Rattle.calls.specs.declared.Answer.the-variants.{RefusedClaim}
 use Rattle.calls.specs.declared.Outcome.{Outcome}

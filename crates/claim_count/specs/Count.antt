@@ -2,11 +2,11 @@
 use Prim.Native.Nat.{ℕ}
 use mathlib.Core.Bool.{cond}
 use Rattle.table.specs.Table.{processAt, replaced}
-use Rattle.claims.specs.Claim.{isSpent, passedBy}
-use Rattle.claims.specs.declared.Checked.{Checked}
-use Rattle.claims.specs.declared.Claim.{Claim}
-use Rattle.claims.specs.declared.Claim.the-variants.{Elevated, ByUser}
-use Rattle.claims.specs.declared.State.{State}
+use Rattle.module_state.specs.Claim.{isSpent, passedBy}
+use Rattle.module_state.specs.declared.Checked.{Checked}
+use Rattle.module_state.specs.declared.Claim.{Claim}
+use Rattle.module_state.specs.declared.Claim.the-variants.{Elevated, ByUser}
+use Rattle.module_state.specs.declared.State.{State}
 use Rattle.calls.specs.Calls.{withTable, oneMore}
 
 -- the next number of the process at a place, one more. One that is spent stays: no claim of such a process is admitted

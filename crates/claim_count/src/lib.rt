@@ -1,9 +1,9 @@
 // A claim that passed its check counted: a user claim adds one to its process's next number.
 ghost use mathlib.Core.Path.{_≡_};
 ghost use Rattle.claim_count.specs.Count.{countedAt, countedBy, chargedBy};
-use claims::Checked;
-use claims::Claim;
-use claims::State;
+use module_state::Checked;
+use module_state::Claim;
+use module_state::State;
 
 fn counted_at(st: State, at: usize) -> State
     ensures { λ r. ⌜ r ≡ countedAt st at ⌝ }
@@ -14,7 +14,7 @@ fn counted_at(st: State, at: usize) -> State
         return st;
     }
     p.next = p.next + 1;
-    effects::with_table(st, table_change::replaced(t, at, p))
+    calls_effects::with_table(st, table_change::replaced(t, at, p))
 }
 
 fn counted_by(st: State, claim: Claim, at: usize) -> State

@@ -11,10 +11,10 @@ use lib.ListN.{length}
 use Rattle.lists.proofs.Tests.{split}
 use Rattle.rows.specs.Rows.{over}
 use Rattle.rows.proofs.Over.{over-short}
-use Rattle.claims.specs.Numbers.{_when_, _unless_, _▸_}
-use Rattle.claims.specs.declared.State.{State}
-use Rattle.layout.specs.Layout.{stateLength, stateOf, stateWritten, holdsState}
-use Rattle.layout.proofs.Laws.{state-written}
+use Rattle.module_state.specs.Numbers.{_when_, _unless_, _▸_}
+use Rattle.module_state.specs.declared.State.{State}
+use Rattle.state_layout.specs.Layout.{stateLength, stateOf, stateWritten, holdsState}
+use Rattle.state_layout.proofs.Laws.{state-written}
 use Rattle.image.specs.declared.ImageRead.{ImageRead}
 use Rattle.image.specs.Image.{imageLong, stateImage, imageRoom, lacksRoom, isImage, restored, readImage, ImageWritten}
 use Rattle.entries_image.specs.Entries.{imageNumber, restoreNumber, ImageEntry, RestoreEntry}

@@ -6,9 +6,9 @@ use mathlib.Core.List.{List}
 use lib.Dec.{eqb}
 use lib.ListN.{length}
 use Rattle.rows.specs.Rows.{over}
-use Rattle.claims.specs.Numbers as No
-use Rattle.claims.specs.Numbers.{_when_, _unless_, _▸_}
-use Rattle.layout.specs.Layout.{stateLength, stateOf, stateBytes, holdsState}
+use Rattle.module_state.specs.Numbers as No
+use Rattle.module_state.specs.Numbers.{_when_, _unless_, _▸_}
+use Rattle.state_layout.specs.Layout.{stateLength, stateOf, stateBytes, holdsState}
 use Rattle.image.specs.Image.{stateImage, imageRoom, lacksRoom, isImage, restored}
 
 -- ---- the writer: 1 for "a slice that holds no state", 15 for a buffer that is too short

@@ -1,11 +1,11 @@
 // The image of a module as programs in C and Rust write it and restore a module from it: byte slices that they lend.
 ghost use mathlib.Core.Path.{_≡_};
 ghost use Rattle.entries_image.specs.Entries.{ImageEntry, RestoreEntry};
-use claims::ARGUMENT;
-use claims::DONE;
-use claims::MESSAGE;
-use claims::ROOM;
-use layout::STATE_LENGTH;
+use module_state::ARGUMENT;
+use module_state::DONE;
+use module_state::MESSAGE;
+use module_state::ROOM;
+use state_layout::STATE_LENGTH;
 
 #[no_mangle]
 pub extern "C" fn slavotuk_image(state: &[u8], image: &mut [u8], long: &mut usize) -> u32

@@ -1,23 +1,34 @@
 -- "Numbers a call can answer": no entry of a message answers a number over 15.
 -- Assumes nothing.
 use Prim.Native.Nat.{ℕ, _≤_}
+use mathlib.Core.Bool.{Bool}
 use mathlib.Core.List.{List}
+use native.Mathlib.Omega.{arith}
+use Rattle.lists.proofs.Tests.{split}
+use Rattle.rows.specs.Bytes.{byteOf}
 use Rattle.calls.proofs.Facts.{small-unless, small-when, small-then}
-use Rattle.wire.specs.Wire.{requestNumber, readRequest, requestRoom, countNumber, readCount, rowNumber, readRowAt}
-use Rattle.entries_messages.specs.Messages.{rowEntryNumber}
+use Rattle.message_fields_write.specs.Bodies.{numberFor}
+use Rattle.message_codes.specs.Codes.{pieceOf}
+use Rattle.message_write.specs.Written.{writeNumber, writePieceNumber}
+use Rattle.message_read.specs.Messages.{isMessage, readMessage}
+use Rattle.entries_messages.specs.Entries.{readMessageNumber, writeMessageNumber, readPieceNumber, putPieceNumber}
 
-pub request-small : (message : List ℕ) → readRequest message .number ≤ 15
-unfolding readRequest requestNumber
-request-small message = small-unless 14 _ tt
+message-small : (message : List ℕ) → readMessage message .number ≤ 15
+unfolding readMessage
+message-small message = split (isMessage message) (λ e. rw e (omega arith)) (λ e. rw e (omega arith))
 
-pub room-small : (buffer : List ℕ) → requestRoom buffer ≤ 15
-unfolding requestRoom
-room-small buffer = small-when 15 _ tt
+pub read-message-small : (message values : List ℕ) → readMessageNumber message values ≤ 15
+unfolding readMessageNumber
+read-message-small message values = small-then _ _ (small-unless 1 _ tt) (message-small message)
 
-pub count-small : (message : List ℕ) → readCount message .number ≤ 15
-unfolding readCount countNumber
-count-small message = small-unless 14 _ tt
+pub write-message-small : (code : ℕ) (values rest old : List ℕ) → writeMessageNumber code values rest old ≤ 15
+unfolding writeMessageNumber writeNumber numberFor
+write-message-small code values rest old = small-then _ _ (small-unless 1 _ tt) (small-then _ _ (small-when 15 _ tt) (small-unless 14 _ tt))
 
-pub row-small : (message : List ℕ) (at : ℕ) (name : List ℕ) → rowEntryNumber message at name ≤ 15
-unfolding rowEntryNumber readRowAt rowNumber countNumber
-row-small message at name = small-then _ _ (small-then _ _ (small-unless 14 _ tt) (small-unless 1 _ tt)) (small-unless 1 _ tt)
+pub read-piece-small : (kind : ℕ) (bytes values : List ℕ) → readPieceNumber kind bytes values ≤ 15
+unfolding readPieceNumber
+read-piece-small kind bytes values = small-then _ _ (small-unless 1 _ tt) (small-unless 14 _ tt)
+
+pub write-piece-small : (kind : ℕ) (values rest old : List ℕ) → putPieceNumber kind values rest old ≤ 15
+unfolding putPieceNumber writePieceNumber numberFor
+write-piece-small kind values rest old = small-then _ _ (small-unless 1 _ tt) (small-then _ _ (small-when 15 _ tt) (small-unless 14 _ tt))

@@ -5,41 +5,50 @@ use mathlib.Core.Path.{sym, ap, _∙_}
 use mathlib.Core.List.{[], _∷_}
 use denote.Ref.{now}
 use Rattle.lists.proofs.Once.{OneAnswer, OneContent}
-use Rattle.entries_messages.proofs.slavotuk_read_request.Kinds as read-request-kinds
-use Rattle.entries_messages.proofs.slavotuk_read_request.Reads as read-request-reads
-use Rattle.entries_messages.proofs.slavotuk_read_count.Kinds as read-count-kinds
-use Rattle.entries_messages.proofs.slavotuk_read_count.Reads as read-count-reads
-use Rattle.entries_messages.proofs.slavotuk_write_request.Kinds as write-request-kinds
-use Rattle.entries_messages.proofs.slavotuk_write_request.Reads as write-request-reads
-use Rattle.entries_messages.proofs.slavotuk_read_row.Kinds as read-row-kinds
-use Rattle.entries_messages.proofs.slavotuk_read_row.Reads as read-row-reads
+use Rattle.entries_messages.proofs.slavotuk_read_message.Kinds as read-message-kinds
+use Rattle.entries_messages.proofs.slavotuk_read_message.Reads as read-message-reads
+use Rattle.entries_messages.proofs.slavotuk_read_piece.Kinds as read-piece-kinds
+use Rattle.entries_messages.proofs.slavotuk_read_piece.Reads as read-piece-reads
+use Rattle.entries_messages.proofs.slavotuk_write_message.Kinds as write-message-kinds
+use Rattle.entries_messages.proofs.slavotuk_write_message.Reads as write-message-reads
+use Rattle.entries_messages.proofs.slavotuk_write_piece.Kinds as write-piece-kinds
+use Rattle.entries_messages.proofs.slavotuk_write_piece.Reads as write-piece-reads
 
-pub read-request-once : OneAnswer 2 read-request-kinds.ps read-request-kinds.r read-request-reads.Post
-read-request-once κs a x y s t p q = p .number-is ∙ sym (q .number-is)
+pub read-message-once : OneAnswer 3 read-message-kinds.ps read-message-kinds.r read-message-reads.Post
+read-message-once κs a x y s t p q = p .number-is ∙ sym (q .number-is)
 
-pub read-request-value : OneContent 2 read-request-kinds.ps read-request-kinds.r read-request-reads.Post (λ κs s. now (s .1 .0) ∷ [])
-read-request-value κs a x y s t p q = ap (λ (n : ℕ). n ∷ []) (p .value-is ∙ sym (q .value-is))
+pub read-message-values : OneContent 3 read-message-kinds.ps read-message-kinds.r read-message-reads.Post (λ κs s. now (s .1 .0))
+read-message-values κs a x y s t p q = p .values-are ∙ sym (q .values-are)
 
-pub read-count-once : OneAnswer 2 read-count-kinds.ps read-count-kinds.r read-count-reads.Post
-read-count-once κs a x y s t p q = p .number-is ∙ sym (q .number-is)
+pub read-message-rest : OneContent 3 read-message-kinds.ps read-message-kinds.r read-message-reads.Post (λ κs s. now (s .1 .1 .0) ∷ [])
+read-message-rest κs a x y s t p q = ap (λ (n : ℕ). n ∷ []) (p .rest-is ∙ sym (q .rest-is))
 
-pub read-count-value : OneContent 2 read-count-kinds.ps read-count-kinds.r read-count-reads.Post (λ κs s. now (s .1 .0) ∷ [])
-read-count-value κs a x y s t p q = ap (λ (n : ℕ). n ∷ []) (p .value-is ∙ sym (q .value-is))
+pub read-piece-once : OneAnswer 4 read-piece-kinds.ps read-piece-kinds.r read-piece-reads.Post
+read-piece-once κs a x y s t p q = p .number-is ∙ sym (q .number-is)
 
-pub write-request-once : OneAnswer 1 write-request-kinds.ps write-request-kinds.r write-request-reads.Post
-write-request-once κs a x y s t p q = p .0 ∙ sym (q .0)
+pub read-piece-values : OneContent 4 read-piece-kinds.ps read-piece-kinds.r read-piece-reads.Post (λ κs s. now (s .1 .1 .0))
+read-piece-values κs a x y s t p q = p .values-are ∙ sym (q .values-are)
 
-pub write-request-bytes : OneContent 1 write-request-kinds.ps write-request-kinds.r write-request-reads.Post (λ κs s. now (s .0))
-write-request-bytes κs a x y s t p q = p .1 ∙ sym (q .1)
+pub read-piece-rest : OneContent 4 read-piece-kinds.ps read-piece-kinds.r read-piece-reads.Post (λ κs s. now (s .1 .1 .1 .0) ∷ [])
+read-piece-rest κs a x y s t p q = ap (λ (n : ℕ). n ∷ []) (p .rest-is ∙ sym (q .rest-is))
 
-pub read-row-once : OneAnswer 4 read-row-kinds.ps read-row-kinds.r read-row-reads.Post
-read-row-once κs a x y s t p q = p .number-is ∙ sym (q .number-is)
+pub read-piece-next : OneContent 4 read-piece-kinds.ps read-piece-kinds.r read-piece-reads.Post (λ κs s. now (s .1 .1 .1 .1 .0) ∷ [])
+read-piece-next κs a x y s t p q = ap (λ (n : ℕ). n ∷ []) (p .next-is ∙ sym (q .next-is))
 
-pub read-row-credential : OneContent 4 read-row-kinds.ps read-row-kinds.r read-row-reads.Post (λ κs s. now (s .1 .1 .0) ∷ [])
-read-row-credential κs a x y s t p q = ap (λ (n : ℕ). n ∷ []) (p .credential-is ∙ sym (q .credential-is))
+pub write-message-once : OneAnswer 4 write-message-kinds.ps write-message-kinds.r write-message-reads.Post
+write-message-once κs a x y s t p q = p .number-is ∙ sym (q .number-is)
 
-pub read-row-kind : OneContent 4 read-row-kinds.ps read-row-kinds.r read-row-reads.Post (λ κs s. now (s .1 .1 .1 .0) ∷ [])
-read-row-kind κs a x y s t p q = ap (λ (n : ℕ). n ∷ []) (p .kind-is ∙ sym (q .kind-is))
+pub write-message-bytes : OneContent 4 write-message-kinds.ps write-message-kinds.r write-message-reads.Post (λ κs s. now (s .0))
+write-message-bytes κs a x y s t p q = p .bytes-are ∙ sym (q .bytes-are)
 
-pub read-row-name : OneContent 4 read-row-kinds.ps read-row-kinds.r read-row-reads.Post (λ κs s. now (s .1 .1 .1 .1 .0))
-read-row-name κs a x y s t p q = p .name-is ∙ sym (q .name-is)
+pub write-message-written : OneContent 4 write-message-kinds.ps write-message-kinds.r write-message-reads.Post (λ κs s. now (s .1 .1 .1 .1 .0) ∷ [])
+write-message-written κs a x y s t p q = ap (λ (n : ℕ). n ∷ []) (p .written-is ∙ sym (q .written-is))
+
+pub write-piece-once : OneAnswer 4 write-piece-kinds.ps write-piece-kinds.r write-piece-reads.Post
+write-piece-once κs a x y s t p q = p .number-is ∙ sym (q .number-is)
+
+pub write-piece-bytes : OneContent 4 write-piece-kinds.ps write-piece-kinds.r write-piece-reads.Post (λ κs s. now (s .0))
+write-piece-bytes κs a x y s t p q = p .bytes-are ∙ sym (q .bytes-are)
+
+pub write-piece-written : OneContent 4 write-piece-kinds.ps write-piece-kinds.r write-piece-reads.Post (λ κs s. now (s .1 .1 .1 .1 .0) ∷ [])
+write-piece-written κs a x y s t p q = ap (λ (n : ℕ). n ∷ []) (p .written-is ∙ sym (q .written-is))

@@ -15,18 +15,18 @@ use Rattle.names.specs.declared.Session.{Session}
 use Rattle.names.proofs.Laws.{RowFits}
 use Rattle.table.specs.Table.{standing, isAmong}
 use Rattle.table.specs.declared.Process.{Process}
-use Rattle.claims.specs.Numbers as No
-use Rattle.claims.specs.declared.Claim.{Claim}
-use Rattle.claims.proofs.Laws.{clear-first, clear-rest, clear-unless}
+use Rattle.module_state.specs.Numbers as No
+use Rattle.module_state.specs.declared.Claim.{Claim}
+use Rattle.module_state.proofs.Laws.{clear-first, clear-rest, clear-unless}
 use Rattle.calls.specs.Calls.{ListProcesses, number}
 use Rattle.calls.specs.Listing.{amongOf, rowOf, rowsOf}
 use Rattle.calls.specs.declared.Wanted.{Wanted}
-use Rattle.facts.specs.Facts.{FormedProcess, IsState}
-use Rattle.layout.specs.Layout.{stateOf, holdsState}
-use Rattle.layout.proofs.Laws.{holds-is}
-use Rattle.wire_listing.proofs.Laws.{rows-fit, rows-of}
-use Rattle.wire_listing.proofs.Back.{ReadsAs, listed-back}
-use Rattle.state_record.specs.Entry.{isMade, entryNumber}
+use Rattle.module_rules.specs.Facts.{FormedProcess, IsState}
+use Rattle.state_layout.specs.Layout.{stateOf, holdsState}
+use Rattle.state_layout.proofs.Laws.{holds-is}
+use Rattle.listing_call.proofs.Laws.{rows-fit, rows-of}
+use Rattle.listing_call.proofs.Back.{ReadsAs, listed-back}
+use Rattle.entries_record.specs.Entry.{isMade, entryNumber}
 use Rattle.entries_protected.specs.Listing.{entryResponse, entryLength, ListEntry}
 
 module _ {fine : Bool} {before old after new : List ℕ} {s : Session} {claim : Claim} {wanted : Wanted} {long : ℕ} (bytes : Bytes before) (e : ListEntry fine before s claim wanted old 0 after new long) where

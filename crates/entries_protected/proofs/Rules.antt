@@ -10,20 +10,20 @@ use borrow.Author.Tests.{not-true, not-false}
 use Rattle.names.specs.declared.Credential.{Credential}
 use Rattle.names.specs.declared.NameRead.{NameRead}
 use Rattle.names.specs.declared.Session.{Session}
-use Rattle.claims.specs.declared.Claim.{Claim}
-use Rattle.claims.specs.declared.Class.{Class}
-use Rattle.claims.specs.declared.State.{State}
-use Rattle.claims.specs.declared.UserClaim.{UserClaim}
+use Rattle.module_state.specs.declared.Claim.{Claim}
+use Rattle.module_state.specs.declared.Class.{Class}
+use Rattle.module_state.specs.declared.State.{State}
+use Rattle.module_state.specs.declared.UserClaim.{UserClaim}
 use Rattle.calls.specs.Calls.{Call, End, Record, Kill, SetWord, ListProcesses, listed}
 use Rattle.calls.specs.declared.Listed.{Listed}
 use Rattle.calls.specs.declared.Wanted.{Wanted}
-use Rattle.layout.specs.Layout.{stateOf}
-use Rattle.wire.specs.Wire.{listedBytes}
-use Rattle.state_record.specs.Entry.{isMade, Ready, Entry}
-use Rattle.state_record.proofs.Laws.{entry-none}
-use Rattle.state_store.specs.Stored.{Stored}
-use Rattle.state_store.proofs.Laws.{call-none, call-made}
-use Rattle.arguments.proofs.Rules.{fine-fits, fine-both}
+use Rattle.state_layout.specs.Layout.{stateOf}
+use Rattle.listing_messages.specs.Wire.{listedBytes}
+use Rattle.entries_record.specs.Entry.{isMade, Ready, Entry}
+use Rattle.entries_record.proofs.Laws.{entry-none}
+use Rattle.entries_store.specs.Stored.{Stored}
+use Rattle.entries_store.proofs.Laws.{call-none, call-made}
+use Rattle.entries_arguments.proofs.Rules.{fine-fits, fine-both}
 use Rattle.entries_protected.specs.Listing.{entryResponse, entryLength, ListEntry}
 
 -- ---- a record, which tests the slice itself

@@ -5,12 +5,12 @@ use mathlib.Core.Bool.{Bool, cond}
 use mathlib.Core.List.{List}
 use lib.ListN.{length}
 use Rattle.names.specs.declared.Session.{Session}
-use Rattle.claims.specs.declared.Claim.{Claim}
+use Rattle.module_state.specs.declared.Claim.{Claim}
 use Rattle.calls.specs.Calls.{ListProcesses, listed}
 use Rattle.calls.specs.declared.Wanted.{Wanted}
-use Rattle.layout.specs.Layout.{stateOf}
-use Rattle.wire.specs.Wire.{listedBytes}
-use Rattle.state_record.specs.Entry.{isMade, Entry}
+use Rattle.state_layout.specs.Layout.{stateOf}
+use Rattle.listing_messages.specs.Wire.{listedBytes}
+use Rattle.entries_record.specs.Entry.{isMade, Entry}
 
 -- where no call is made, the response stays and the length is 0
 unfoldable pub entryResponse : Bool → List ℕ → Session → Claim → Wanted → List ℕ → List ℕ

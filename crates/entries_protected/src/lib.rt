@@ -2,10 +2,10 @@
 ghost use mathlib.Core.Bool.{_&&_};
 ghost use Rattle.names.specs.Names.{readName};
 ghost use Rattle.calls.specs.Calls.{End, Record, Kill, SetWord};
-ghost use Rattle.state_record.specs.Entry.{Entry};
-ghost use Rattle.arguments.specs.Arguments.{sessionOf, classOf, credentialOf, wantedOf, isFlag, flagOf, userClaimOf, claimOf, isClaimed};
+ghost use Rattle.entries_record.specs.Entry.{Entry};
+ghost use Rattle.entries_arguments.specs.Arguments.{sessionOf, classOf, credentialOf, wantedOf, isFlag, flagOf, userClaimOf, claimOf, isClaimed};
 ghost use Rattle.entries_protected.specs.Listing.{ListEntry};
-use claims::ARGUMENT;
+use module_state::ARGUMENT;
 
 #[no_mangle]
 pub extern "C" fn slavotuk_end(
@@ -18,16 +18,16 @@ pub extern "C" fn slavotuk_end(
 ) -> u32
     ensures { λ r. ⌜ Entry (isFlag verdict && isFlag keep) (now (state .entry)) (End (sessionOf session) (userClaimOf credential number verdict) (flagOf keep)) r (now (state .exit)) ⌝ }
 {
-    if !state_record::is_ready(arguments::are_flags(verdict, keep), state) {
+    if !entries_record::is_ready(entries_arguments::are_flags(verdict, keep), state) {
         return ARGUMENT as u32;
     }
     let st = state_read::read(state);
-    state_store::store(
+    entries_store::store(
         state,
-        outcomes_ending::end(
+        calls_ending::end(
             st,
-            arguments::session_of(session),
-            arguments::user_claim_of(credential, number, verdict),
+            entries_arguments::session_of(session),
+            entries_arguments::user_claim_of(credential, number, verdict),
             keep == 1,
         ),
     )
@@ -45,14 +45,14 @@ pub extern "C" fn slavotuk_record(
 ) -> u32
     ensures { λ r. ⌜ Entry (isClaimed kind verdict) (now (state .entry)) (Record (sessionOf session) (claimOf kind credential number verdict) (classOf class)) r (now (state .exit)) ⌝ }
 {
-    if !arguments::is_claimed(kind, verdict) {
+    if !entries_arguments::is_claimed(kind, verdict) {
         return ARGUMENT as u32;
     }
-    state_record::record(
+    entries_record::record(
         state,
-        arguments::session_of(session),
-        arguments::claim_of(kind, credential, number, verdict),
-        arguments::class_of(class),
+        entries_arguments::session_of(session),
+        entries_arguments::claim_of(kind, credential, number, verdict),
+        entries_arguments::class_of(class),
     ) as u32
 }
 
@@ -70,21 +70,21 @@ pub extern "C" fn slavotuk_list(
 ) -> u32
     ensures { λ r. ⌜ ListEntry (isClaimed kind verdict) (now (state .entry)) (sessionOf session) (claimOf kind credential number verdict) (wantedOf wanted) (now (response .entry)) r (now (state .exit)) (now (response .exit)) (now (long .exit)) ⌝ }
 {
-    if !state_record::is_ready(arguments::is_claimed(kind, verdict), state) {
+    if !entries_record::is_ready(entries_arguments::is_claimed(kind, verdict), state) {
         *long = 0;
         return ARGUMENT as u32;
     }
     let st = state_read::read(state);
-    let listed = wire_listing::list(
+    let listed = listing_call::list(
         st,
-        arguments::session_of(session),
-        arguments::claim_of(kind, credential, number, verdict),
-        arguments::wanted_of(wanted),
+        entries_arguments::session_of(session),
+        entries_arguments::claim_of(kind, credential, number, verdict),
+        entries_arguments::wanted_of(wanted),
         response,
     );
     let outcome = listed.outcome;
     *long = listed.length;
-    state_store::store(state, outcome)
+    entries_store::store(state, outcome)
 }
 
 #[no_mangle]
@@ -100,19 +100,19 @@ pub extern "C" fn slavotuk_kill(
     ensures { λ r. ⌜ Entry (readName (now (name .entry)) .fits && isClaimed kind verdict) (now (state .entry)) (Kill (sessionOf session) (claimOf kind credential number verdict) (readName (now (name .entry)) .name)) r (now (state .exit)) ⌝ }
 {
     let read = names::read_name(name);
-    if !state_record::is_ready(
-        arguments::both(read.fits, arguments::is_claimed(kind, verdict)),
+    if !entries_record::is_ready(
+        entries_arguments::both(read.fits, entries_arguments::is_claimed(kind, verdict)),
         state,
     ) {
         return ARGUMENT as u32;
     }
     let st = state_read::read(state);
-    state_store::store(
+    entries_store::store(
         state,
-        outcomes_ending::kill(
+        calls_ending::kill(
             st,
-            arguments::session_of(session),
-            arguments::claim_of(kind, credential, number, verdict),
+            entries_arguments::session_of(session),
+            entries_arguments::claim_of(kind, credential, number, verdict),
             read.name,
         ),
     )
@@ -131,17 +131,17 @@ pub extern "C" fn slavotuk_set_word(
 ) -> u32
     ensures { λ r. ⌜ Entry (isClaimed kind verdict) (now (state .entry)) (SetWord (sessionOf session) (claimOf kind credential number verdict) (credentialOf target) word) r (now (state .exit)) ⌝ }
 {
-    if !state_record::is_ready(arguments::is_claimed(kind, verdict), state) {
+    if !entries_record::is_ready(entries_arguments::is_claimed(kind, verdict), state) {
         return ARGUMENT as u32;
     }
     let st = state_read::read(state);
-    state_store::store(
+    entries_store::store(
         state,
-        outcomes_standing::set_word(
+        calls_standing::set_word(
             st,
-            arguments::session_of(session),
-            arguments::claim_of(kind, credential, number, verdict),
-            arguments::credential_of(target),
+            entries_arguments::session_of(session),
+            entries_arguments::claim_of(kind, credential, number, verdict),
+            entries_arguments::credential_of(target),
             word,
         ),
     )

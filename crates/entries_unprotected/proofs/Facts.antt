@@ -6,11 +6,11 @@ use mathlib.Core.Bool.{true, _&&_}
 use mathlib.Core.List.{List}
 use lib.Dec.{eqb}
 use lib.ListN.{length}
-use Rattle.claims.specs.Numbers as No
-use Rattle.claims.specs.Numbers.{_unless_}
-use Rattle.claims.proofs.Laws.{clear-unless}
-use Rattle.layout.specs.Layout.{stateLength}
-use Rattle.arguments.specs.Arguments.{arePairs}
+use Rattle.module_state.specs.Numbers as No
+use Rattle.module_state.specs.Numbers.{_unless_}
+use Rattle.module_state.proofs.Laws.{clear-unless}
+use Rattle.state_layout.specs.Layout.{stateLength}
+use Rattle.entries_arguments.specs.Arguments.{arePairs}
 use Rattle.calls.proofs.Facts.{small-unless}
 use Rattle.entries_unprotected.specs.Fresh.{canFresh, FreshEntry}
 

@@ -14,17 +14,17 @@ use Rattle.lists.proofs.Tests.{and-right, and-left}
 use Rattle.names.specs.declared.Credential.{Credential}
 use Rattle.names.specs.declared.NameRead.{NameRead}
 use Rattle.names.specs.declared.Session.{Session}
-use Rattle.claims.specs.Module.{unprovisioned, credentialCount}
-use Rattle.claims.specs.Numbers.{_unless_}
-use Rattle.claims.specs.declared.Grants.{Grants}
-use Rattle.claims.specs.declared.State.{State}
+use Rattle.module_state.specs.Module.{unprovisioned, credentialCount}
+use Rattle.module_state.specs.Numbers.{_unless_}
+use Rattle.module_state.specs.declared.Grants.{Grants}
+use Rattle.module_state.specs.declared.State.{State}
 use Rattle.calls.specs.Calls.{Open, Close, Select, Start, Continue, Elevate, Drop, fresh}
-use Rattle.layout.specs.Layout.{stateLength, stateWritten, holdsState}
-use Rattle.layout.proofs.Laws.{state-written}
-use Rattle.state_record.specs.Entry.{holdsNumber}
-use Rattle.state_store.proofs.Laws.{call-none, call-made}
-use Rattle.arguments.specs.Arguments.{pairsOf, arePairs}
-use Rattle.arguments.proofs.Rules.{fine-fits, fine-both}
+use Rattle.state_layout.specs.Layout.{stateLength, stateWritten, holdsState}
+use Rattle.state_layout.proofs.Laws.{state-written}
+use Rattle.entries_record.specs.Entry.{holdsNumber}
+use Rattle.entries_store.proofs.Laws.{call-none, call-made}
+use Rattle.entries_arguments.specs.Arguments.{pairsOf, arePairs}
+use Rattle.entries_arguments.proofs.Rules.{fine-fits, fine-both}
 use Rattle.entries_unprotected.specs.Fresh.{canFresh, FreshEntry}
 use Rattle.entries_unprotected.specs.Version.{versionNumber, libraryVersion}
 

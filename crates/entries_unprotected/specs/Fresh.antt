@@ -5,11 +5,11 @@ use mathlib.Core.Bool.{Bool, cond, _&&_}
 use mathlib.Core.List.{List}
 use lib.Dec.{eqb}
 use lib.ListN.{length}
-use Rattle.claims.specs.Numbers as No
-use Rattle.claims.specs.Numbers.{_unless_}
+use Rattle.module_state.specs.Numbers as No
+use Rattle.module_state.specs.Numbers.{_unless_}
 use Rattle.calls.specs.Calls.{fresh}
-use Rattle.layout.specs.Layout.{stateLength, stateBytes}
-use Rattle.arguments.specs.Arguments.{pairsOf, arePairs}
+use Rattle.state_layout.specs.Layout.{stateLength, stateBytes}
+use Rattle.entries_arguments.specs.Arguments.{pairsOf, arePairs}
 
 -- "Making a fresh module tests only the length"
 unfoldable pub canFresh : List ℕ → List ℕ → List ℕ → Bool

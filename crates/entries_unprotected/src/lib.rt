@@ -5,17 +5,17 @@ ghost use mathlib.Core.Bool.{true, _&&_};
 ghost use lib.ListN.{length};
 ghost use Rattle.rows.specs.Bytes.{byteOf};
 ghost use Rattle.names.specs.Names.{readName};
-ghost use Rattle.claims.specs.Module.{credentialCount};
+ghost use Rattle.module_state.specs.Module.{credentialCount};
 ghost use Rattle.calls.specs.Calls.{Open, Close, Select, Start, Continue, Elevate, Drop};
-ghost use Rattle.state_record.specs.Entry.{holdsNumber, Entry};
-ghost use Rattle.arguments.specs.Arguments.{sessionOf, credentialOf, isFlag, flagOf, pairsOf};
+ghost use Rattle.entries_record.specs.Entry.{holdsNumber, Entry};
+ghost use Rattle.entries_arguments.specs.Arguments.{sessionOf, credentialOf, isFlag, flagOf, pairsOf};
 ghost use Rattle.entries_unprotected.specs.Fresh.{FreshEntry};
 ghost use Rattle.entries_unprotected.specs.Version.{libraryVersion};
-use claims::ARGUMENT;
-use claims::CREDENTIALS;
-use claims::DONE;
-use claims::Grants;
-use layout::STATE_LENGTH;
+use module_state::ARGUMENT;
+use module_state::CREDENTIALS;
+use module_state::DONE;
+use module_state::Grants;
+use state_layout::STATE_LENGTH;
 
 // ---- the calls
 
@@ -23,13 +23,13 @@ use layout::STATE_LENGTH;
 pub extern "C" fn slavotuk_open(state: &mut [u8], session: u32) -> u32
     ensures { λ r. ⌜ Entry true (now (state .entry)) (Open (sessionOf session)) r (now (state .exit)) ⌝ }
 {
-    if !state_record::is_ready(true, state) {
+    if !entries_record::is_ready(true, state) {
         return ARGUMENT as u32;
     }
     let st = state_read::read(state);
-    state_store::store(
+    entries_store::store(
         state,
-        calls_session::open_session(st, arguments::session_of(session)),
+        calls_session::open_session(st, entries_arguments::session_of(session)),
     )
 }
 
@@ -37,13 +37,13 @@ pub extern "C" fn slavotuk_open(state: &mut [u8], session: u32) -> u32
 pub extern "C" fn slavotuk_close(state: &mut [u8], session: u32) -> u32
     ensures { λ r. ⌜ Entry true (now (state .entry)) (Close (sessionOf session)) r (now (state .exit)) ⌝ }
 {
-    if !state_record::is_ready(true, state) {
+    if !entries_record::is_ready(true, state) {
         return ARGUMENT as u32;
     }
     let st = state_read::read(state);
-    state_store::store(
+    entries_store::store(
         state,
-        calls_session::close_session(st, arguments::session_of(session)),
+        calls_session::close_session(st, entries_arguments::session_of(session)),
     )
 }
 
@@ -51,15 +51,15 @@ pub extern "C" fn slavotuk_close(state: &mut [u8], session: u32) -> u32
 pub extern "C" fn slavotuk_select(state: &mut [u8], session: u32, version: u32) -> u32
     ensures { λ r. ⌜ Entry true (now (state .entry)) (Select (sessionOf session) (byteOf version)) r (now (state .exit)) ⌝ }
 {
-    if !state_record::is_ready(true, state) {
+    if !entries_record::is_ready(true, state) {
         return ARGUMENT as u32;
     }
     let st = state_read::read(state);
-    state_store::store(
+    entries_store::store(
         state,
         calls_session::select_version(
             st,
-            arguments::session_of(session),
+            entries_arguments::session_of(session),
             rows::byte_of(version as usize),
         ),
     )
@@ -75,16 +75,16 @@ pub extern "C" fn slavotuk_start(
     ensures { λ r. ⌜ Entry (readName (now (name .entry)) .fits) (now (state .entry)) (Start (sessionOf session) (credentialOf credential) (readName (now (name .entry)) .name)) r (now (state .exit)) ⌝ }
 {
     let read = names::read_name(name);
-    if !state_record::is_ready(read.fits, state) {
+    if !entries_record::is_ready(read.fits, state) {
         return ARGUMENT as u32;
     }
     let st = state_read::read(state);
-    state_store::store(
+    entries_store::store(
         state,
-        calls_unprotected::start(
+        calls_unprotected_tests::start(
             st,
-            arguments::session_of(session),
-            arguments::credential_of(credential),
+            entries_arguments::session_of(session),
+            entries_arguments::credential_of(credential),
             read.name,
         ),
     )
@@ -100,16 +100,16 @@ pub extern "C" fn slavotuk_continue(
     ensures { λ r. ⌜ Entry (readName (now (name .entry)) .fits) (now (state .entry)) (Continue (sessionOf session) (credentialOf credential) (readName (now (name .entry)) .name)) r (now (state .exit)) ⌝ }
 {
     let read = names::read_name(name);
-    if !state_record::is_ready(read.fits, state) {
+    if !entries_record::is_ready(read.fits, state) {
         return ARGUMENT as u32;
     }
     let st = state_read::read(state);
-    state_store::store(
+    entries_store::store(
         state,
-        calls_unprotected::continue_saved(
+        calls_unprotected_tests::continue_saved(
             st,
-            arguments::session_of(session),
-            arguments::credential_of(credential),
+            entries_arguments::session_of(session),
+            entries_arguments::credential_of(credential),
             read.name,
         ),
     )
@@ -126,19 +126,19 @@ pub extern "C" fn slavotuk_elevate(
     ensures { λ r. ⌜ Entry (readName (now (name .entry)) .fits && isFlag verdict) (now (state .entry)) (Elevate (sessionOf session) (credentialOf credential) (readName (now (name .entry)) .name) (flagOf verdict)) r (now (state .exit)) ⌝ }
 {
     let read = names::read_name(name);
-    if !state_record::is_ready(
-        arguments::both(read.fits, arguments::is_flag(verdict)),
+    if !entries_record::is_ready(
+        entries_arguments::both(read.fits, entries_arguments::is_flag(verdict)),
         state,
     ) {
         return ARGUMENT as u32;
     }
     let st = state_read::read(state);
-    state_store::store(
+    entries_store::store(
         state,
-        calls_unprotected::elevate(
+        calls_unprotected_tests::elevate(
             st,
-            arguments::session_of(session),
-            arguments::credential_of(credential),
+            entries_arguments::session_of(session),
+            entries_arguments::credential_of(credential),
             read.name,
             verdict == 1,
         ),
@@ -149,13 +149,13 @@ pub extern "C" fn slavotuk_elevate(
 pub extern "C" fn slavotuk_drop(state: &mut [u8], session: u32) -> u32
     ensures { λ r. ⌜ Entry true (now (state .entry)) (Drop (sessionOf session)) r (now (state .exit)) ⌝ }
 {
-    if !state_record::is_ready(true, state) {
+    if !entries_record::is_ready(true, state) {
         return ARGUMENT as u32;
     }
     let st = state_read::read(state);
-    state_store::store(
+    entries_store::store(
         state,
-        calls_unprotected::drop_elevation(st, arguments::session_of(session)),
+        calls_unprotected_tests::drop_elevation(st, entries_arguments::session_of(session)),
     )
 }
 
@@ -188,10 +188,10 @@ pub extern "C" fn slavotuk_fresh(state: &mut [u8], provisioned: &[u8], words: &[
     if state.len() != STATE_LENGTH {
         return ARGUMENT as u32;
     }
-    if !arguments::are_pairs(provisioned, words) {
+    if !entries_arguments::are_pairs(provisioned, words) {
         return ARGUMENT as u32;
     }
-    let next = effects::fresh(pairs_of(provisioned, words));
+    let next = calls_effects::fresh(pairs_of(provisioned, words));
     state_write::write(state, next);
     DONE as u32
 }

@@ -9,7 +9,7 @@ use Rattle.rows.specs.Bytes.{numberOf, numberAt}
 use Rattle.rows.specs.Rows.{rows, every, pairwise}
 use Rattle.names.specs.Names.{sameBytes, sameName}
 use Rattle.table.specs.Table.{tableOf}
-use Rattle.claims.specs.Module.{provisioned, wordGrants}
+use Rattle.module_state.specs.Module.{provisioned, wordGrants}
 use Rattle.image.specs.Image.{isRowOffset, imageLong, numbersIn, headIn, grantsSaid, grantsIn, savedFrom, savedIn, imageIn, isOwner, isKeepable, differ, headFits, wordFits, imageFits, isImage}
 use Rattle.image_figures.specs.Figures.{sum, largest, classesBelow, classesHeld, classesGranted, largestNext, figuresIn, isSaid, sizeSaid, isGood, lineOf}
 use Rattle.image_figures.specs.declared.Line.the-variants.{Bad, Good}

@@ -18,7 +18,7 @@ use Rattle.lists.proofs.Tests.{split, and-right}
 use Rattle.io.proofs.Counting.{front}
 use Rattle.rows.proofs.Rows.{map-append}
 use Rattle.table.specs.Table.{places}
-use Rattle.claims.specs.Module.{credentialCount}
+use Rattle.module_state.specs.Module.{credentialCount}
 use Rattle.image_figures.specs.Figures.{sum, classCount, lineOf, sizeSaid}
 use Rattle.image_figures.specs.declared.Figures.{Figures}
 use Rattle.image_figures.specs.declared.Line.{Line}

@@ -16,20 +16,20 @@ use Rattle.table.specs.Table.{freePlace}
 use Rattle.table.specs.declared.Active.the-variants.{UserOf}
 use Rattle.table.specs.declared.Process.{Process}
 use Rattle.table.proofs.Searched.{user-of}
-use Rattle.claims.specs.Numbers as No
-use Rattle.claims.specs.Numbers.{_when_, _unless_, _▸_}
-use Rattle.claims.specs.Module.{isHandle, phaseOf, isClosed, isChosen, hasActive, activePlace, activeProcess}
-use Rattle.claims.specs.Claim.{phaseNumber, entered, claimView, isClaim, isSpent, turnNumber, checkNumber, checkOf, checked, admitted}
-use Rattle.claims.specs.declared.Claim.the-variants.{ByUser}
-use Rattle.claims.specs.declared.State.{State}
-use Rattle.claims.specs.declared.UserClaim.{UserClaim}
-use Rattle.claims.proofs.Laws.{pass, unless-true, when-false, clear-first, clear-rest, clear-unless, passed-check, user-tests}
+use Rattle.module_state.specs.Numbers as No
+use Rattle.module_state.specs.Numbers.{_when_, _unless_, _▸_}
+use Rattle.module_state.specs.Module.{isHandle, phaseOf, isClosed, isChosen, hasActive, activePlace, activeProcess}
+use Rattle.module_state.specs.Claim.{phaseNumber, entered, claimView, isClaim, isSpent, turnNumber, checkNumber, checkOf, checked, admitted}
+use Rattle.module_state.specs.declared.Claim.the-variants.{ByUser}
+use Rattle.module_state.specs.declared.State.{State}
+use Rattle.module_state.specs.declared.UserClaim.{UserClaim}
+use Rattle.module_state.proofs.Laws.{pass, unless-true, when-false, clear-first, clear-rest, clear-unless, passed-check, user-tests}
 use Rattle.calls.specs.Calls.{Call, Open, Close, Drop, Select, Start, Continue, Elevate, End, Record, ListProcesses, Kill, SetWord, Under, protection, endTests, recordTests, listTests, killTests, setWordTests, number, aheadNumber, protectedNumber, passes}
 use Rattle.calls.specs.Run.{step, run}
 use Rattle.calls.proofs.Facts.{needs}
 use Rattle.calls.proofs.Laws.{answer-number}
 use Rattle.calls.proofs.Cut.{passed-ahead, number-stop, number-stopped}
-use Rattle.facts.specs.Facts.{processes, Rules}
+use Rattle.module_rules.specs.Facts.{processes, Rules}
 use Rattle.history.specs.Lives.{Life, Live, count, tellsPassed, told}
 use Rattle.history.specs.History.{event, history}
 use Rattle.history.specs.Demand.{IsPassedOf, Stays, look, Tells}

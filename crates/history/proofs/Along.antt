@@ -10,10 +10,10 @@ use lib.Dec.{eqb}
 use borrow.Author.Tests.{eqb-true}
 use Rattle.lists.proofs.Tests.{split}
 use Rattle.names.specs.declared.Name.{Name}
-use Rattle.claims.specs.Claim.{admitted}
-use Rattle.claims.specs.declared.Claim.the-variants.{ByUser}
-use Rattle.claims.specs.declared.State.{State}
-use Rattle.facts.specs.Facts.{processes, Rules}
+use Rattle.module_state.specs.Claim.{admitted}
+use Rattle.module_state.specs.declared.Claim.the-variants.{ByUser}
+use Rattle.module_state.specs.declared.State.{State}
+use Rattle.module_rules.specs.Facts.{processes, Rules}
 use Rattle.history.specs.Lives.{Life, Gone, Live, count, Event, withClaim, onward, follow, told}
 use Rattle.history.specs.Demand.{IsPassedOf, Stays, TwoPassed, look, Tells}
 use Rattle.history.specs.Steps.{Step, Steps, none, then}

@@ -15,15 +15,15 @@ use Rattle.names.proofs.Laws.{same→name}
 use Rattle.table.specs.Table.{isNamed, isAmong}
 use Rattle.table.specs.declared.Active.{Active}
 use Rattle.table.specs.declared.Active.the-variants.{UserOf}
-use Rattle.claims.specs.Module.{hasActive}
-use Rattle.claims.specs.Claim.{admitted}
-use Rattle.claims.specs.declared.Claim.the-variants.{ByUser}
-use Rattle.claims.specs.declared.State.{State}
-use Rattle.claims.specs.declared.UserClaim.{UserClaim}
+use Rattle.module_state.specs.Module.{hasActive}
+use Rattle.module_state.specs.Claim.{admitted}
+use Rattle.module_state.specs.declared.Claim.the-variants.{ByUser}
+use Rattle.module_state.specs.declared.State.{State}
+use Rattle.module_state.specs.declared.UserClaim.{UserClaim}
 use Rattle.calls.specs.Calls.{Call, Open, Close, Drop, Select, Start, Continue, Elevate, End, Record, ListProcesses, Kill, SetWord, Under, number, protection}
 use Rattle.calls.specs.Run.{step, run}
 use Rattle.calls.proofs.Laws.{answer-number}
-use Rattle.facts.specs.Facts.{processes, Rules}
+use Rattle.module_rules.specs.Facts.{processes, Rules}
 use Rattle.history.specs.Lives.{Life, Gone, Live, Raised, Kept, isGone, passed, count, isUserOf, sameSession, tellsPassed}
 use Rattle.history.specs.History.{ends, shuts, drops, resumes, after, event, history}
 use Rattle.history.specs.Demand.{look}

@@ -7,8 +7,8 @@ use mathlib.Core.List.{List, [], _∷_, _++_, map}
 use lib.ListN.{length, replicate}
 use Rattle.names.specs.declared.Name.{Name}
 use Rattle.table.specs.Table.{standing}
-use Rattle.claims.specs.declared.Claim.the-variants.{Elevated}
-use Rattle.claims.specs.declared.Grants.{Grants}
+use Rattle.module_state.specs.declared.Claim.the-variants.{Elevated}
+use Rattle.module_state.specs.declared.Grants.{Grants}
 use Rattle.calls.specs.Calls.{Call, Open, Close, Select, Start, Continue, Elevate, Drop, End, Record, ListProcesses, Kill, SetWord, listed, fresh}
 use Rattle.calls.specs.Listing.{rowsOf, listing}
 use Rattle.calls.specs.Run.{run}

@@ -11,22 +11,22 @@ use Rattle.table.specs.Table.{places, size, freePlace, isActive, isNamed}
 use Rattle.table.specs.declared.Active.{Active}
 use Rattle.table.specs.declared.Active.the-variants.{UserOf, ElevationIn}
 use Rattle.table.specs.declared.Among.the-variants.{All, SavedOf}
-use Rattle.claims.specs.Numbers as No
-use Rattle.claims.specs.Numbers.{_when_, _▸_}
-use Rattle.claims.specs.Module.{phaseOf, isClosed, isChosen, provisioned, hasActive, activePlace, activeProcess}
-use Rattle.claims.specs.Claim.{phaseNumber, entered, claimed, isSpent, checked, admitted}
-use Rattle.claims.specs.declared.Claim.{Claim}
-use Rattle.claims.specs.declared.Claim.the-variants.{Elevated, ByUser}
-use Rattle.claims.specs.declared.Phase.{Phase}
-use Rattle.claims.specs.declared.Phase.the-variants.{Closed, Opened, Chosen}
-use Rattle.claims.specs.declared.State.{State}
-use Rattle.claims.specs.declared.UserClaim.{UserClaim}
-use Rattle.claims.proofs.Laws.{clear-first, clear-rest, clear-when, clear-unless, passed-check, passed-user}
+use Rattle.module_state.specs.Numbers as No
+use Rattle.module_state.specs.Numbers.{_when_, _▸_}
+use Rattle.module_state.specs.Module.{phaseOf, isClosed, isChosen, provisioned, hasActive, activePlace, activeProcess}
+use Rattle.module_state.specs.Claim.{phaseNumber, entered, claimed, isSpent, checked, admitted}
+use Rattle.module_state.specs.declared.Claim.{Claim}
+use Rattle.module_state.specs.declared.Claim.the-variants.{Elevated, ByUser}
+use Rattle.module_state.specs.declared.Phase.{Phase}
+use Rattle.module_state.specs.declared.Phase.the-variants.{Closed, Opened, Chosen}
+use Rattle.module_state.specs.declared.State.{State}
+use Rattle.module_state.specs.declared.UserClaim.{UserClaim}
+use Rattle.module_state.proofs.Laws.{clear-first, clear-rest, clear-when, clear-unless, passed-check, passed-user}
 use Rattle.calls.specs.Calls.{Call, Open, Close, Drop, Select, Start, Continue, Elevate, End, Record, ListProcesses, Kill, SetWord, isFull, hasNamed, namedPlace, reach, killTests, setWordTests, number}
 use Rattle.calls.proofs.Cut.{accepted}
 use Rattle.lists.specs.Each.{Each}
 use Rattle.lists.proofs.Each.{Stands, found, each-fails}
-use Rattle.facts.specs.Facts.{processes}
+use Rattle.module_rules.specs.Facts.{processes}
 
 pub closed-not : (phase : Phase) → isClosed phase ≡ true → isChosen phase ≡ false
 unfolding isClosed isChosen

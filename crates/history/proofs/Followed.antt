@@ -24,12 +24,12 @@ use Rattle.table.specs.declared.Among.the-variants.{SavedOf}
 use Rattle.table.specs.declared.Process.{Process}
 use Rattle.table.proofs.Laws.{standing-appended, standing-replaced, standing-removed, standing-without-session}
 use Rattle.table.proofs.Searched.{named-name, named-among, saved-of}
-use Rattle.claims.specs.Module.{hasActive, activePlace, activeProcess}
-use Rattle.claims.specs.Claim.{checked}
-use Rattle.claims.specs.declared.Claim.{Claim}
-use Rattle.claims.specs.declared.Claim.the-variants.{Elevated, ByUser}
-use Rattle.claims.specs.declared.State.{State}
-use Rattle.claims.specs.declared.UserClaim.{UserClaim}
+use Rattle.module_state.specs.Module.{hasActive, activePlace, activeProcess}
+use Rattle.module_state.specs.Claim.{checked}
+use Rattle.module_state.specs.declared.Claim.{Claim}
+use Rattle.module_state.specs.declared.Claim.the-variants.{Elevated, ByUser}
+use Rattle.module_state.specs.declared.State.{State}
+use Rattle.module_state.specs.declared.UserClaim.{UserClaim}
 use Rattle.calls.specs.Calls.{Call, Open, Close, Drop, Select, Start, Continue, Elevate, End, Record, ListProcesses, Kill, SetWord, number, withTable, userProcess, elevation, activated, saved, oneMore, namedPlace, reach, counted, ended, effect, Protection, Free, Under, protection, protectedNumber, passes, charged}
 use Rattle.calls.specs.Run.{step}
 use Rattle.calls.proofs.Cut.{passed-claim, number-done, left-stopped, left-passed}
@@ -38,7 +38,7 @@ use Rattle.lists.specs.Each.{Each}
 use Rattle.history.specs.Lives.{Life, Gone, Live, Kept, counts, charges, tellsPassed, withClaim, onward, down}
 use Rattle.history.specs.History.{ends, shuts, drops, resumes, after, eventOf, event}
 use Rattle.history.specs.Demand.{life, lifeOf, look}
-use Rattle.facts.specs.Facts.{processes, Rules}
+use Rattle.module_rules.specs.Facts.{processes, Rules}
 use Rattle.lists.proofs.Each.{Stands, each-fails, each-imp, each-all, pairs-imp}
 use Rattle.history.proofs.Facts.{Added, Continued, ActiveStands, Admitted, Facts, facts, passed}
 use Rattle.history.proofs.Read.{reading}

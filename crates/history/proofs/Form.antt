@@ -21,18 +21,18 @@ use Rattle.table.specs.declared.Process.{Process}
 use Rattle.table.specs.declared.Table.{Table}
 use Rattle.table.proofs.Laws.{standing-of, whole-of, standing-appended, standing-replaced, standing-removed, standing-without-session}
 use Rattle.table.proofs.Searched.{user-of, named-among, saved-of}
-use Rattle.claims.specs.Module.{closedSession, phaseOf, isChosen, activePlace, activeProcess}
-use Rattle.claims.specs.Claim.{checked}
-use Rattle.claims.specs.declared.Claim.{Claim}
-use Rattle.claims.specs.declared.Claim.the-variants.{Elevated, ByUser}
-use Rattle.claims.specs.declared.Grants.{Grants}
-use Rattle.claims.specs.declared.Phase.{Phase}
-use Rattle.claims.specs.declared.State.{State}
-use Rattle.claims.specs.declared.UserClaim.{UserClaim}
+use Rattle.module_state.specs.Module.{closedSession, phaseOf, isChosen, activePlace, activeProcess}
+use Rattle.module_state.specs.Claim.{checked}
+use Rattle.module_state.specs.declared.Claim.{Claim}
+use Rattle.module_state.specs.declared.Claim.the-variants.{Elevated, ByUser}
+use Rattle.module_state.specs.declared.Grants.{Grants}
+use Rattle.module_state.specs.declared.Phase.{Phase}
+use Rattle.module_state.specs.declared.State.{State}
+use Rattle.module_state.specs.declared.UserClaim.{UserClaim}
 use Rattle.calls.specs.Calls.{Call, Open, Close, Drop, Select, Start, Continue, Elevate, End, Record, ListProcesses, Kill, SetWord, withTable, withPhase, withGrants, userProcess, elevation, activated, saved, oneMore, namedPlace, reach, counted, ended, effect, taken, fresh}
 use Rattle.calls.specs.Run.{step, run}
-use Rattle.facts.specs.Facts.{processes, Rules, FormedGrants, FormedProcess, IsState}
-use Rattle.facts.proofs.Laws.{provisioned-low, chosen-low}
+use Rattle.module_rules.specs.Facts.{processes, Rules, FormedGrants, FormedProcess, IsState}
+use Rattle.module_rules.proofs.Laws.{provisioned-low, chosen-low}
 use Rattle.history.specs.Fits.{IsWord, Fits, Eight}
 use Rattle.history.proofs.Facts.{Claimed, Admitted, Facts, facts}
 use Rattle.history.proofs.Tables.{rules-fresh}

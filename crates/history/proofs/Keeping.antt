@@ -21,20 +21,20 @@ use Rattle.table.specs.declared.Among.{Among}
 use Rattle.table.specs.declared.Process.{Process}
 use Rattle.table.proofs.Laws.{standing-of}
 use Rattle.table.proofs.Searched.{user-of, elevation-in, named-among, saved-of}
-use Rattle.claims.specs.Module.{activePlace, activeProcess}
-use Rattle.claims.specs.Claim.{checked}
-use Rattle.claims.specs.declared.Claim.{Claim}
-use Rattle.claims.specs.declared.Claim.the-variants.{Elevated, ByUser}
-use Rattle.claims.specs.declared.Phase.the-variants.{Closed, Opened}
-use Rattle.claims.specs.declared.State.{State}
+use Rattle.module_state.specs.Module.{activePlace, activeProcess}
+use Rattle.module_state.specs.Claim.{checked}
+use Rattle.module_state.specs.declared.Claim.{Claim}
+use Rattle.module_state.specs.declared.Claim.the-variants.{Elevated, ByUser}
+use Rattle.module_state.specs.declared.Phase.the-variants.{Closed, Opened}
+use Rattle.module_state.specs.declared.State.{State}
 use Rattle.calls.specs.Calls.{Call, Open, Close, Drop, Select, Start, Continue, Elevate, End, Record, ListProcesses, Kill, SetWord, withTable, userProcess, elevation, activated, saved, oneMore, namedPlace, counted, ended, effect, number, reach, Protection, Free, Under, protection, protectedNumber, refusedAfter, charged, left}
 use Rattle.calls.specs.declared.Outcome.{Outcome}
 use Rattle.calls.specs.Run.{step}
 use Rattle.calls.proofs.Cut.{after-passed}
 use Rattle.calls.proofs.Laws.{outcome-done, refusal-leaves}
 use Rattle.lists.specs.Each.{Each}
-use Rattle.facts.specs.Facts.{processes, Owned, Apart, Rules}
-use Rattle.facts.proofs.Laws.{apart-turn}
+use Rattle.module_rules.specs.Facts.{processes, Owned, Apart, Rules}
+use Rattle.module_rules.proofs.Laws.{apart-turn}
 use Rattle.lists.proofs.Each.{Stands, stands-set, each-imp, each-imp₂, each-at, each-remove, each-left, pairs-rest}
 use Rattle.history.proofs.Facts.{Added, Continued, Admitted, Facts, facts, passed}
 use Rattle.history.proofs.Tables.{rules-append, rules-set, rules-remove, rules-reject, rules-idle, rules-chosen, rules-grants, idle}

@@ -9,9 +9,9 @@ use lib.ListN.{length, length-append}
 use borrow.Author.Tests.{eq-eqb}
 use Rattle.lists.proofs.Tests.{split, clash}
 use Rattle.names.specs.declared.Session.{Session}
-use Rattle.claims.specs.declared.Claim.{Claim}
-use Rattle.claims.specs.declared.Claim.the-variants.{Elevated, ByUser}
-use Rattle.claims.specs.declared.UserClaim.{UserClaim}
+use Rattle.module_state.specs.declared.Claim.{Claim}
+use Rattle.module_state.specs.declared.Claim.the-variants.{Elevated, ByUser}
+use Rattle.module_state.specs.declared.UserClaim.{UserClaim}
 use Rattle.calls.specs.Calls.{Protection, Free, Under}
 use Rattle.history.specs.Lives.{Life, Gone, Live, Raised, Kept, isGone, passed, count, isUserOf, counts, charges, tellsPassed, Event, withClaim}
 use Rattle.history.specs.Demand.{IsPassedOf}

@@ -8,12 +8,12 @@ use lib.ListN.{length, getD, length-set}
 use Rattle.lists.proofs.Each.{same-set}
 use Rattle.names.specs.declared.Credential.{Credential}
 use Rattle.names.specs.declared.Session.{Session}
-use Rattle.claims.specs.Module.{unprovisioned, provisioned}
-use Rattle.claims.specs.declared.Claim.{Claim}
-use Rattle.claims.specs.declared.Claim.the-variants.{Elevated, ByUser}
-use Rattle.claims.specs.declared.Grants.{Grants}
-use Rattle.claims.specs.declared.State.{State}
-use Rattle.claims.specs.declared.UserClaim.{UserClaim}
+use Rattle.module_state.specs.Module.{unprovisioned, provisioned}
+use Rattle.module_state.specs.declared.Claim.{Claim}
+use Rattle.module_state.specs.declared.Claim.the-variants.{Elevated, ByUser}
+use Rattle.module_state.specs.declared.Grants.{Grants}
+use Rattle.module_state.specs.declared.State.{State}
+use Rattle.module_state.specs.declared.UserClaim.{UserClaim}
 use Rattle.calls.specs.Calls.{Call, Open, Close, Drop, Select, Start, Continue, Elevate, End, Record, ListProcesses, Kill, SetWord, withWord, counted, ended, effect}
 use Rattle.calls.specs.Run.{step, run}
 use Rattle.history.specs.History.{SameOwners}

@@ -12,16 +12,16 @@ use Rattle.table.specs.Table.{freePlace}
 use Rattle.table.specs.declared.Active.the-variants.{UserOf}
 use Rattle.table.specs.declared.Process.{Process}
 use Rattle.table.proofs.Searched.{user-of}
-use Rattle.claims.specs.Numbers.{_when_, _unless_, _▸_}
-use Rattle.claims.specs.Module.{provisioned, hasActive, activePlace}
-use Rattle.claims.specs.Claim.{phaseNumber, entered, claimed, claimView, turnNumber, checkNumber, checkOf, checked, admitted}
-use Rattle.claims.specs.declared.Claim.the-variants.{ByUser}
-use Rattle.claims.specs.declared.State.{State}
-use Rattle.claims.specs.declared.UserClaim.{UserClaim}
-use Rattle.claims.proofs.Laws.{unless-true, by-when, by-unless, by-then, claim-stands, user-tests}
+use Rattle.module_state.specs.Numbers.{_when_, _unless_, _▸_}
+use Rattle.module_state.specs.Module.{provisioned, hasActive, activePlace}
+use Rattle.module_state.specs.Claim.{phaseNumber, entered, claimed, claimView, turnNumber, checkNumber, checkOf, checked, admitted}
+use Rattle.module_state.specs.declared.Claim.the-variants.{ByUser}
+use Rattle.module_state.specs.declared.State.{State}
+use Rattle.module_state.specs.declared.UserClaim.{UserClaim}
+use Rattle.module_state.proofs.Laws.{unless-true, by-when, by-unless, by-then, claim-stands, user-tests}
 use Rattle.calls.specs.Calls.{Call, Under, number, protection, aheadNumber, protectedNumber, passes}
 use Rattle.calls.proofs.Cut.{upTo, passed-claim, passed-number-by, number-stop, ahead-one}
-use Rattle.facts.specs.Facts.{processes, Rules}
+use Rattle.module_rules.specs.Facts.{processes, Rules}
 use Rattle.history.specs.Lives.{tellsPassed}
 use Rattle.history.proofs.Facts.{stands}
 

@@ -12,7 +12,7 @@ use Rattle.lists.proofs.Tests.{split, clash, and-left, and-right}
 use Rattle.names.specs.declared.Credential.{Credential}
 use Rattle.names.specs.declared.Name.{Name}
 use Rattle.names.specs.declared.Session.{Session}
-use Rattle.claims.specs.declared.State.{State}
+use Rattle.module_state.specs.declared.State.{State}
 use Rattle.history.specs.Lives.{Life, Gone, Live, passed, count, Event, withClaim, onward, follow, told}
 use Rattle.history.specs.Steps.{onto, Step, Steps, none, then}
 use Rattle.history.specs.Since.{bare, toldSince, begins, isNew}

@@ -19,15 +19,15 @@ use Rattle.names.specs.declared.Session.{Session}
 use Rattle.table.specs.Table.{places, tableOf, isActiveIn}
 use Rattle.table.specs.declared.Process.{Process}
 use Rattle.table.proofs.Laws.{standing-of}
-use Rattle.claims.specs.Module.{closedSession, phaseOf, isChosen, unprovisioned, provisioned}
-use Rattle.claims.specs.declared.Grants.{Grants}
-use Rattle.claims.specs.declared.Phase.{Phase}
-use Rattle.claims.specs.declared.Phase.the-variants.{Chosen}
-use Rattle.claims.specs.declared.SessionState.{SessionState}
-use Rattle.claims.specs.declared.State.{State}
+use Rattle.module_state.specs.Module.{closedSession, phaseOf, isChosen, unprovisioned, provisioned}
+use Rattle.module_state.specs.declared.Grants.{Grants}
+use Rattle.module_state.specs.declared.Phase.{Phase}
+use Rattle.module_state.specs.declared.Phase.the-variants.{Chosen}
+use Rattle.module_state.specs.declared.SessionState.{SessionState}
+use Rattle.module_state.specs.declared.State.{State}
 use Rattle.calls.specs.Calls.{withTable, withPhase, withGrants, fresh}
-use Rattle.facts.specs.Facts.{processes, isRunning, Owned, Apart, Rules}
-use Rattle.facts.proofs.Laws.{apart-turn, active-in}
+use Rattle.module_rules.specs.Facts.{processes, isRunning, Owned, Apart, Rules}
+use Rattle.module_rules.proofs.Laws.{apart-turn, active-in}
 
 -- ---- the processes
 module _ (st : State) where

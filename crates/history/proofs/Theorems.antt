@@ -24,20 +24,20 @@ use Rattle.table.specs.Table.{size, freePlace, processAt, isElevation, isAmong}
 use Rattle.table.specs.declared.Active.the-variants.{UserOf}
 use Rattle.table.specs.declared.Process.{Process}
 use Rattle.table.proofs.Laws.{standing-of}
-use Rattle.claims.specs.Module.{hasActive, activeProcess}
-use Rattle.claims.specs.Claim.{admitted}
-use Rattle.claims.specs.declared.Claim.{Claim}
-use Rattle.claims.specs.declared.Grants.{Grants}
-use Rattle.claims.specs.declared.State.{State}
-use Rattle.claims.specs.declared.UserClaim.{UserClaim}
-use Rattle.claims.specs.declared.Claim.the-variants.{ByUser}
+use Rattle.module_state.specs.Module.{hasActive, activeProcess}
+use Rattle.module_state.specs.Claim.{admitted}
+use Rattle.module_state.specs.declared.Claim.{Claim}
+use Rattle.module_state.specs.declared.Grants.{Grants}
+use Rattle.module_state.specs.declared.State.{State}
+use Rattle.module_state.specs.declared.UserClaim.{UserClaim}
+use Rattle.module_state.specs.declared.Claim.the-variants.{ByUser}
 use Rattle.calls.specs.Calls.{Call, ListProcesses, Start, Under, number, protection, passes, listed, fresh}
 use Rattle.calls.specs.Listing.{amongOf, rowOf, rowsOf, messageLength}
 use Rattle.calls.specs.Run.{step, run, numbers}
 use Rattle.calls.specs.declared.Wanted.{Wanted}
 use Rattle.calls.proofs.Laws.{answer-number}
-use Rattle.facts.specs.Facts.{processes, Rules, at}
-use Rattle.facts.proofs.Laws as Facts
+use Rattle.module_rules.specs.Facts.{processes, Rules, at}
+use Rattle.module_rules.proofs.Laws as Facts
 use Rattle.history.specs.Lives.{Life, Live, tellsPassed, Event, onward, follow, told, nobody, passed, count, down}
 use Rattle.history.specs.History.{after, eventsOf, event, history}
 use Rattle.history.specs.Demand.{Carries, OfOneName, Demand3, ByPlaces, life, look, Tells, IsClaimOf}

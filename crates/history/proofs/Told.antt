@@ -23,13 +23,13 @@ use Rattle.table.specs.Table.{freePlace, processAt, isUser, isElevation, isActi
 use Rattle.table.specs.declared.Active.the-variants.{UserOf}
 use Rattle.table.specs.declared.Process.{Process}
 use Rattle.table.proofs.Searched.{user-of}
-use Rattle.claims.specs.Module.{hasActive, activePlace, activeProcess}
-use Rattle.claims.specs.Claim.{admitted}
-use Rattle.claims.specs.declared.State.{State}
-use Rattle.claims.specs.declared.UserClaim.{UserClaim}
-use Rattle.claims.specs.declared.Claim.the-variants.{ByUser}
-use Rattle.facts.specs.Facts.{processes, Rules}
-use Rattle.facts.proofs.Laws.{apart-turn}
+use Rattle.module_state.specs.Module.{hasActive, activePlace, activeProcess}
+use Rattle.module_state.specs.Claim.{admitted}
+use Rattle.module_state.specs.declared.State.{State}
+use Rattle.module_state.specs.declared.UserClaim.{UserClaim}
+use Rattle.module_state.specs.declared.Claim.the-variants.{ByUser}
+use Rattle.module_rules.specs.Facts.{processes, Rules}
+use Rattle.module_rules.proofs.Laws.{apart-turn}
 use Rattle.history.specs.Lives.{Life, Gone, Live, passed, count, down}
 use Rattle.history.specs.Demand.{life, lifeOf, look, Tells, IsClaimOf}
 use Rattle.history.proofs.Facts as Facts

@@ -1,6 +1,6 @@
 -- "one that serves the first record and afterwards only answers falls to the next number, as does an invented number, by demand 3's history"; and one whose
 -- refusals spend nothing. Of each such build, calls after which demand 3 is false of the history that they have with it and the state that it is left in. As edits
--- of the code: `first_record_only` and `invented_next_number` of claim_count, `number_not_tested` of claim_check, `refused_record_not_counted` of state_record.
+-- of the code: `first_record_only` and `invented_next_number` of claim_count, `number_not_tested` of claim_check, `refused_record_not_counted` of entries_record.
 -- Assumes nothing.
 use Prim.Native.Nat.{ℕ}
 use mathlib.Core.Path.{_≡_, refl}
@@ -13,11 +13,11 @@ use Rattle.names.specs.declared.Session.{Session}
 use Rattle.table.specs.Table.{freePlace, processAt, replaced}
 use Rattle.table.specs.declared.Active.the-variants.{UserOf}
 use Rattle.table.specs.declared.Process.{Process}
-use Rattle.claims.specs.Module.{activePlace, activeProcess}
-use Rattle.claims.specs.declared.Claim.{Claim}
-use Rattle.claims.specs.declared.Claim.the-variants.{Elevated, ByUser}
-use Rattle.claims.specs.declared.Class.{Class}
-use Rattle.claims.specs.declared.State.{State}
+use Rattle.module_state.specs.Module.{activePlace, activeProcess}
+use Rattle.module_state.specs.declared.Claim.{Claim}
+use Rattle.module_state.specs.declared.Claim.the-variants.{Elevated, ByUser}
+use Rattle.module_state.specs.declared.Class.{Class}
+use Rattle.module_state.specs.declared.State.{State}
 use Rattle.calls.specs.Calls.{Call, Open, Close, Drop, Select, Start, Continue, Elevate, End, Record, ListProcesses, Kill, SetWord, number, withTable, effect, protection, fresh}
 use Rattle.calls.specs.Run.{step}
 use Rattle.calls.proofs.Sequences.{P, pairs, session, credential, class, userYes, yes′}

@@ -14,13 +14,13 @@ use Rattle.names.specs.declared.Name.{Name}
 use Rattle.names.specs.declared.Session.{Session}
 use Rattle.table.specs.Table.{isElevation}
 use Rattle.table.specs.declared.Process.{Process}
-use Rattle.claims.specs.declared.Claim.{Claim}
-use Rattle.claims.specs.declared.Claim.the-variants.{ByUser}
-use Rattle.claims.specs.declared.State.{State}
-use Rattle.claims.specs.declared.UserClaim.{UserClaim}
+use Rattle.module_state.specs.declared.Claim.{Claim}
+use Rattle.module_state.specs.declared.Claim.the-variants.{ByUser}
+use Rattle.module_state.specs.declared.State.{State}
+use Rattle.module_state.specs.declared.UserClaim.{UserClaim}
 use Rattle.calls.specs.Calls.{Under, listed}
 use Rattle.calls.specs.declared.Wanted.{Wanted}
-use Rattle.facts.specs.Facts.{processes, Rules, IsTaken, at, RulesByPlaces}
+use Rattle.module_rules.specs.Facts.{processes, Rules, IsTaken, at, RulesByPlaces}
 use Rattle.history.specs.Lives.{Life, Gone, Live, Raised, Kept, count, tellsPassed, Event, onward, told, down}
 
 -- ---- claims that passed

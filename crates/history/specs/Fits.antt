@@ -6,8 +6,8 @@ use lib.ListN.{length}
 use Rattle.lists.specs.Each.{Each}
 use Rattle.names.specs.Names.{nameLength}
 use Rattle.names.specs.declared.Name.{Name}
-use Rattle.claims.specs.Module.{credentialCount}
-use Rattle.claims.specs.declared.Grants.{Grants}
+use Rattle.module_state.specs.Module.{credentialCount}
+use Rattle.module_state.specs.declared.Grants.{Grants}
 use Rattle.calls.specs.Calls.{Call, Open, Close, Drop, Select, Start, Continue, Elevate, End, Record, ListProcesses, Kill, SetWord}
 
 abbrev pub IsWhole : Name → Type 0

@@ -8,8 +8,8 @@ use Rattle.names.specs.Names.{sameName}
 use Rattle.names.specs.declared.Credential.{Credential}
 use Rattle.names.specs.declared.Name.{Name}
 use Rattle.names.specs.declared.Session.{Session}
-use Rattle.claims.specs.Module.{provisioned}
-use Rattle.claims.specs.declared.State.{State}
+use Rattle.module_state.specs.Module.{provisioned}
+use Rattle.module_state.specs.declared.State.{State}
 use Rattle.calls.specs.Calls.{Call, Open, Close, Drop, Select, Start, Continue, Elevate, End, Record, ListProcesses, Kill, SetWord, protection, answerNumber, outcome}
 use Rattle.calls.specs.Run.{step}
 use Rattle.history.specs.Lives.{Life, Gone, Live, Raised, Kept, sameSession, isUserOf, Event}

@@ -8,9 +8,9 @@ use lib.ListN.{length}
 use Rattle.names.specs.declared.Credential.{Credential}
 use Rattle.names.specs.declared.Name.{Name}
 use Rattle.names.specs.declared.Session.{Session}
-use Rattle.claims.specs.Numbers as No
-use Rattle.claims.specs.declared.Claim.{Claim}
-use Rattle.claims.specs.declared.Claim.the-variants.{Elevated, ByUser}
+use Rattle.module_state.specs.Numbers as No
+use Rattle.module_state.specs.declared.Claim.{Claim}
+use Rattle.module_state.specs.declared.Claim.the-variants.{Elevated, ByUser}
 use Rattle.calls.specs.Calls.{Protection, Free, Under}
 
 -- no process has the name; an active user process of a session and a credential has it; the elevation of a session, of a credential; a credential's

@@ -11,10 +11,10 @@ use Rattle.lists.specs.Each.{Each}
 use Rattle.names.specs.declared.Name.{Name}
 use Rattle.names.specs.declared.Session.{Session}
 use Rattle.table.specs.Table.{isElevation}
-use Rattle.claims.specs.Numbers as No
-use Rattle.claims.specs.declared.State.{State}
-use Rattle.claims.specs.declared.UserClaim.{UserClaim}
-use Rattle.facts.specs.Facts.{processes}
+use Rattle.module_state.specs.Numbers as No
+use Rattle.module_state.specs.declared.State.{State}
+use Rattle.module_state.specs.declared.UserClaim.{UserClaim}
+use Rattle.module_rules.specs.Facts.{processes}
 use Rattle.history.specs.Lives.{Life, Gone, Live, Raised, Kept, isGone, passed, count, Event, told}
 use Rattle.history.specs.Demand.{IsPassedOf, IsClaimOf, Demand3}
 

@@ -8,13 +8,13 @@ use mathlib.Core.List.{List, [], _∷_, _++_}
 use Rattle.names.specs.declared.Name.{Name}
 use Rattle.names.specs.declared.Session.{Session}
 use Rattle.table.specs.declared.Active.the-variants.{UserOf}
-use Rattle.claims.specs.Module.{hasActive}
-use Rattle.claims.specs.Claim.{admitted}
-use Rattle.claims.specs.Numbers as No
-use Rattle.claims.specs.declared.Claim.the-variants.{ByUser}
-use Rattle.claims.specs.declared.State.{State}
-use Rattle.claims.specs.declared.UserClaim.{UserClaim}
-use Rattle.facts.specs.Facts.{processes, Rules}
+use Rattle.module_state.specs.Module.{hasActive}
+use Rattle.module_state.specs.Claim.{admitted}
+use Rattle.module_state.specs.Numbers as No
+use Rattle.module_state.specs.declared.Claim.the-variants.{ByUser}
+use Rattle.module_state.specs.declared.State.{State}
+use Rattle.module_state.specs.declared.UserClaim.{UserClaim}
+use Rattle.module_rules.specs.Facts.{processes, Rules}
 use Rattle.history.specs.Lives.{Life, Gone, Live, Raised, Kept, isGone, count, tellsPassed, Event, withClaim, onward}
 use Rattle.history.specs.Demand.{Carries, look}
 

@@ -13,10 +13,10 @@ use Rattle.names.specs.declared.Kind.{Kind}
 use Rattle.names.specs.declared.Kind.the-variants.{User, Saved}
 use Rattle.table.specs.Table.{standing, tableOf}
 use Rattle.table.specs.declared.Process.{Process}
-use Rattle.claims.specs.Module.{closedSession, unprovisioned}
-use Rattle.claims.specs.declared.Grants.{Grants}
-use Rattle.claims.specs.declared.Phase.the-variants.{Chosen}
-use Rattle.claims.specs.declared.State.{State}
+use Rattle.module_state.specs.Module.{closedSession, unprovisioned}
+use Rattle.module_state.specs.declared.Grants.{Grants}
+use Rattle.module_state.specs.declared.Phase.the-variants.{Chosen}
+use Rattle.module_state.specs.declared.State.{State}
 use Rattle.image.specs.declared.SavedRow.{SavedRow}
 use Rattle.image.specs.Image.{savedAt, isRowOffset, imageLong, numbersBytes, numbersIn, maskOf, wordIn, savedBytes, imageBytes, headIn, grantsSaid, grantsIn, savedFrom, savedIn, imageIn, isOwner, isKeepable, differ, keep, headFits, wordFits, imageFits, isImage, savedProcess, restored, savedRow, savedOf, imageOf, stateImage, cycled}
 

@@ -20,8 +20,8 @@ use Rattle.rows.proofs.Bytes.{length-bytes, number-back, number-forth, number-s
 use Rattle.rows.proofs.Rows.{Codec}
 use Rattle.names.specs.Names.{nameLength, readName}
 use Rattle.names.proofs.Laws.{name-last}
-use Rattle.claims.specs.declared.Grants.{Grants}
-use Rattle.facts.specs.Facts.{FormedGrants, WideGrants}
+use Rattle.module_state.specs.declared.Grants.{Grants}
+use Rattle.module_rules.specs.Facts.{FormedGrants, WideGrants}
 use Rattle.image.specs.declared.SavedRow.{SavedRow}
 use Rattle.image.specs.Image.{savedOwnerAt, savedNextAt, savedNameAt, savedSize, maskOf, wordIn, grantsSaid, savedBytes, savedFrom, wordFits}
 

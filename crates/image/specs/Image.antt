@@ -15,9 +15,9 @@ use Rattle.names.specs.declared.Kind.the-variants.{Saved}
 use Rattle.table.specs.Table.{standing, tableOf, isSaved, places}
 use Rattle.table.specs.declared.Process.{Process}
 use Rattle.table.specs.declared.Table.{Table}
-use Rattle.claims.specs.Module.{closedSession, unprovisioned, sessionCount, credentialCount}
-use Rattle.claims.specs.declared.Grants.{Grants}
-use Rattle.claims.specs.declared.State.{State}
+use Rattle.module_state.specs.Module.{closedSession, unprovisioned, sessionCount, credentialCount}
+use Rattle.module_state.specs.declared.Grants.{Grants}
+use Rattle.module_state.specs.declared.State.{State}
 use Rattle.image.specs.declared.ImageHead.{ImageHead}
 use Rattle.image.specs.declared.ImageRead.{ImageRead}
 use Rattle.image.specs.declared.ImageTest.{ImageTest}

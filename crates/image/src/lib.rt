@@ -1,8 +1,8 @@
 // The image of a module: where its numbers, its words and its rows lie. docs/IMAGE.md draws it; specs/Image.antt has the same names, and which bytes
 // are an image. Each part begins where the one before it ends, and so does each field.
-use claims::CREDENTIALS;
-use claims::Grants;
-use claims::State;
+use module_state::CREDENTIALS;
+use module_state::Grants;
+use module_state::State;
 use names::Credential;
 use names::NAME_LENGTH;
 use names::Name;

@@ -15,7 +15,7 @@ use lib.Pow.{pow-pos}
 use Rattle.lists.specs.Lists.{select}
 use Rattle.lists.proofs.Lists.{length-select}
 use Rattle.lists.proofs.Tests.{split}
-use Rattle.claims.specs.Module.{wordGrants}
+use Rattle.module_state.specs.Module.{wordGrants}
 use Rattle.image_figures.specs.Figures.{classCount, classesBelow, classesHeld}
 
 no-bit : (bit : ℕ) → bit < 2 → eqb bit 1 ≡ false → bit ≡ 0

@@ -11,8 +11,8 @@ use Rattle.lists.specs.Lists.{select}
 use Rattle.lists.proofs.Tests.{split, and-left, and-right}
 use Rattle.rows.specs.Rows.{rows, every}
 use Rattle.table.specs.Table.{places}
-use Rattle.claims.specs.Module.{wordGrants, credentialCount}
-use Rattle.claims.specs.declared.Grants.{Grants}
+use Rattle.module_state.specs.Module.{wordGrants, credentialCount}
+use Rattle.module_state.specs.declared.Grants.{Grants}
 use Rattle.image.specs.Image.{grantsIn, imageIn, wordFits, isImage}
 use Rattle.image.proofs.Laws.{sound, image, grants-eight}
 use Rattle.image_figures.specs.Figures.{sum, classCount, classesBelow, classesHeld, classesGranted, figuresIn, isGood, lineOf}

@@ -18,8 +18,8 @@ use Rattle.rows.specs.Bytes.{numberOf, numberAt}
 use Rattle.rows.specs.Rows.{rows}
 use Rattle.rows.proofs.Rows.{rows-length}
 use Rattle.rows.proofs.Loops.{map-part, and-false}
-use Rattle.claims.specs.Module.{unprovisioned, credentialCount}
-use Rattle.claims.specs.declared.Grants.{Grants}
+use Rattle.module_state.specs.Module.{unprovisioned, credentialCount}
+use Rattle.module_state.specs.declared.Grants.{Grants}
 use Rattle.image.specs.declared.ImageTest.{ImageTest}
 use Rattle.image.specs.Image.{savedSize, savedNextAt, headIn, savedFrom, savedAmong, savedIn, headFits, isImage, imageTest, SavedLie}
 use Rattle.image.proofs.Laws.{image-lies, rowAt, saved-room, saved-fits, saved-ends}

@@ -7,9 +7,9 @@ use lib.Dec.{eqb}
 use lib.ListN.{length}
 use Rattle.lists.specs.Lists.{select}
 use Rattle.rows.specs.Bytes.{numberOf}
-use Rattle.claims.specs.declared.Class.{Class}
-use Rattle.claims.specs.Module.{wordGrants}
-use Rattle.claims.specs.declared.Grants.{Grants}
+use Rattle.module_state.specs.declared.Class.{Class}
+use Rattle.module_state.specs.Module.{wordGrants}
+use Rattle.module_state.specs.declared.Grants.{Grants}
 use Rattle.image.specs.declared.SavedRow.{SavedRow}
 use Rattle.image.specs.Image.{headIn, grantsIn, savedIn, isImage}
 use Rattle.image_figures.specs.declared.Figures.{Figures}

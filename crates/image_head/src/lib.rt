@@ -1,10 +1,10 @@
 // The head of an image: its five numbers tested, and the credentials that its mask and its words say. docs/IMAGE.md draws it.
 ghost use mathlib.Core.Path.{_≡_};
 ghost use lib.ListN.{drop};
-ghost use Rattle.claims.specs.Module.{credentialCount};
+ghost use Rattle.module_state.specs.Module.{credentialCount};
 ghost use Rattle.image.specs.Image.{wordsAt, wordSize, numbersIn, headIn, grantsSaid, headFits};
-use claims::CREDENTIALS;
-use claims::Grants;
+use module_state::CREDENTIALS;
+use module_state::Grants;
 use image::ImageHead;
 use image::MASK_AT;
 use image::ROW_COUNT_AT;

@@ -18,8 +18,8 @@ use Rattle.rows.proofs.Loops.{EveryFrom, every-begin, every-on, every-fail, eve
 use Rattle.names.specs.Names.{readName, sameName}
 use Rattle.names.specs.declared.Credential.{Credential}
 use Rattle.names.specs.declared.NameRead.{NameRead}
-use Rattle.claims.specs.Module.{unprovisioned, credentialCount}
-use Rattle.claims.specs.declared.Grants.{Grants}
+use Rattle.module_state.specs.Module.{unprovisioned, credentialCount}
+use Rattle.module_state.specs.declared.Grants.{Grants}
 use Rattle.image.specs.declared.ImageHead.{ImageHead}
 use Rattle.image.specs.declared.ImageTest.{ImageTest}
 use Rattle.image.specs.declared.SavedRow.{SavedRow}

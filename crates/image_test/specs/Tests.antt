@@ -5,7 +5,7 @@ use mathlib.Core.List.{List}
 use lib.Dec.{eqb}
 use lib.ListN.{length, drop, getD}
 use Rattle.rows.specs.Rows.{every}
-use Rattle.claims.specs.declared.Grants.{Grants}
+use Rattle.module_state.specs.declared.Grants.{Grants}
 use Rattle.image.specs.declared.ImageHead.{ImageHead}
 use Rattle.image.specs.Image.{imageLong, savedFrom, savedAmong, differ, imageFits}
 

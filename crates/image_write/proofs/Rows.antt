@@ -14,8 +14,8 @@ use Rattle.rows.specs.Rows.{over, Put}
 use Rattle.rows.proofs.Bytes.{length-bytes}
 use Rattle.rows.proofs.Over.{over-part}
 use Rattle.rows.proofs.Loops.{Wrote, wrote-begin, wrote-length, wrote-room, wrote-part, wrote-on, wrote-all}
-use Rattle.claims.specs.Module.{unprovisioned, credentialCount}
-use Rattle.claims.specs.declared.Grants.{Grants}
+use Rattle.module_state.specs.Module.{unprovisioned, credentialCount}
+use Rattle.module_state.specs.declared.Grants.{Grants}
 use Rattle.image.proofs.Rows.{mask-small}
 use Rattle.image.specs.Image.{wordsAt, wordSize, savedAt, numbersBytes, maskOf, wordIn}
 

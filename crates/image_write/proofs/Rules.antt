@@ -26,9 +26,9 @@ use Rattle.table.specs.declared.Process.{Process}
 use Rattle.table.specs.declared.Table.{Table}
 use Rattle.table.proofs.Laws.{standing-few}
 use Rattle.table.proofs.Rules.{noProcess, front, small}
-use Rattle.claims.specs.Module.{unprovisioned, credentialCount}
-use Rattle.claims.specs.declared.Grants.{Grants}
-use Rattle.claims.specs.declared.State.{State}
+use Rattle.module_state.specs.Module.{unprovisioned, credentialCount}
+use Rattle.module_state.specs.declared.Grants.{Grants}
+use Rattle.module_state.specs.declared.State.{State}
 use Rattle.image.specs.declared.SavedRow.{SavedRow}
 use Rattle.image.specs.Image.{maskAt, wordCountAt, wordOffsetAt, rowCountAt, rowOffsetAt, wordsAt, wordSize, savedAt, savedOwnerAt, savedNextAt, savedNameAt, savedSize, imageLong, numbersBytes, headNumbers, maskOf, wordIn, savedBytes, imageBytes, savedRow, isSavedOne, savedRows, savedOf, imageOf, stateImage, imageRoom, lacksRoom, ImageWritten}
 use Rattle.image_write.proofs.Rows.{Masked, masked-none, masked-low, masked-on, masked-all, worded-none, worded-length, worded-on, worded-all}

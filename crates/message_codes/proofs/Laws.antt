@@ -9,10 +9,10 @@ use lib.ListN.{getD}
 use borrow.Author.Tests.{eqb-true, eqb-false, ne-eqb}
 use Rattle.lists.specs.Each.{Each, each-nil, each-cons}
 use Rattle.lists.proofs.Tests.{split}
-use Rattle.formats.specs.declared.Field.the-variants.{Unused}
-use Rattle.formats.specs.declared.Shape.{Shape}
-use Rattle.formats.specs.declared.Shape.the-variants.{NoMessage, ChangeCredential, ChangePolicies}
-use Rattle.formats.specs.Formats.{formOf, fieldsOf}
+use Rattle.message_formats.specs.declared.Field.the-variants.{Unused}
+use Rattle.message_formats.specs.declared.Shape.{Shape}
+use Rattle.message_formats.specs.declared.Shape.the-variants.{NoMessage, ChangeCredential, ChangePolicies}
+use Rattle.message_formats.specs.Formats.{formOf, fieldsOf}
 use Rattle.message_codes.specs.Codes.{Meaning, find, operations, errors, requests, responses, shapeOf}
 
 pub chooser-apart : (code c d : ℕ) → (code ≡ 0x83 → ⊥) → (code ≡ 0x85 → ⊥) → (code ≡ 0x7f → ⊥) → shapeOf code c ≡ shapeOf code d

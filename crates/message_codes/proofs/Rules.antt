@@ -6,8 +6,8 @@ use mathlib.Core.List.{List, [], _∷_}
 use borrow.Author.Needs.{needs}
 use borrow.Author.Tests.{lt-ltb, le-ltb, ne-eqb}
 use Rattle.lists.specs.Each.{Each, each-nil, each-cons}
-use Rattle.formats.specs.declared.Shape.{Shape}
-use Rattle.formats.specs.declared.Shape.the-variants.{NoMessage}
+use Rattle.message_formats.specs.declared.Shape.{Shape}
+use Rattle.message_formats.specs.declared.Shape.the-variants.{NoMessage}
 use Rattle.message_codes.specs.Codes.{Meaning, find, requests, responses, shapeOf, pieces, pieceOf}
 
 -- ---- a number in a list

@@ -6,12 +6,12 @@ use mathlib.Core.List.{List, [], _∷_, _++_, map}
 use lib.Dec.{eqb}
 use lib.ListN.{getD, replicate}
 use Rattle.lists.specs.Lists.{any, select, padded}
-use Rattle.formats.specs.declared.Shape.{Shape}
-use Rattle.formats.specs.declared.Shape.the-variants.{NoMessage}
-use Rattle.formats.specs.declared.Rest.{Rest}
-use Rattle.formats.specs.declared.Rest.the-variants.{Exactly, Said, SaidTo, Parts, Never}
-use Rattle.formats.specs.Formats.{restOf}
-use Rattle.formats.proofs.ByName.{Line, messageLines, pieceLines}
+use Rattle.message_formats.specs.declared.Shape.{Shape}
+use Rattle.message_formats.specs.declared.Shape.the-variants.{NoMessage}
+use Rattle.message_formats.specs.declared.Rest.{Rest}
+use Rattle.message_formats.specs.declared.Rest.the-variants.{Exactly, Said, SaidTo, Parts, Never}
+use Rattle.message_formats.specs.Formats.{restOf}
+use Rattle.message_formats.proofs.ByName.{Line, messageLines, pieceLines}
 use Rattle.lists.specs.Each.{Each, each-nil, each-cons}
 use Rattle.lists.proofs.Each.{each-imp}
 use Rattle.message_codes.specs.Codes.{Meaning, find, operations, errors, requests, responses, shapeOf, pieces, pieceOf}

@@ -1,7 +1,7 @@
 // Which shape a message of 004 clause 9.2 has, by its code: Tables 16 and 17.
 ghost use mathlib.Core.Path.{_≡_};
 ghost use Rattle.message_codes.specs.Codes.{find, operations, errors, requests, responses, shapeOf, pieceOf};
-use formats::Shape;
+use message_formats::Shape;
 
 // The shapes of a message whose first field is an operation: Tables 34 and 40.
 fn by_operation(chooser: u64, change: Shape) -> Shape

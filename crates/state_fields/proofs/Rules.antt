@@ -20,12 +20,12 @@ use Rattle.rows.proofs.Loops.{rows-begin, rows-on, rows-fail, rows-all, map-par
 use Rattle.names.specs.Names.{userType, elevationType, savedType, lastType, kindNumbered}
 use Rattle.names.proofs.Laws.{kind-saved}
 use Rattle.table.specs.Table.{standing, isUser, isElevation, isActiveIn, places}
-use Rattle.claims.specs.Module.{closedSession, unprovisioned, provisioned, phaseOf, isChosen, sessionCount, credentialCount, lastHandle, lastCredential}
-use Rattle.claims.specs.declared.Grants.{Grants}
-use Rattle.layout.specs.Layout.{credentialSize, ownerAt, kindAt, sessionAt, nextAt, nextSize, placeSize, chosenByte, setFlag, sessionsAt, sessionSize, credentialsAt, countAt, placesAt, stateLength, phaseFrom, sessionFrom, grantsFrom, kindFits, processFrom, processFits, countIn, placesIn, stateOf, isOwned, restIsFree, ownersFit, shaped}
+use Rattle.module_state.specs.Module.{closedSession, unprovisioned, provisioned, phaseOf, isChosen, sessionCount, credentialCount, lastHandle, lastCredential}
+use Rattle.module_state.specs.declared.Grants.{Grants}
+use Rattle.state_layout.specs.Layout.{credentialSize, ownerAt, kindAt, sessionAt, nextAt, nextSize, placeSize, chosenByte, setFlag, sessionsAt, sessionSize, credentialsAt, countAt, placesAt, stateLength, phaseFrom, sessionFrom, grantsFrom, kindFits, processFrom, processFits, countIn, placesIn, stateOf, isOwned, restIsFree, ownersFit, shaped}
 use Rattle.state_fields.specs.Stands.{stands, allFit}
-use Rattle.layout.proofs.Laws.{state-in}
-use Rattle.layout.proofs.Parts.{place-part}
+use Rattle.state_layout.proofs.Laws.{state-in}
+use Rattle.state_layout.proofs.Parts.{place-part}
 
 -- ---- a place
 module _ (x : List ℕ) where

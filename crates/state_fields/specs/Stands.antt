@@ -4,7 +4,7 @@ use mathlib.Core.List.{List}
 use Prim.Native.Nat.{ℕ}
 use Rattle.rows.specs.Rows.{every}
 use Rattle.table.specs.Table.{standing}
-use Rattle.layout.specs.Layout.{processFrom, processFits, stateOf, shaped, isOwned}
+use Rattle.state_layout.specs.Layout.{processFrom, processFits, stateOf, shaped, isOwned}
 
 -- in a slice s, a place's row: its fields in their ranges, its owner provisioned, its session open with version 1.0 where it is active
 unfoldable pub stands : List ℕ → List ℕ → Bool

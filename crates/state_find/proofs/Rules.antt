@@ -32,19 +32,19 @@ use Rattle.table.proofs.Laws.{standing-of, size-few}
 use Rattle.table.proofs.Rules.{noProcess, size-part, size-all, process-got}
 use Rattle.table.proofs.Searched.{found-at}
 use Rattle.table_search.proofs.Rules.{Searching, begin, on, hit, none}
-use Rattle.claims.specs.Module.{closedSession, phaseOf, unprovisioned, grantsOf, sessionCount, credentialCount}
-use Rattle.claims.specs.Claim.{speaksFor, processFound, claimView}
-use Rattle.claims.specs.declared.Claim.{Claim}
-use Rattle.claims.specs.declared.ClaimView.{ClaimView}
-use Rattle.claims.specs.declared.Grants.{Grants}
-use Rattle.claims.specs.declared.Phase.{Phase}
-use Rattle.claims.specs.declared.Phase.the-variants.{Closed}
-use Rattle.claims.specs.declared.SessionState.{SessionState}
-use Rattle.claims.proofs.Laws.{view-of}
-use Rattle.layout.specs.Layout.{kindAt, sessionAt, wordAt, credentialSize, nextAt, placeSize, sessionsAt, sessionSize, credentialsAt, countAt, placesAt, stateLength, phaseFrom, sessionFrom, grantsFrom, processFrom, countIn, placesIn, nothingHeld, stateOf}
-use Rattle.layout.proofs.Laws.{state-in, state-not-in}
+use Rattle.module_state.specs.Module.{closedSession, phaseOf, unprovisioned, grantsOf, sessionCount, credentialCount}
+use Rattle.module_state.specs.Claim.{speaksFor, processFound, claimView}
+use Rattle.module_state.specs.declared.Claim.{Claim}
+use Rattle.module_state.specs.declared.ClaimView.{ClaimView}
+use Rattle.module_state.specs.declared.Grants.{Grants}
+use Rattle.module_state.specs.declared.Phase.{Phase}
+use Rattle.module_state.specs.declared.Phase.the-variants.{Closed}
+use Rattle.module_state.specs.declared.SessionState.{SessionState}
+use Rattle.module_state.proofs.Laws.{view-of}
+use Rattle.state_layout.specs.Layout.{kindAt, sessionAt, wordAt, credentialSize, nextAt, placeSize, sessionsAt, sessionSize, credentialsAt, countAt, placesAt, stateLength, phaseFrom, sessionFrom, grantsFrom, processFrom, countIn, placesIn, nothingHeld, stateOf}
+use Rattle.state_layout.proofs.Laws.{state-in, state-not-in}
 use Rattle.state_find.specs.Found.{isStanding}
-use Rattle.layout.proofs.Parts.{grants-part, place-part}
+use Rattle.state_layout.proofs.Parts.{grants-part, place-part}
 
 -- ---- sessions and credentials
 module _ (s : List ℕ) (session : Session) where

@@ -18,9 +18,9 @@ use Rattle.lists.proofs.Tests.{split}
 use Rattle.rows.specs.Rows.{rows, every}
 use Rattle.rows.proofs.Loops.{RowsTo, rows-begin, rows-on, rows-fail, rows-all, or-zero, and-assoc, and-true, and-false}
 use Rattle.table.specs.Table.{places}
-use Rattle.claims.specs.Module.{sessionCount, credentialCount}
-use Rattle.layout.specs.Layout.{lastPhase, setFlag, flagAt, wordAt, wordSize, credentialSize, placeSize, sessionsAt, sessionSize, credentialsAt, countAt, placesAt, stateLength, sessionFits, grantsFit, countIn, restIsFree, ownersFit}
-use Rattle.layout.proofs.Parts.{grants-part}
+use Rattle.module_state.specs.Module.{sessionCount, credentialCount}
+use Rattle.state_layout.specs.Layout.{lastPhase, setFlag, flagAt, wordAt, wordSize, credentialSize, placeSize, sessionsAt, sessionSize, credentialsAt, countAt, placesAt, stateLength, sessionFits, grantsFit, countIn, restIsFree, ownersFit}
+use Rattle.state_layout.proofs.Parts.{grants-part}
 
 -- ---- tests in another order
 twice : (a b c : Bool) → ((a && b) && (a && c)) ≡ (a && (b && c))

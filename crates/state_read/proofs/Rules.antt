@@ -15,20 +15,20 @@ use Rattle.rows.specs.Rows.{rows}
 use Rattle.rows.proofs.Loops.{FilledBy, filled-begin, filled-from, filled-next, filled-done}
 use Rattle.names.specs.Names.{readName, nameLength, kindNumbered}
 use Rattle.names.proofs.Laws.{name-read, kind-saved}
-use Rattle.layout.proofs.Parts.{grants-part, place-part}
+use Rattle.state_layout.proofs.Parts.{grants-part, place-part}
 use Rattle.names.specs.declared.Kind.{Kind}
 use Rattle.names.specs.declared.NameRead.{NameRead}
 use Rattle.table.specs.Table.{tableOf, places}
 use Rattle.table.specs.declared.Process.{Process}
 use Rattle.table.specs.declared.Table.{Table}
-use Rattle.claims.specs.Module.{closedSession, unprovisioned, sessionCount, credentialCount}
-use Rattle.claims.specs.declared.Grants.{Grants}
-use Rattle.claims.specs.declared.Phase.{Phase}
-use Rattle.claims.specs.declared.Phase.the-variants.{Closed}
-use Rattle.claims.specs.declared.SessionState.{SessionState}
-use Rattle.claims.specs.declared.State.{State}
-use Rattle.layout.specs.Layout.{openedByte, chosenByte, setFlag, flagAt, ownerAt, kindAt, sessionAt, nameAt, wordAt, wordSize, credentialSize, nextAt, nextSize, placeSize, sessionsAt, sessionSize, credentialsAt, countAt, placesAt, stateLength, phaseFrom, sessionFrom, grantsFrom, processFrom, placesIn, countIn, nothingHeld, stateOf}
-use Rattle.layout.proofs.Laws.{state-in, state-not-in}
+use Rattle.module_state.specs.Module.{closedSession, unprovisioned, sessionCount, credentialCount}
+use Rattle.module_state.specs.declared.Grants.{Grants}
+use Rattle.module_state.specs.declared.Phase.{Phase}
+use Rattle.module_state.specs.declared.Phase.the-variants.{Closed}
+use Rattle.module_state.specs.declared.SessionState.{SessionState}
+use Rattle.module_state.specs.declared.State.{State}
+use Rattle.state_layout.specs.Layout.{openedByte, chosenByte, setFlag, flagAt, ownerAt, kindAt, sessionAt, nameAt, wordAt, wordSize, credentialSize, nextAt, nextSize, placeSize, sessionsAt, sessionSize, credentialsAt, countAt, placesAt, stateLength, phaseFrom, sessionFrom, grantsFrom, processFrom, placesIn, countIn, nothingHeld, stateOf}
+use Rattle.state_layout.proofs.Laws.{state-in, state-not-in}
 
 -- ---- a phase
 pub phase-closed : (n : ℕ) → (n ≡ openedByte → ⊥) → (n ≡ chosenByte → ⊥) → Closed ≡ phaseFrom n

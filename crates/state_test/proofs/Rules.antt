@@ -26,14 +26,14 @@ use Rattle.names.specs.declared.NameRead.{NameRead}
 use Rattle.names.specs.Names.{sameName, readName, userType, elevationType, kindNumbered}
 use Rattle.names.specs.Words.{digestOf}
 use Rattle.names.proofs.Laws.{same→name, name-last, kind-saved}
-use Rattle.claims.specs.Module.{sessionCount, credentialCount}
+use Rattle.module_state.specs.Module.{sessionCount, credentialCount}
 use Rattle.table.specs.Table.{standing, freePlace, isUser, isElevation, isActive, places}
 use Rattle.table.specs.declared.Process.{Process}
-use Rattle.layout.specs.Layout.{ownerAt, kindAt, sessionAt, nameAt, placeSize, countAt, placesAt, stateLength, processFrom, countIn, placesIn, stateOf, isOwned, areRivals, areApart, sound, shaped, holdsState}
+use Rattle.state_layout.specs.Layout.{ownerAt, kindAt, sessionAt, nameAt, placeSize, countAt, placesAt, stateLength, processFrom, countIn, placesIn, stateOf, isOwned, areRivals, areApart, sound, shaped, holdsState}
 use Rattle.state_test.specs.Keys.{userKeys, noKey, keyCount, keyNumbered, keyOf, Key, standingIn, Digests, Fresh, noRivals, otherNames, Unless}
 use Rattle.state_fields.specs.Stands.{allFit}
-use Rattle.layout.proofs.Laws.{Shape, shape, state-in}
-use Rattle.layout.proofs.Parts.{place-part}
+use Rattle.state_layout.proofs.Laws.{Shape, shape, state-in}
+use Rattle.state_layout.proofs.Parts.{place-part}
 
 -- ---- two places. The test of rivals, by the types' numbers and whether the sessions and the credentials agree
 abbrev rivalry : ℕ → ℕ → Bool → Bool → Bool

@@ -12,8 +12,8 @@ use Rattle.names.specs.declared.Kind.the-variants.{User, Elevation, Saved}
 use Rattle.names.specs.Words.{digestOf}
 use Rattle.table.specs.Table.{freePlace}
 use Rattle.table.specs.declared.Process.{Process}
-use Rattle.claims.specs.Module.{sessionCount, credentialCount}
-use Rattle.layout.specs.Layout.{ownerAt, kindAt, sessionAt, placeSize, placesAt, processFrom, areRivals, areApart}
+use Rattle.module_state.specs.Module.{sessionCount, credentialCount}
+use Rattle.state_layout.specs.Layout.{ownerAt, kindAt, sessionAt, placeSize, placesAt, processFrom, areRivals, areApart}
 
 -- a user process's key is that of its session and its credential, an elevation's that of its session; a saved process has none. The code has these names
 abbrev pub userKeys : ℕ

@@ -20,7 +20,7 @@ use Rattle.names.proofs.Laws.{name-in}
 use Rattle.table.proofs.Rules.{noProcess}
 use Rattle.table.specs.declared.Process.{Process}
 use Rattle.table.specs.declared.Table.{Table}
-use Rattle.layout.specs.Layout.{ownerAt, kindAt, sessionAt, nameAt, nextAt, nextSize, placeSize, countAt, countSize, placesAt, stateLength, processBytes, nextWritten}
+use Rattle.state_layout.specs.Layout.{ownerAt, kindAt, sessionAt, nameAt, nextAt, nextSize, placeSize, countAt, countSize, placesAt, stateLength, processBytes, nextWritten}
 use Rattle.table.specs.Table.{places}
 
 -- ---- a place: its fields, written one after another

@@ -1,10 +1,10 @@
 // Document 01's worked steps 1 to 13, with the numbers as order 3 corrects them, through the entries, on a state that is lent: a line for each step, with the
 // number of each call. Then step 13 by refusals, and the relay's attack. What it writes is compared with the file stdout beside it.
-use claims::CREDENTIALS;
-use claims::DONE;
-use claims::NOT_GRANTED;
-use claims::SPENT;
-use layout::STATE_LENGTH;
+use module_state::CREDENTIALS;
+use module_state::DONE;
+use module_state::NOT_GRANTED;
+use module_state::SPENT;
+use state_layout::STATE_LENGTH;
 use libc::STDOUT_FILENO;
 use names::NAME_LENGTH;
 

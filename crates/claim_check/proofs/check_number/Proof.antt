@@ -1,4 +1,4 @@
-use Rattle.claims.specs.Claim.{checkNumber}
+use Rattle.module_state.specs.Claim.{checkNumber}
 use Rattle.claim_check.proofs.Rules.{rules}
 use Rattle.claim_check.proofs.check_number.Statement.{statement}
 use Rattle.claim_check.proofs.check_number.Tie as tie

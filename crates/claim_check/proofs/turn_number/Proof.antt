@@ -1,4 +1,4 @@
-use Rattle.claims.specs.Claim.{turnNumber}
+use Rattle.module_state.specs.Claim.{turnNumber}
 use Rattle.claim_check.proofs.Rules.{rules}
 use Rattle.claim_check.proofs.turn_number.Statement.{statement}
 use Rattle.claim_check.proofs.turn_number.Tie as tie

@@ -1,5 +1,5 @@
 use Rattle.lists.proofs.Loops.{Copied}
-use Rattle.arguments.specs.Arguments.{pairsOf}
+use Rattle.entries_arguments.specs.Arguments.{pairsOf}
 use Prim.Native.Nat.{_-_}
 use Rattle.entries_unprotected.proofs.Rules.{rules}
 use Rattle.entries_unprotected.proofs.pairs_of.Statement.{statement}

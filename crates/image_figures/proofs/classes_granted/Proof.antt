@@ -1,5 +1,5 @@
 use Prim.Native.Nat.{_-_}
-use Rattle.claims.specs.Module.{credentialCount}
+use Rattle.module_state.specs.Module.{credentialCount}
 use Rattle.image_figures.proofs.Rules.{SummedTo, rules}
 use Rattle.image_figures.proofs.classes_granted.Statement.{statement}
 use Rattle.image_figures.proofs.classes_granted.Tie as tie

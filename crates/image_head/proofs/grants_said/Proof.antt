@@ -1,5 +1,5 @@
 use Prim.Native.Nat.{_-_}
-use Rattle.claims.specs.Module.{credentialCount}
+use Rattle.module_state.specs.Module.{credentialCount}
 use Rattle.image_head.proofs.Rules.{SaidTo, rules}
 use Rattle.image_head.proofs.grants_said.Statement.{statement}
 use Rattle.image_head.proofs.grants_said.Tie as tie

@@ -1,6 +1,6 @@
 use Prim.Native.Nat.{_-_}
 use mathlib.Core.Logic.{⊎-elim}
-use Rattle.claims.specs.Module.{credentialCount}
+use Rattle.module_state.specs.Module.{credentialCount}
 use Rattle.image_test.proofs.Rules.{WordsTo, rules}
 use Rattle.image_test.proofs.words_fit.Statement.{statement}
 use Rattle.image_test.proofs.words_fit.Tie as tie

@@ -4,7 +4,7 @@ use Rattle.state_fields.specs.Stands.{stands}
 use Rattle.state_fields.proofs.Rules.{rules}
 use Rattle.state_fields.proofs.all_stand.Statement.{statement}
 use Rattle.state_fields.proofs.all_stand.Tie as tie
-use Rattle.layout.specs.Layout.{placeSize, placesAt}
+use Rattle.state_layout.specs.Layout.{placeSize, placesAt}
 
 abbrev Inv-loop : tie.InvT-loop
 Inv-loop s n i₀ i = RowsTo (stands s) n placeSize placesAt s i

@@ -1,4 +1,4 @@
-use Rattle.layout.specs.Layout.{stateOf}
+use Rattle.state_layout.specs.Layout.{stateOf}
 use Rattle.table.specs.Table.{isActive}
 use Rattle.table_search.proofs.Rules.{Searching}
 use Prim.Native.Nat.{_-_}

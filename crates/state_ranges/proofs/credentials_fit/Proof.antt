@@ -1,10 +1,10 @@
-use Rattle.layout.specs.Layout.{credentialSize, credentialsAt, grantsFit}
+use Rattle.state_layout.specs.Layout.{credentialSize, credentialsAt, grantsFit}
 use Rattle.rows.proofs.Loops.{RowsTo}
 use Prim.Native.Nat.{_-_}
 use Rattle.state_ranges.proofs.Rules.{rules}
 use Rattle.state_ranges.proofs.credentials_fit.Statement.{statement}
 use Rattle.state_ranges.proofs.credentials_fit.Tie as tie
-use Rattle.claims.specs.Module.{credentialCount}
+use Rattle.module_state.specs.Module.{credentialCount}
 
 abbrev Inv-loop : tie.InvT-loop
 Inv-loop s i₀ i = RowsTo grantsFit credentialCount credentialSize credentialsAt s i

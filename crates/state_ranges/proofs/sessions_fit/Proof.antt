@@ -1,10 +1,10 @@
-use Rattle.layout.specs.Layout.{sessionsAt, sessionSize, sessionFits}
+use Rattle.state_layout.specs.Layout.{sessionsAt, sessionSize, sessionFits}
 use Rattle.rows.proofs.Loops.{RowsTo}
 use Prim.Native.Nat.{_-_}
 use Rattle.state_ranges.proofs.Rules.{rules}
 use Rattle.state_ranges.proofs.sessions_fit.Statement.{statement}
 use Rattle.state_ranges.proofs.sessions_fit.Tie as tie
-use Rattle.claims.specs.Module.{sessionCount}
+use Rattle.module_state.specs.Module.{sessionCount}
 
 abbrev Inv-loop : tie.InvT-loop
 Inv-loop s i₀ i = RowsTo sessionFits sessionCount sessionSize sessionsAt s i

@@ -1,10 +1,10 @@
-use Rattle.layout.specs.Layout.{credentialSize, credentialsAt, grantsFrom}
+use Rattle.state_layout.specs.Layout.{credentialSize, credentialsAt, grantsFrom}
 use Rattle.rows.proofs.Loops.{FilledBy}
 use Prim.Native.Nat.{_-_}
 use Rattle.state_read.proofs.Rules.{rules}
 use Rattle.state_read.proofs.read_credentials.Statement.{statement}
 use Rattle.state_read.proofs.read_credentials.Tie as tie
-use Rattle.claims.specs.Module.{credentialCount}
+use Rattle.module_state.specs.Module.{credentialCount}
 
 abbrev Inv-loop : tie.InvT-loop
 Inv-loop s out₀ i₀ out i = FilledBy grantsFrom credentialCount credentialSize credentialsAt s out₀ out i

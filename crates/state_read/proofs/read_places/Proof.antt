@@ -1,4 +1,4 @@
-use Rattle.layout.specs.Layout.{placeSize, placesAt, processFrom}
+use Rattle.state_layout.specs.Layout.{placeSize, placesAt, processFrom}
 use Rattle.rows.proofs.Loops.{FilledBy}
 use Prim.Native.Nat.{_-_}
 use Rattle.state_read.proofs.Rules.{rules}

@@ -1,10 +1,10 @@
-use Rattle.layout.specs.Layout.{sessionsAt, sessionSize, sessionFrom}
+use Rattle.state_layout.specs.Layout.{sessionsAt, sessionSize, sessionFrom}
 use Rattle.rows.proofs.Loops.{FilledBy}
 use Prim.Native.Nat.{_-_}
 use Rattle.state_read.proofs.Rules.{rules}
 use Rattle.state_read.proofs.read_sessions.Statement.{statement}
 use Rattle.state_read.proofs.read_sessions.Tie as tie
-use Rattle.claims.specs.Module.{sessionCount}
+use Rattle.module_state.specs.Module.{sessionCount}
 
 abbrev Inv-loop : tie.InvT-loop
 Inv-loop s out₀ i₀ out i = FilledBy sessionFrom sessionCount sessionSize sessionsAt s out₀ out i

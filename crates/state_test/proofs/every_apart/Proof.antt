@@ -1,5 +1,5 @@
 use Prim.Native.Nat.{_-_}
-use Rattle.layout.specs.Layout.{placeSize, placesAt, processFrom, areApart}
+use Rattle.state_layout.specs.Layout.{placeSize, placesAt, processFrom, areApart}
 use Rattle.rows.proofs.Loops.{PairedTo}
 use Rattle.state_test.proofs.Rules.{rules}
 use Rattle.state_test.proofs.every_apart.Statement.{statement}

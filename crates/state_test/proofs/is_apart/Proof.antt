@@ -2,7 +2,7 @@ use Rattle.table.specs.Table.{freePlace}
 use Rattle.rows.specs.Rows.{rows}
 use lib.ListN.{getD, drop}
 use mathlib.Core.List.{map}
-use Rattle.layout.specs.Layout.{placeSize, placesAt, processFrom, areApart}
+use Rattle.state_layout.specs.Layout.{placeSize, placesAt, processFrom, areApart}
 use Rattle.rows.proofs.Loops.{RecordsTo}
 use Prim.Native.Nat.{_+_, _-_}
 use Rattle.state_test.proofs.Rules.{rules}

@@ -1,4 +1,4 @@
-use Rattle.layout.specs.Layout.{credentialSize, credentialsAt, grantsBytes}
+use Rattle.state_layout.specs.Layout.{credentialSize, credentialsAt, grantsBytes}
 use Rattle.rows.proofs.Loops.{Wrote}
 use Prim.Native.Nat.{_-_}
 use Rattle.state_write.proofs.Rules.{rules}

@@ -1,4 +1,4 @@
-use Rattle.layout.specs.Layout.{placeSize, placesAt, processBytes}
+use Rattle.state_layout.specs.Layout.{placeSize, placesAt, processBytes}
 use Rattle.rows.proofs.Loops.{Wrote}
 use Prim.Native.Nat.{_-_}
 use Rattle.state_write_table.proofs.Rules.{rules}

@@ -1,9 +1,0 @@
-use Rattle.claims.proofs.Rules.{rules}
-use Rattle.claims.proofs.is_credential.Statement.{statement}
-use Rattle.claims.proofs.is_credential.Tie as tie
-
-returns : tie.Need-returns
-returns c = search rules
-
-pub is-credential-spec : {M : Type 1} → statement M
-is-credential-spec = tie.close (tie.spec returns)

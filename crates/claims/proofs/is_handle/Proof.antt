@@ -1,9 +1,0 @@
-use Rattle.claims.proofs.Rules.{rules}
-use Rattle.claims.proofs.is_handle.Statement.{statement}
-use Rattle.claims.proofs.is_handle.Tie as tie
-
-returns : tie.Need-returns
-returns c = search rules
-
-pub is-handle-spec : {M : Type 1} → statement M
-is-handle-spec = tie.close (tie.spec returns)

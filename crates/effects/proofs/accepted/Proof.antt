@@ -1,9 +1,0 @@
-use Rattle.calls.proofs.Rules.{rules}
-use Rattle.effects.proofs.accepted.Statement.{statement}
-use Rattle.effects.proofs.accepted.Tie as tie
-
-returns : tie.Need-returns
-returns c = search rules
-
-pub accepted-spec : {M : Type 1} → statement M
-accepted-spec = tie.close (tie.spec returns)

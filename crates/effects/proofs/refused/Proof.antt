@@ -1,9 +1,0 @@
-use Rattle.calls.proofs.Rules.{rules}
-use Rattle.effects.proofs.refused.Statement.{statement}
-use Rattle.effects.proofs.refused.Tie as tie
-
-returns : tie.Need-returns
-returns c = search rules
-
-pub refused-spec : {M : Type 1} → statement M
-refused-spec = tie.close (tie.spec returns)

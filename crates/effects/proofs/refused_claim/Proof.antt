@@ -1,9 +1,0 @@
-use Rattle.calls.proofs.Rules.{rules}
-use Rattle.effects.proofs.refused_claim.Statement.{statement}
-use Rattle.effects.proofs.refused_claim.Tie as tie
-
-returns : tie.Need-returns
-returns c = search rules
-
-pub refused-claim-spec : {M : Type 1} → statement M
-refused-claim-spec = tie.close (tie.spec returns)

@@ -1,0 +1,18 @@
+use Rattle.entries_arguments.proofs.Rules.{rules}
+use Rattle.entries_arguments.proofs.is_claimed.Statement.{statement}
+use Rattle.entries_arguments.proofs.is_claimed.Tie as tie
+
+returns : tie.Need-returns
+returns c = search rules
+
+is-flag-requires : tie.Need-is-flag-requires
+is-flag-requires c κs = search rules
+
+returns-2 : tie.Need-returns-2
+returns-2 c = search rules
+
+returns-3 : tie.Need-returns-3
+returns-3 c = search rules
+
+pub is-claimed-spec : {M : Type 1} → statement M
+is-claimed-spec = tie.close (tie.spec returns is-flag-requires returns-2 returns-3)

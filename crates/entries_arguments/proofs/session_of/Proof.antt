@@ -1,0 +1,12 @@
+use Rattle.entries_arguments.proofs.Rules.{rules}
+use Rattle.entries_arguments.proofs.session_of.Statement.{statement}
+use Rattle.entries_arguments.proofs.session_of.Tie as tie
+
+byte-of-requires : tie.Need-byte-of-requires
+byte-of-requires c κs = search rules
+
+returns : tie.Need-returns
+returns c = search rules
+
+pub session-of-spec : {M : Type 1} → statement M
+session-of-spec = tie.close (tie.spec byte-of-requires returns)

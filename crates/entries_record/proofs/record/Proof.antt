@@ -1,0 +1,52 @@
+use Rattle.entries_record.proofs.Rules.{rules}
+use Rattle.entries_record.proofs.record.Statement.{statement}
+use Rattle.entries_record.proofs.record.Tie as tie
+
+is-ready-requires : tie.Need-is-ready-requires
+is-ready-requires c κs = search rules
+
+same-length : tie.Need-same-length
+same-length c = search rules
+
+returns : tie.Need-returns
+returns c = search rules
+
+check-requires : tie.Need-check-requires
+check-requires c κs = search rules
+
+record-number-requires : tie.Need-record-number-requires
+record-number-requires c κs = search rules
+
+passed-by-requires : tie.Need-passed-by-requires
+passed-by-requires c κs = search rules
+
+count-requires : tie.Need-count-requires
+count-requires c κs = search rules
+
+same-length-2 : tie.Need-same-length-2
+same-length-2 c = search rules
+
+returns-2 : tie.Need-returns-2
+returns-2 c = search rules
+
+same-length-3 : tie.Need-same-length-3
+same-length-3 c = search rules
+
+returns-3 : tie.Need-returns-3
+returns-3 c = search rules
+
+pub record-spec : {M : Type 1} → statement M
+record-spec =
+    tie.close
+    (tie.spec
+    is-ready-requires
+    same-length
+    returns
+    check-requires
+    record-number-requires
+    passed-by-requires
+    count-requires
+    same-length-2
+    returns-2
+    same-length-3
+    returns-3)

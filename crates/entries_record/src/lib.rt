@@ -1,0 +1,62 @@
+// Calls on the state that a slice holds: whether one is made; and the record call where the state lies. Nothing is read for it but what the check of
+// its claim asks, and nothing is written but the two bytes of a next number.
+ghost use mathlib.Core.Path.{_≡_};
+ghost use mathlib.Core.Bool.{true};
+ghost use Rattle.module_state.specs.Claim.{checked};
+ghost use Rattle.calls.specs.Calls.{Record};
+ghost use Rattle.state_layout.specs.Layout.{stateOf};
+ghost use Rattle.entries_record.specs.Entry.{Ready, Entry};
+ghost use Rattle.entries_record.specs.Recorded.{countedIn};
+use module_state::ARGUMENT;
+use module_state::Checked;
+use module_state::Claim;
+use module_state::Class;
+use module_state::UserClaim;
+use names::Session;
+
+// Whether a call is made on a slice: the arguments that are no part of it are in order, and the slice holds a state.
+pub fn is_ready(fine: bool, state: &[u8]) -> bool
+    ensures { λ r. ⌜ Ready fine (now (state .entry)) r ⌝ }
+{
+    fine && state_test::holds(state)
+}
+
+fn count_user(state: &mut [u8], s: Session, u: UserClaim, by: Checked)
+    requires { ⌜ (by ≡ checked (stateOf (now state)) s (Claim.ByUser u)) × (by .number ≡ 0) ⌝ }
+    ensures { λ r. ⌜ now (state .exit) ≡ countedIn (now (state .entry)) s (Claim.ByUser u) ⌝ }
+{
+    state_write_table::write_next(state, by.place, by.next + 1);
+}
+
+fn count(state: &mut [u8], s: Session, claim: Claim, by: Checked)
+    requires { ⌜ (by ≡ checked (stateOf (now state)) s claim) × (by .number ≡ 0) ⌝ }
+    ensures { λ r. ⌜ now (state .exit) ≡ countedIn (now (state .entry)) s claim ⌝ }
+{
+    match claim {
+        Claim::Elevated => {}
+        Claim::ByUser(u) => count_user(state, s, u, by),
+    }
+}
+
+// What the check of a claim comes to, of the state that the slice says.
+fn check(state: &[u8], s: Session, claim: Claim) -> Checked
+    ensures { λ r. ⌜ r ≡ checked (stateOf (now (state .entry))) s claim ⌝ }
+{
+    claim_check::check_claim(s, claim, state_find::claim_view(state, s, claim))
+}
+
+// The number of a record. Where its claim passed, refused afterwards or not, and is a user's, its process's next number is one more. A slice that holds no state
+// is refused.
+pub fn record(state: &mut [u8], s: Session, claim: Claim, class: Class) -> u8
+    ensures { λ r. ⌜ Entry true (now (state .entry)) (Record s claim class) r (now (state .exit)) ⌝ }
+{
+    if !is_ready(true, state) {
+        return ARGUMENT;
+    }
+    let by = check(state, s, claim);
+    let answer = calls_protected_tests::record_number(by, class);
+    if claim_check::passed_by(by, answer) {
+        count(state, s, claim, by);
+    }
+    answer
+}

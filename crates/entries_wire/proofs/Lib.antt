@@ -1,3 +1,0 @@
-pub mod Rules
-pub mod Unique
-pub mod Facts

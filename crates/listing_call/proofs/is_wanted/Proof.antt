@@ -1,0 +1,15 @@
+use Rattle.listing_call.proofs.Rules.{rules}
+use Rattle.listing_call.proofs.is_wanted.Statement.{statement}
+use Rattle.listing_call.proofs.is_wanted.Tie as tie
+
+among-of-requires : tie.Need-among-of-requires
+among-of-requires c κs = search rules
+
+is-among-requires : tie.Need-is-among-requires
+is-among-requires c κs = search rules
+
+returns : tie.Need-returns
+returns c = search rules
+
+pub is-wanted-spec : {M : Type 1} → statement M
+is-wanted-spec = tie.close (tie.spec among-of-requires is-among-requires returns)

@@ -1,0 +1,95 @@
+use Rattle.listing_call.proofs.Rows.{Written}
+use Prim.Native.Nat.{_-_}
+use mathlib.Core.Logic.{⊎-elim}
+use Rattle.listing_call.proofs.Rules.{rules}
+use Rattle.listing_call.proofs.put_rows.Statement.{statement}
+use Rattle.listing_call.proofs.put_rows.Tie as tie
+
+abbrev Inv-loop : tie.InvT-loop
+Inv-loop buffer₀ wanted n places k₀ i₀ buffer k i = Written wanted buffer₀ places n buffer k i
+
+abbrev μ-loop : tie.MeasureT-loop
+μ-loop buffer₀ wanted n places k₀ i₀ buffer k i = n - i
+
+size-requires : tie.Need-size-requires Inv-loop μ-loop
+size-requires c κs = search rules
+
+loop-holds : tie.Need-loop-holds Inv-loop μ-loop
+loop-holds c = search rules
+
+mul-p : tie.Need-mul-p Inv-loop μ-loop
+mul-p c = search rules
+
+array-copy-out-p : tie.Need-array-copy-out-p Inv-loop μ-loop
+array-copy-out-p c = search rules
+
+is-wanted-requires : tie.Need-is-wanted-requires Inv-loop μ-loop
+is-wanted-requires c κs = search rules
+
+mul-start : tie.Need-mul-start Inv-loop μ-loop
+mul-start c = search rules
+
+add-start : tie.Need-add-start Inv-loop μ-loop
+add-start c = search rules
+
+add-end : tie.Need-add-end Inv-loop μ-loop
+add-end c = search rules
+
+sub-put-row : tie.Need-sub-put-row Inv-loop μ-loop
+sub-put-row c = search rules
+
+part-put-row-start : tie.Need-part-put-row-start Inv-loop μ-loop
+part-put-row-start c = search rules
+
+part-put-row-end : tie.Need-part-put-row-end Inv-loop μ-loop
+part-put-row-end c = search rules
+
+row-of-requires : tie.Need-row-of-requires Inv-loop μ-loop
+row-of-requires c κs = search rules
+
+put-row-requires : tie.Need-put-row-requires Inv-loop μ-loop
+put-row-requires c κs = search rules
+
+add-k : tie.Need-add-k Inv-loop μ-loop
+add-k c = search rules
+
+add-i : tie.Need-add-i Inv-loop μ-loop
+add-i c = search rules
+
+loop-less : tie.Need-loop-less Inv-loop μ-loop
+loop-less c = search rules
+
+loop-again : tie.Need-loop-again Inv-loop μ-loop
+loop-again c = ⊎-elim (λ w. search rules) (λ w. search rules) (c .if1 .came)
+
+same-length : tie.Need-same-length Inv-loop μ-loop
+same-length c = search rules
+
+returns : tie.Need-returns Inv-loop μ-loop
+returns c = search rules
+
+pub put-rows-spec : {M : Type 1} → statement M
+put-rows-spec =
+    tie.close
+    (tie.spec
+    Inv-loop
+    μ-loop
+    size-requires
+    loop-holds
+    mul-p
+    array-copy-out-p
+    is-wanted-requires
+    mul-start
+    add-start
+    add-end
+    sub-put-row
+    part-put-row-start
+    part-put-row-end
+    row-of-requires
+    put-row-requires
+    add-k
+    add-i
+    loop-less
+    loop-again
+    same-length
+    returns)

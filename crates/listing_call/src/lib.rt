@@ -1,0 +1,97 @@
+// The response AUTH_PROCESSES written, and the list call with its bytes.
+ghost use mathlib.Core.Path.{_≡_};
+ghost use Prim.Native.Nat.{_≤_};
+ghost use lib.ListN.{length};
+ghost use Rattle.table.specs.Table.{isAmong, standing};
+ghost use Rattle.calls.specs.Calls.{listed};
+ghost use Rattle.calls.specs.Listing.{amongOf, rowOf, messageLength};
+ghost use Rattle.listing_messages.specs.Wire.{rowsAmong, rowsOver, listingOver, listingLength, listedBytes};
+use calls::Listed;
+use calls::Wanted;
+use module_state::Claim;
+use module_state::State;
+use names::Row;
+use names::Session;
+use table::Process;
+use table::Table;
+use listing_messages::AUTH_PROCESSES;
+
+// ---- the rows of a table
+
+fn is_wanted(p: Process, wanted: Wanted) -> bool
+    ensures { λ r. ⌜ r ≡ isAmong (amongOf wanted) p ⌝ }
+{
+    let among = calls_list_tests::among_of(wanted);
+    table::is_among(p, among)
+}
+
+fn row_of(p: Process) -> Row
+    ensures { λ r. ⌜ r ≡ rowOf p ⌝ }
+{
+    let credential = p.credential;
+    let kind = p.kind;
+    let name = p.name;
+    Row {
+        credential: credential,
+        kind: listing_row::type_of(kind),
+        name: name,
+    }
+}
+
+// How many rows a listing has.
+fn row_count(t: Table, wanted: Wanted) -> usize
+    ensures { λ r. ⌜ r ≡ length (rowsAmong wanted (standing t)) ⌝ }
+{
+    let rows = calls_list_tests::among_of(wanted);
+    table_search::count_among(t, rows)
+}
+
+// The rows, each in the 51 bytes from its own offset.
+fn put_rows(buffer: &mut [u8], t: Table, wanted: Wanted)
+    requires { ⌜ messageLength (length (rowsAmong wanted (standing t))) ≤ length (now buffer) ⌝ }
+    ensures { λ r. ⌜ now (buffer .exit) ≡ rowsOver (rowsAmong wanted (standing t)) (now (buffer .entry)) ⌝ }
+{
+    let n = table::size(t);
+    let places = t.places;
+    let mut k: usize = 0;
+    let mut i: usize = 0;
+    while i < n {
+        let p = places[i];
+        if is_wanted(p, wanted) {
+            let start = 4 + k * 51;
+            let end = start + 51;
+            listing_row::put_row(&mut buffer[start..end], row_of(p));
+            k += 1;
+        }
+        i += 1;
+    }
+}
+
+// ---- the message
+
+// The response, at the front of a buffer that has room for it. Its length; 0 where there is no room.
+pub fn put_listing(buffer: &mut [u8], t: Table, wanted: Wanted) -> usize
+    ensures { λ r. ⌜ (r ≡ listingLength (rowsAmong wanted (standing t)) (now (buffer .entry))) × (now (buffer .exit) ≡ listingOver (rowsAmong wanted (standing t)) (now (buffer .entry))) ⌝ }
+{
+    let count = row_count(t, wanted);
+    let long = 4 + 51 * count;
+    if buffer.len() < long {
+        return 0;
+    }
+    listing_messages::put_head(buffer, AUTH_PROCESSES, count as u16);
+    put_rows(buffer, t, wanted);
+    long
+}
+
+// The list call: what calls decides for the room that the buffer has, and the response where it is accepted.
+pub fn list(st: State, s: Session, claim: Claim, wanted: Wanted, buffer: &mut [u8]) -> Listed
+    ensures { λ r. ⌜ (r ≡ listed st s claim wanted (length (now (buffer .entry)))) × (now (buffer .exit) ≡ listedBytes st s claim wanted (now (buffer .entry))) ⌝ }
+{
+    let room = buffer.len();
+    let decided = calls_standing::list(st, s, claim, wanted, room);
+    if decided.length != 0 {
+        let t = st.table;
+        put_listing(buffer, t, wanted);
+    }
+    decided
+}

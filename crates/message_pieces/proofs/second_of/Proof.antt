@@ -1,0 +1,54 @@
+use Rattle.message_pieces.proofs.Parts.{rules}
+use Rattle.message_pieces.specs.Pieces.{second}
+use Rattle.message_pieces.proofs.second_of.Statement.{statement}
+use Rattle.message_pieces.proofs.second_of.Tie as tie
+
+enum-told : tie.Need-enum-told
+enum-told c = search rules
+
+enum-told-2 : tie.Need-enum-told-2
+enum-told-2 c = search rules
+
+enum-told-3 : tie.Need-enum-told-3
+enum-told-3 c = search rules
+
+enum-told-4 : tie.Need-enum-told-4
+enum-told-4 c = search rules
+
+enum-told-5 : tie.Need-enum-told-5
+enum-told-5 c = search rules
+
+returns : tie.Need-returns
+unfolding second
+returns c = search rules
+
+returns-2 : tie.Need-returns-2
+unfolding second
+returns-2 c = search rules
+
+returns-3 : tie.Need-returns-3
+unfolding second
+returns-3 c = search rules
+
+returns-4 : tie.Need-returns-4
+unfolding second
+returns-4 c = search rules
+
+returns-5 : tie.Need-returns-5
+unfolding second
+returns-5 c = search rules
+
+pub second-of-spec : {M : Type 1} → statement M
+second-of-spec =
+    tie.close
+    (tie.spec
+    enum-told
+    enum-told-2
+    enum-told-3
+    enum-told-4
+    enum-told-5
+    returns
+    returns-2
+    returns-3
+    returns-4
+    returns-5)

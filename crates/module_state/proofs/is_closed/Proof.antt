@@ -1,0 +1,29 @@
+use Rattle.module_state.proofs.Rules.{rules}
+use Rattle.module_state.proofs.is_closed.Statement.{statement}
+use Rattle.module_state.proofs.is_closed.Tie as tie
+
+phase-of-requires : tie.Need-phase-of-requires
+phase-of-requires c κs = search rules
+
+enum-told : tie.Need-enum-told
+enum-told c = search rules
+
+enum-told-2 : tie.Need-enum-told-2
+enum-told-2 c = search rules
+
+enum-told-3 : tie.Need-enum-told-3
+enum-told-3 c = search rules
+
+returns : tie.Need-returns
+returns c = search rules
+
+returns-2 : tie.Need-returns-2
+returns-2 c = search rules
+
+returns-3 : tie.Need-returns-3
+returns-3 c = search rules
+
+pub is-closed-spec : {M : Type 1} → statement M
+is-closed-spec =
+    tie.close
+    (tie.spec phase-of-requires enum-told enum-told-2 enum-told-3 returns returns-2 returns-3)

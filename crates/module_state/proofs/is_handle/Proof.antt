@@ -1,0 +1,9 @@
+use Rattle.module_state.proofs.Rules.{rules}
+use Rattle.module_state.proofs.is_handle.Statement.{statement}
+use Rattle.module_state.proofs.is_handle.Tie as tie
+
+returns : tie.Need-returns
+returns c = search rules
+
+pub is-handle-spec : {M : Type 1} → statement M
+is-handle-spec = tie.close (tie.spec returns)

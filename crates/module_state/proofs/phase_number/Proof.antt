@@ -1,0 +1,40 @@
+use Rattle.module_state.proofs.Rules.{rules}
+use Rattle.module_state.proofs.phase_number.Statement.{statement}
+use Rattle.module_state.proofs.phase_number.Tie as tie
+
+is-handle-requires : tie.Need-is-handle-requires
+is-handle-requires c κs = search rules
+
+returns : tie.Need-returns
+returns c = search rules
+
+enum-told : tie.Need-enum-told
+enum-told c = search rules
+
+enum-told-2 : tie.Need-enum-told-2
+enum-told-2 c = search rules
+
+enum-told-3 : tie.Need-enum-told-3
+enum-told-3 c = search rules
+
+returns-2 : tie.Need-returns-2
+returns-2 c = search rules
+
+returns-3 : tie.Need-returns-3
+returns-3 c = search rules
+
+returns-4 : tie.Need-returns-4
+returns-4 c = search rules
+
+pub phase-number-spec : {M : Type 1} → statement M
+phase-number-spec =
+    tie.close
+    (tie.spec
+    is-handle-requires
+    returns
+    enum-told
+    enum-told-2
+    enum-told-3
+    returns-2
+    returns-3
+    returns-4)

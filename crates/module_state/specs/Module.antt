@@ -1,0 +1,84 @@
+-- "What the module holds"
+use Prim.Native.Nat.{ℕ, _/_, _%_, _^_, _+_}
+use mathlib.Core.Bool.{Bool, true, false, cond, _&&_}
+use mathlib.Core.List.{List}
+use lib.Dec.{eqb, leb}
+use lib.ListN.{getD}
+use Rattle.lists.specs.Lists.{any, firstIndex}
+use Rattle.names.specs.declared.Credential.{Credential}
+use Rattle.names.specs.declared.Session.{Session}
+use Rattle.table.specs.Table.{standing, processAt, isActive}
+use Rattle.table.specs.declared.Active.{Active}
+use Rattle.table.specs.declared.Process.{Process}
+use Rattle.table.specs.declared.Table.{Table}
+use Rattle.module_state.specs.declared.Class.{Class}
+use Rattle.module_state.specs.declared.Grants.{Grants}
+use Rattle.module_state.specs.declared.Lookup.{Lookup}
+use Rattle.module_state.specs.declared.Lookup.the-variants.{NotGranted, Granted}
+use Rattle.module_state.specs.declared.Phase.{Phase}
+use Rattle.module_state.specs.declared.Phase.the-variants.{Closed, Opened, Chosen}
+use Rattle.module_state.specs.declared.SessionState.{SessionState}
+use Rattle.module_state.specs.declared.State.{State}
+
+-- ---- "Four sessions, handles 0 to 3. Each is closed, or open without a version, or open with version 1.0."
+abbrev pub lastHandle : ℕ
+lastHandle = 3
+
+abbrev pub sessionCount : ℕ
+sessionCount = lastHandle + 1
+
+unfoldable pub isHandle : Session → Bool
+isHandle s = leb (s .0) lastHandle
+
+abbrev pub closedSession : SessionState
+closedSession = record { phase = Closed }
+
+unfoldable pub phaseOf : State → Session → Phase
+phaseOf st s = getD (st .sessions) (s .0) closedSession .phase
+
+unfoldable pub isClosed : Phase → Bool
+isClosed Closed = true
+isClosed Opened = false
+isClosed Chosen = false
+
+unfoldable pub isChosen : Phase → Bool
+isChosen Closed = false
+isChosen Opened = false
+isChosen Chosen = true
+
+-- ---- "Eight credentials, 0 to 7. Each is provisioned or not, and has a grant word of 32 bits; bit k grants class k."
+abbrev pub lastCredential : ℕ
+lastCredential = 7
+
+abbrev pub credentialCount : ℕ
+credentialCount = lastCredential + 1
+
+unfoldable pub isCredential : Credential → Bool
+isCredential c = leb (c .0) lastCredential
+
+abbrev pub unprovisioned : Grants
+unprovisioned = record { provisioned = false; word = 0 }
+
+unfoldable pub grantsOf : State → Credential → Grants
+grantsOf st c = getD (st .credentials) (c .0) unprovisioned
+
+unfoldable pub provisioned : State → Credential → Bool
+unfolding grantsOf
+provisioned st c = grantsOf st c .provisioned
+
+unfoldable pub wordGrants : ℕ → Class → Bool
+wordGrants word class = leb (class .0) 31 && eqb (word / 2 ^ (class .0) % 2) 1
+
+-- what the grants of a credential answer for a class
+unfoldable pub lookup : Grants → Class → Lookup
+lookup grants class = cond (wordGrants (grants .word) class) Granted NotGranted
+
+-- ---- the table's active processes: whether there is one; its place, and itself
+unfoldable pub hasActive : State → Active → Bool
+hasActive st which = any (isActive which) (standing (st .table))
+
+unfoldable pub activePlace : State → Active → ℕ
+activePlace st which = firstIndex (isActive which) (standing (st .table))
+
+unfoldable pub activeProcess : State → Active → Process
+activeProcess st which = processAt (st .table) (activePlace st which)

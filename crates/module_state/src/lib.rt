@@ -1,0 +1,250 @@
+// What the module holds, and whom it grants what; the types of a claim and of its check.
+ghost use mathlib.Core.Path.{_≡_};
+ghost use Rattle.module_state.specs.Module.{isHandle, isCredential, phaseOf, isClosed, grantsOf, wordGrants, lookup};
+ghost use Rattle.module_state.specs.Claim.{phaseNumber, entered, lookupNumber, grantNumber};
+use names::Credential;
+use names::Session;
+use table::Found;
+use table::Table;
+
+// The numbers that a call can answer.
+pub const DONE: u8 = 0;
+
+pub const ARGUMENT: u8 = 1;
+
+pub const SESSION: u8 = 2;
+
+pub const NO_VERSION: u8 = 3;
+
+pub const VERSION: u8 = 4;
+
+pub const CREDENTIAL: u8 = 5;
+
+pub const NO_PROCESS: u8 = 6;
+
+pub const ALREADY_ACTIVE: u8 = 7;
+
+pub const VERDICT: u8 = 8;
+
+pub const OUT_OF_TURN: u8 = 9;
+
+pub const NOT_GRANTED: u8 = 10;
+
+pub const FULL: u8 = 11;
+
+pub const NAME_TAKEN: u8 = 12;
+
+pub const SPENT: u8 = 13;
+
+pub const MESSAGE: u8 = 14;
+
+pub const ROOM: u8 = 15;
+
+// A class of operations. A session handle or a credential cannot stand for it.
+pub struct Class(pub u8);
+
+// The classes that calls of this module ask for.
+pub const LIST_OTHERS: u8 = 0;
+
+pub const KILL_OTHERS: u8 = 1;
+
+pub const SAVE_OWN: u8 = 2;
+
+pub const SET_WORDS: u8 = 3;
+
+// Handles are 0 to 3, credentials 0 to 7.
+pub const SESSIONS: usize = 4;
+
+pub const LAST_HANDLE: u8 = 3;
+
+pub const CREDENTIALS: usize = 8;
+
+pub const LAST_CREDENTIAL: u16 = 7;
+
+pub enum Phase {
+    Closed,
+    Opened,
+    Chosen,
+}
+
+pub struct SessionState {
+    pub phase: Phase,
+}
+
+pub struct Grants {
+    pub provisioned: bool,
+    pub word: u32,
+}
+
+// What a credential has that is not provisioned.
+pub const UNPROVISIONED: Grants = Grants {
+    provisioned: false,
+    word: 0,
+};
+
+// What the grants of a credential answer for a class.
+pub enum Lookup {
+    NotGranted,
+    Granted,
+}
+
+pub struct State {
+    pub sessions: [SessionState; SESSIONS],
+    pub credentials: [Grants; CREDENTIALS],
+    pub table: Table,
+}
+
+pub struct UserClaim {
+    pub credential: Credential,
+    pub number: u16,
+    pub verdict: bool,
+}
+
+pub enum Claim {
+    Elevated,
+    ByUser(UserClaim),
+}
+
+// What a state tells of a claim that is made in a session: all that its check asks.
+pub struct ClaimView {
+    pub phase: Phase,
+    pub found: Found,
+    pub next: u16,
+    pub credential: Credential,
+    pub grants: Grants,
+}
+
+// What the check of a claim comes to: its number, and what a call goes on with where that is 0.
+pub struct Checked {
+    pub claim: Claim,
+    pub number: u8,
+    pub place: usize,
+    pub next: u16,
+    pub credential: Credential,
+    pub grants: Grants,
+}
+
+// What tests come to that find a process: their number, and the place of the process where that is 0.
+pub struct Placed {
+    pub number: u8,
+    pub place: usize,
+}
+
+pub fn is_handle(s: Session) -> bool
+    ensures { λ r. ⌜ r ≡ isHandle s ⌝ }
+{
+    s.0 <= LAST_HANDLE
+}
+
+pub fn is_credential(c: Credential) -> bool
+    ensures { λ r. ⌜ r ≡ isCredential c ⌝ }
+{
+    c.0 <= LAST_CREDENTIAL
+}
+
+// The phase of a session; a handle that there is none of is closed.
+pub fn phase_of(st: State, s: Session) -> Phase
+    ensures { λ r. ⌜ r ≡ phaseOf st s ⌝ }
+{
+    let at = s.0 as usize;
+    if at < SESSIONS {
+        let sessions = st.sessions;
+        let one = sessions[at];
+        one.phase
+    } else {
+        Phase::Closed
+    }
+}
+
+pub fn is_closed(st: State, s: Session) -> bool
+    ensures { λ r. ⌜ r ≡ isClosed (phaseOf st s) ⌝ }
+{
+    match phase_of(st, s) {
+        Phase::Closed => true,
+        Phase::Opened => false,
+        Phase::Chosen => false,
+    }
+}
+
+// The grants of a credential; one that there is none of is not provisioned.
+pub fn grants_of(st: State, c: Credential) -> Grants
+    ensures { λ r. ⌜ r ≡ grantsOf st c ⌝ }
+{
+    let at = c.0 as usize;
+    if at < CREDENTIALS {
+        let credentials = st.credentials;
+        credentials[at]
+    } else {
+        UNPROVISIONED
+    }
+}
+
+// Whether a grant word grants a class.
+fn word_grants(word: u32, class: Class) -> bool
+    ensures { λ r. ⌜ r ≡ wordGrants word class ⌝ }
+{
+    if 31 < class.0 {
+        return false;
+    }
+    let bit = class.0 as u32;
+    (word >> bit) % 2 == 1
+}
+
+pub fn look_up(grants: Grants, class: Class) -> Lookup
+    ensures { λ r. ⌜ r ≡ lookup grants class ⌝ }
+{
+    if word_grants(grants.word, class) {
+        Lookup::Granted
+    } else {
+        Lookup::NotGranted
+    }
+}
+
+// The number of each answer of the lookup, for a claim.
+pub fn lookup_number(claim: Claim, answer: Lookup) -> u8
+    ensures { λ r. ⌜ r ≡ lookupNumber claim answer ⌝ }
+{
+    match answer {
+        Lookup::NotGranted => NOT_GRANTED,
+        Lookup::Granted => DONE,
+    }
+}
+
+// The test that a class is granted, by what the check of a claim came to.
+pub fn grant_number(by: Checked, class: Class) -> u8
+    ensures { λ r. ⌜ r ≡ grantNumber by class ⌝ }
+{
+    let claim = by.claim;
+    let grants = by.grants;
+    lookup_number(claim, look_up(grants, class))
+}
+
+// The tests that all calls but open, close and select begin with, of a session in a phase.
+pub fn phase_number(s: Session, phase: Phase) -> u8
+    ensures { λ r. ⌜ r ≡ phaseNumber s phase ⌝ }
+{
+    if !is_handle(s) {
+        return ARGUMENT;
+    }
+    match phase {
+        Phase::Closed => SESSION,
+        Phase::Opened => NO_VERSION,
+        Phase::Chosen => DONE,
+    }
+}
+
+pub fn entered(st: State, s: Session) -> u8
+    ensures { λ r. ⌜ r ≡ entered st s ⌝ }
+{
+    phase_number(s, phase_of(st, s))
+}
+
+// Tests that refuse: their number, and no place.
+pub fn refused(n: u8) -> Placed
+    ensures { λ r. ⌜ r ≡ record { number = n; place = 0 } ⌝ }
+{
+    Placed {
+        number: n,
+        place: 0,
+    }
+}

@@ -1,0 +1,116 @@
+-- The layout, worked by hand: the state that docs/STATE.md draws, and what one changed byte of it breaks.
+-- Assumes nothing.
+use Prim.Native.Nat.{ℕ}
+use mathlib.Core.Path.{_≡_, refl}
+use mathlib.Core.Bool.{Bool, true, false}
+use mathlib.Core.List.{List, [], _∷_, _++_}
+use lib.ListN.{length, replicate, set, take}
+use Rattle.lists.specs.Lists.{join, padded}
+use Rattle.rows.specs.Bytes.{bytesOf, numberOf, numberAt, byteOf}
+use Rattle.rows.specs.Rows.{rows, every, pairwise}
+use Rattle.names.specs.Names.{sameBytes, sameName}
+use Rattle.names.specs.declared.Kind.{Kind}
+use Rattle.names.specs.declared.Kind.the-variants.{User, Elevation, Saved}
+use Rattle.table.specs.Table.{standing, tableOf, isActive, isActiveIn}
+use Rattle.table.specs.declared.Process.{Process}
+use Rattle.module_state.specs.Module.{closedSession, unprovisioned, provisioned, phaseOf, isChosen}
+use Rattle.module_state.specs.declared.Phase.the-variants.{Opened, Chosen}
+use Rattle.module_state.specs.declared.State.{State}
+use Rattle.state_layout.specs.Layout.{sessionBytes, sessionFrom, sessionFits, grantsBytes, grantsFrom, grantsFit, processBytes, processFrom, processFits, countIn, placesIn, stateBytes, nothingHeld, stateOf, isOwned, areRivals, areApart, sound, ownersFit, restIsFree, shaped, holdsState}
+
+-- document 01: "P is 16 zero bytes then 32 of 0x11; Q is 16 zero bytes then 32 of 0x22; R is P with its last byte 0x12."
+abbrev P : List ℕ
+P = replicate 16 0 ++ replicate 32 0x11
+
+abbrev Q : List ℕ
+Q = replicate 16 0 ++ replicate 32 0x22
+
+abbrev R : List ℕ
+R = replicate 16 0 ++ (replicate 31 0x11 ++ (0x12 ∷ []))
+
+abbrev process : ℕ → Kind → ℕ → ℕ → List ℕ → Process
+process c k s n name = record { credential = record { 0 = c }; kind = k; session = record { 0 = s }; next = n; name = record { bytes = name } }
+
+-- sessions 0 and 1 are open, 0 with version 1.0; credentials 0 (word 15) and 1 (word 16) are provisioned. P is credential 0's active user process in
+-- session 0, its next number 3; Q is a saved one of credential 1, its next number 300; R is the elevation of credential 1 in session 0
+abbrev drawn : State
+drawn =
+    record {
+      sessions = record { phase = Chosen } ∷ record { phase = Opened } ∷ replicate 2 closedSession;
+      credentials = record { provisioned = true; word = 15 } ∷ record { provisioned = true; word = 16 } ∷ replicate 6 unprovisioned;
+      table = tableOf (process 0 User 0 3 P ∷ process 1 Saved 0 300 Q ∷ process 1 Elevation 0 0 R ∷ []);
+    }
+
+abbrev bytes : List ℕ
+bytes =
+    -- at 0: the sessions
+    (2 ∷ 1 ∷ 0 ∷ 0 ∷ [])
+    -- at 4: the credentials
+    ++ ((1 ∷ 15 ∷ 0 ∷ 0 ∷ 0 ∷ [])
+    ++ ((1 ∷ 16 ∷ 0 ∷ 0 ∷ 0 ∷ [])
+    ++ (replicate 30 0
+    -- at 44: the count
+    ++ (3
+    -- at 45, 98 and 151: the places that stand
+    ∷ ((0 ∷ 0 ∷ 0 ∷ 0x03 ∷ 0x00 ∷ P)
+    ++ ((1 ∷ 2 ∷ 0 ∷ 0x2c ∷ 0x01 ∷ Q)
+    ++ ((1 ∷ 1 ∷ 0 ∷ 0x00 ∷ 0x00 ∷ R)
+    -- from 204 to 680: the free places
+    ++ replicate 477 0)))))))
+
+pub record Drawn : Type 0 where
+  pub written : stateBytes drawn ≡ bytes
+  pub read : stateOf bytes ≡ drawn
+  pub long : length bytes ≡ 681
+  pub held : holdsState bytes ≡ true
+  pub nothing-held : holdsState (replicate 681 0) ≡ true
+  pub nothing-written : stateBytes nothingHeld ≡ replicate 681 0
+
+pub drawn-is : Drawn
+unfolding join padded bytesOf numberOf numberAt rows every pairwise sameBytes sameName standing tableOf isActive isActiveIn provisioned phaseOf isChosen byteOf sessionBytes sessionFrom sessionFits grantsBytes grantsFrom grantsFit processBytes processFrom processFits countIn placesIn stateBytes stateOf isOwned areRivals areApart sound ownersFit restIsFree shaped holdsState
+drawn-is = record { written = refl; read = refl; long = refl; held = refl; nothing-held = refl; nothing-written = refl }
+
+-- a byte changed: the place, and what it holds then
+abbrev changed : ℕ → ℕ → Bool
+changed at byte = holdsState (set bytes at byte)
+
+pub record Refused : Type 0 where
+  -- "its length is another"
+  pub short : holdsState (take 680 bytes) ≡ false
+  pub long : holdsState (bytes ++ (0 ∷ [])) ≡ false
+  -- "a field is out of its range"
+  pub phase-3 : changed 3 3 ≡ false
+  pub flag-2 : changed 4 2 ≡ false
+  pub count-13 : changed 44 13 ≡ false
+  pub credential-8 : changed 45 8 ≡ false
+  pub type-3 : changed 46 3 ≡ false
+  pub session-4 : changed 47 4 ≡ false
+  -- "a field kept zero isn't zero (an unprovisioned credential's word too)"
+  pub word-unprovisioned : changed 18 1 ≡ false
+  pub saved-session : changed 100 1 ≡ false
+  pub elevation-next : changed 155 1 ≡ false
+  pub free-place : changed 680 1 ≡ false
+  pub count-too-low : changed 44 2 ≡ false
+  -- "a slice with a saved process at next number 0"
+  pub saved-uncounted : holdsState (set (set (set bytes 44 4) 205 2) 256 7) ≡ false
+  -- "or demand 3's rules .. are broken": an owner; a session; a name; two user processes; two elevations
+  pub owner : changed 45 2 ≡ false
+  pub session-without-version : changed 47 1 ≡ false
+  pub session-closed : changed 47 2 ≡ false
+  pub name-twice : changed 203 0x11 ≡ false
+  pub user-twice : holdsState (set (set bytes 98 0) 99 0) ≡ false
+  pub count-too-high : changed 44 4 ≡ false
+  pub elevation-twice : holdsState (set (set (set bytes 99 1) 101 0) 102 0) ≡ false
+
+-- what breaks none: another credential's user process in that session; a fourth process, of a name of its own
+pub record Held : Type 0 where
+  pub user-of-another : changed 99 0 ≡ true
+  pub fourth-named : holdsState (set (set (set (set bytes 44 4) 205 2) 207 1) 256 7) ≡ true
+
+pub refused : Refused
+unfolding join padded bytesOf numberOf numberAt rows every pairwise sameBytes sameName standing tableOf isActive isActiveIn provisioned phaseOf isChosen byteOf sessionBytes sessionFrom sessionFits grantsBytes grantsFrom grantsFit processBytes processFrom processFits countIn placesIn stateBytes stateOf isOwned areRivals areApart sound ownersFit restIsFree shaped holdsState
+refused = record { short = refl; long = refl; phase-3 = refl; flag-2 = refl; count-13 = refl; credential-8 = refl; type-3 = refl; session-4 = refl; word-unprovisioned = refl; saved-session = refl; elevation-next = refl; free-place = refl; count-too-low = refl; saved-uncounted = refl; owner = refl; session-without-version = refl; session-closed = refl; name-twice = refl; user-twice = refl; count-too-high = refl; elevation-twice = refl }
+
+pub held : Held
+unfolding join padded bytesOf numberOf numberAt rows every pairwise sameBytes sameName standing tableOf isActive isActiveIn provisioned phaseOf isChosen byteOf sessionBytes sessionFrom sessionFits grantsBytes grantsFrom grantsFit processBytes processFrom processFits countIn placesIn stateBytes stateOf isOwned areRivals areApart sound ownersFit restIsFree shaped holdsState
+held = record { user-of-another = refl; fourth-named = refl }
