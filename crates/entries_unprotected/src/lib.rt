@@ -81,7 +81,7 @@ pub extern "C" fn slavotuk_start(
     let st = state_read::read(state);
     entries_store::store(
         state,
-        calls_unprotected_tests::start(
+        calls_unprotected::start(
             st,
             entries_arguments::session_of(session),
             entries_arguments::credential_of(credential),
@@ -106,7 +106,7 @@ pub extern "C" fn slavotuk_continue(
     let st = state_read::read(state);
     entries_store::store(
         state,
-        calls_unprotected_tests::continue_saved(
+        calls_unprotected::continue_saved(
             st,
             entries_arguments::session_of(session),
             entries_arguments::credential_of(credential),
@@ -135,7 +135,7 @@ pub extern "C" fn slavotuk_elevate(
     let st = state_read::read(state);
     entries_store::store(
         state,
-        calls_unprotected_tests::elevate(
+        calls_unprotected::elevate(
             st,
             entries_arguments::session_of(session),
             entries_arguments::credential_of(credential),
@@ -155,7 +155,7 @@ pub extern "C" fn slavotuk_drop(state: &mut [u8], session: u32) -> u32
     let st = state_read::read(state);
     entries_store::store(
         state,
-        calls_unprotected_tests::drop_elevation(st, entries_arguments::session_of(session)),
+        calls_unprotected::drop_elevation(st, entries_arguments::session_of(session)),
     )
 }
 

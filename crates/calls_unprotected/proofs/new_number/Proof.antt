@@ -1,6 +1,6 @@
-use Rattle.calls_unprotected_tests.proofs.Rules.{rules}
-use Rattle.calls_unprotected_tests.proofs.new_number.Statement.{statement}
-use Rattle.calls_unprotected_tests.proofs.new_number.Tie as tie
+use Rattle.calls_unprotected.proofs.Rules.{rules}
+use Rattle.calls_unprotected.proofs.new_number.Statement.{statement}
+use Rattle.calls_unprotected.proofs.new_number.Tie as tie
 
 find-named-requires : tie.Need-find-named-requires
 find-named-requires c κs = search rules

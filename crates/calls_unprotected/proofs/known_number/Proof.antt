@@ -1,6 +1,6 @@
-use Rattle.calls_unprotected_tests.proofs.Rules.{rules}
-use Rattle.calls_unprotected_tests.proofs.known_number.Statement.{statement}
-use Rattle.calls_unprotected_tests.proofs.known_number.Tie as tie
+use Rattle.calls_unprotected.proofs.Rules.{rules}
+use Rattle.calls_unprotected.proofs.known_number.Statement.{statement}
+use Rattle.calls_unprotected.proofs.known_number.Tie as tie
 
 is-credential-requires : tie.Need-is-credential-requires
 is-credential-requires c κs = search rules

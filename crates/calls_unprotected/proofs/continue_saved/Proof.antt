@@ -1,6 +1,6 @@
-use Rattle.calls_unprotected_tests.proofs.Rules.{rules}
-use Rattle.calls_unprotected_tests.proofs.continue_saved.Statement.{statement}
-use Rattle.calls_unprotected_tests.proofs.continue_saved.Tie as tie
+use Rattle.calls_unprotected.proofs.Rules.{rules}
+use Rattle.calls_unprotected.proofs.continue_saved.Statement.{statement}
+use Rattle.calls_unprotected.proofs.continue_saved.Tie as tie
 
 known-number-requires : tie.Need-known-number-requires
 known-number-requires c κs = search rules

@@ -1,6 +1,6 @@
-use Rattle.calls_unprotected_tests.proofs.Rules.{rules}
-use Rattle.calls_unprotected_tests.proofs.drop_elevation.Statement.{statement}
-use Rattle.calls_unprotected_tests.proofs.drop_elevation.Tie as tie
+use Rattle.calls_unprotected.proofs.Rules.{rules}
+use Rattle.calls_unprotected.proofs.drop_elevation.Statement.{statement}
+use Rattle.calls_unprotected.proofs.drop_elevation.Tie as tie
 
 entered-requires : tie.Need-entered-requires
 entered-requires c κs = search rules

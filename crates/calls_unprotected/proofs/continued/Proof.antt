@@ -1,6 +1,6 @@
-use Rattle.calls_unprotected_tests.proofs.Rules.{rules}
-use Rattle.calls_unprotected_tests.proofs.continued.Statement.{statement}
-use Rattle.calls_unprotected_tests.proofs.continued.Tie as tie
+use Rattle.calls_unprotected.proofs.Rules.{rules}
+use Rattle.calls_unprotected.proofs.continued.Statement.{statement}
+use Rattle.calls_unprotected.proofs.continued.Tie as tie
 
 process-at-requires : tie.Need-process-at-requires
 process-at-requires c κs = search rules

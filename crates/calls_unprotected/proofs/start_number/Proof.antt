@@ -1,7 +1,7 @@
 use Rattle.calls.specs.Calls.{number}
-use Rattle.calls_unprotected_tests.proofs.Rules.{rules}
-use Rattle.calls_unprotected_tests.proofs.start_number.Statement.{statement}
-use Rattle.calls_unprotected_tests.proofs.start_number.Tie as tie
+use Rattle.calls_unprotected.proofs.Rules.{rules}
+use Rattle.calls_unprotected.proofs.start_number.Statement.{statement}
+use Rattle.calls_unprotected.proofs.start_number.Tie as tie
 
 known-number-requires : tie.Need-known-number-requires
 known-number-requires c κs = search rules
