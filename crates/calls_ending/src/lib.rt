@@ -15,9 +15,9 @@ pub fn end(st: State, s: Session, u: UserClaim, keep: bool) -> Outcome
     ensures { λ r. ⌜ r ≡ outcome st (End s u keep) ⌝ }
 {
     let claim = Claim::ByUser(u);
-    let by = claim_admission::check(st, s, claim);
+    let by = calls_claim::check(st, s, claim);
     let n = calls_protected_tests::end_number(by, keep);
-    let counted = claim_count::charged_by(st, by, n);
+    let counted = calls_claim::charged_by(st, by, n);
     if n != DONE {
         return calls_effects::refused_claim(counted, n, claim);
     }
@@ -29,13 +29,16 @@ pub fn end(st: State, s: Session, u: UserClaim, keep: bool) -> Outcome
 pub fn kill(st: State, s: Session, claim: Claim, name: Name) -> Outcome
     ensures { λ r. ⌜ r ≡ outcome st (Kill s claim name) ⌝ }
 {
-    let by = claim_admission::check(st, s, claim);
+    let by = calls_claim::check(st, s, claim);
     let tested = calls_protected_tests::kill_number(st, by, name);
     let n = tested.number;
-    let next = claim_count::charged_by(st, by, n);
+    let next = calls_claim::charged_by(st, by, n);
     if n != DONE {
         return calls_effects::refused_claim(next, n, claim);
     }
     let t = next.table;
-    calls_effects::accepted(calls_effects::with_table(next, table_removal::removed(t, tested.place)))
+    calls_effects::accepted(calls_effects::with_table(
+        next,
+        table_removal::removed(t, tested.place),
+    ))
 }

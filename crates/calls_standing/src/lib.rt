@@ -17,11 +17,11 @@ use names::Session;
 pub fn list(st: State, s: Session, claim: Claim, wanted: Wanted, room: usize) -> Listed
     ensures { λ r. ⌜ r ≡ listed st s claim wanted room ⌝ }
 {
-    let by = claim_admission::check(st, s, claim);
+    let by = calls_claim::check(st, s, claim);
     let tested = calls_list_tests::list_number(st, by, wanted, room);
     let n = tested.number;
     let long = tested.length;
-    let counted = claim_count::charged_by(st, by, n);
+    let counted = calls_claim::charged_by(st, by, n);
     if n != DONE {
         return Listed {
             outcome: calls_effects::refused_claim(counted, n, claim),
@@ -39,9 +39,9 @@ pub fn list(st: State, s: Session, claim: Claim, wanted: Wanted, room: usize) ->
 pub fn set_word(st: State, s: Session, claim: Claim, target: Credential, word: u32) -> Outcome
     ensures { λ r. ⌜ r ≡ outcome st (SetWord s claim target word) ⌝ }
 {
-    let by = claim_admission::check(st, s, claim);
+    let by = calls_claim::check(st, s, claim);
     let n = calls_protected_tests::set_word_number(st, by, target);
-    let next = claim_count::charged_by(st, by, n);
+    let next = calls_claim::charged_by(st, by, n);
     if n != DONE {
         return calls_effects::refused_claim(next, n, claim);
     }

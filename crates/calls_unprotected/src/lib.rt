@@ -95,7 +95,10 @@ fn continued(st: State, s: Session, at: usize) -> State
 {
     let t = st.table;
     let p = table::process_at(t, at);
-    calls_effects::with_table(st, table_change::replaced(t, at, calls_effects::activated(p, s)))
+    calls_effects::with_table(
+        st,
+        table_change::replaced(t, at, calls_effects::activated(p, s)),
+    )
 }
 
 pub fn continue_saved(st: State, s: Session, c: Credential, name: Name) -> Outcome

@@ -9,10 +9,10 @@ ghost use Rattle.message_fields_write.specs.Bodies.{bodyBytes, bodyLong};
 ghost use Rattle.message_write.specs.Written.{messageBytes, messageLong};
 ghost use Rattle.message_read.specs.Messages.{readMessage};
 ghost use Rattle.entries_messages.specs.Entries.{readMessageNumber, writeMessageNumber, readPieceNumber, putPieceNumber, ReadEntry, PieceEntry, WriteEntry};
+use message_fields::VALUES;
 use module_state::ARGUMENT;
 use module_state::DONE;
 use module_state::MESSAGE;
-use message_fields::VALUES;
 
 // The kinds of a piece are 0 to 4.
 const KINDS: u32 = 5;

@@ -1,6 +1,6 @@
 -- "one that serves the first record and afterwards only answers falls to the next number, as does an invented number, by demand 3's history"; and one whose
 -- refusals spend nothing. Of each such build, calls after which demand 3 is false of the history that they have with it and the state that it is left in. As edits
--- of the code: `first_record_only` and `invented_next_number` of claim_count, `number_not_tested` of claim_check, `refused_record_not_counted` of entries_record.
+-- of the code: `first_record_only` and `invented_next_number` of calls_claim, `number_not_tested` of claim_check, `refused_record_not_counted` of entries_record.
 -- Assumes nothing.
 use Prim.Native.Nat.{ℕ}
 use mathlib.Core.Path.{_≡_, refl}

@@ -3,11 +3,11 @@ ghost use mathlib.Core.Path.{_≡_};
 ghost use mathlib.Core.Bool.{true};
 ghost use Rattle.image.specs.Image.{savedAmong, isImage, imageTest, SavedLie};
 ghost use Rattle.image_figures.specs.Figures.{classesHeld, classesGranted, largestNext, figuresIn, sizeSaid, lineOf};
-use module_state::CREDENTIALS;
-use module_state::Grants;
 use image::ImageTest;
 use image::SAVED_NEXT_AT;
 use image::SAVED_SIZE;
+use module_state::CREDENTIALS;
+use module_state::Grants;
 
 // Bytes of the length before an image.
 pub const LENGTH_SIZE: usize = 2;

@@ -3,8 +3,6 @@ ghost use mathlib.Core.Path.{_≡_};
 ghost use lib.ListN.{drop};
 ghost use Rattle.module_state.specs.Module.{credentialCount};
 ghost use Rattle.image.specs.Image.{wordsAt, wordSize, numbersIn, headIn, grantsSaid, headFits};
-use module_state::CREDENTIALS;
-use module_state::Grants;
 use image::ImageHead;
 use image::MASK_AT;
 use image::ROW_COUNT_AT;
@@ -14,6 +12,8 @@ use image::WORD_COUNT_AT;
 use image::WORD_OFFSET_AT;
 use image::WORD_SIZE;
 use image::WORDS_AT;
+use module_state::CREDENTIALS;
+use module_state::Grants;
 use table::PLACES;
 
 // ---- the numbers

@@ -7,14 +7,14 @@ ghost use lib.ListN.{length};
 ghost use Rattle.rows.specs.Rows.{every, pairwise};
 ghost use Rattle.image.specs.Image.{savedSize, imageLong, savedFrom, savedAmong, isOwner, isKeepable, differ, headFits, wordFits, imageTest, SavedLie};
 ghost use Rattle.image_test.specs.Tests.{laterDiffer, restFits};
-use module_state::CREDENTIALS;
-use module_state::Grants;
 use image::ImageHead;
 use image::ImageTest;
 use image::SAVED_NAME_AT;
 use image::SAVED_NEXT_AT;
 use image::SAVED_OWNER_AT;
 use image::SAVED_SIZE;
+use module_state::CREDENTIALS;
+use module_state::Grants;
 use names::Credential;
 
 // ---- the words

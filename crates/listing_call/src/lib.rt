@@ -8,13 +8,13 @@ ghost use Rattle.calls.specs.Listing.{amongOf, rowOf, messageLength};
 ghost use Rattle.listing_messages.specs.Wire.{rowsAmong, rowsOver, listingOver, listingLength, listedBytes};
 use calls::Listed;
 use calls::Wanted;
+use listing_messages::AUTH_PROCESSES;
 use module_state::Claim;
 use module_state::State;
 use names::Row;
 use names::Session;
 use table::Process;
 use table::Table;
-use listing_messages::AUTH_PROCESSES;
 
 // ---- the rows of a table
 

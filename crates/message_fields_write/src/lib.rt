@@ -7,11 +7,11 @@ ghost use lib.ListN.{length};
 ghost use Rattle.rows.specs.Rows.{over};
 ghost use Rattle.message_fields.specs.Fields.{fields, headLong, fieldBytes, areAllowed};
 ghost use Rattle.message_fields_write.specs.Bodies.{bodyBytes, bodyLong, numberFor, given, written};
+use message_fields::VALUES;
+use message_formats::Shape;
 use module_state::DONE;
 use module_state::MESSAGE;
 use module_state::ROOM;
-use message_fields::VALUES;
-use message_formats::Shape;
 
 // How many bytes were written; none where it is refused.
 pub struct Written {

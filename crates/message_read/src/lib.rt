@@ -1,10 +1,10 @@
 // The messages of 004 clause 9.2, read.
 ghost use mathlib.Core.Path.{_≡_};
 ghost use Rattle.message_read.specs.Messages.{shapeIn, refused, readMessage};
-use module_state::DONE;
-use module_state::MESSAGE;
 use message_fields::VALUES;
 use message_formats::Shape;
+use module_state::DONE;
+use module_state::MESSAGE;
 
 // The code and the reserved byte stand before the fields.
 pub const FIELDS_AT: usize = 2;

@@ -2,11 +2,11 @@
 ghost use mathlib.Core.Path.{_≡_};
 ghost use Rattle.message_fields_write.specs.Bodies.{bodyBytes, bodyLong, written};
 ghost use Rattle.message_write.specs.Written.{messageBytes, messageLong, writeNumber, writePieceNumber, writtenOver};
-use module_state::DONE;
 use message_fields::VALUES;
 use message_fields_write::Written;
 use message_formats::Shape;
 use message_read::FIELDS_AT;
+use module_state::DONE;
 
 // A message, at the front of a buffer that has room for it.
 pub fn write_message(buffer: &mut [u8], code: u8, values: [u64; VALUES], rest: &[u8]) -> Written

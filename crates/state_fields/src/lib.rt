@@ -10,6 +10,10 @@ use module_state::CREDENTIALS;
 use module_state::LAST_CREDENTIAL;
 use module_state::LAST_HANDLE;
 use module_state::SESSIONS;
+use names::ELEVATION_TYPE;
+use names::LAST_TYPE;
+use names::SAVED_TYPE;
+use names::USER_TYPE;
 use state_layout::CHOSEN_BYTE;
 use state_layout::COUNT_AT;
 use state_layout::CREDENTIAL_SIZE;
@@ -21,10 +25,6 @@ use state_layout::PLACE_SIZE;
 use state_layout::PLACES_AT;
 use state_layout::SESSION_AT;
 use state_layout::SET_FLAG;
-use names::ELEVATION_TYPE;
-use names::LAST_TYPE;
-use names::SAVED_TYPE;
-use names::USER_TYPE;
 
 // ---- a place by itself
 

@@ -8,6 +8,9 @@ ghost use Rattle.state_test.specs.Keys.{keyOf, Key, standingIn, Digests,
 ghost use Rattle.table.specs.Table.{places};
 use module_state::CREDENTIALS;
 use module_state::SESSIONS;
+use names::ELEVATION_TYPE;
+use names::Name;
+use names::USER_TYPE;
 use state_layout::COUNT_AT;
 use state_layout::KIND_AT;
 use state_layout::NAME_AT;
@@ -15,9 +18,6 @@ use state_layout::OWNER_AT;
 use state_layout::PLACE_SIZE;
 use state_layout::PLACES_AT;
 use state_layout::SESSION_AT;
-use names::ELEVATION_TYPE;
-use names::Name;
-use names::USER_TYPE;
 use table::PLACES;
 
 // ---- keys

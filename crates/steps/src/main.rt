@@ -1,12 +1,12 @@
 // Document 01's worked steps 1 to 13, with the numbers as order 3 corrects them, through the entries, on a state that is lent: a line for each step, with the
 // number of each call. Then step 13 by refusals, and the relay's attack. What it writes is compared with the file stdout beside it.
+use libc::STDOUT_FILENO;
 use module_state::CREDENTIALS;
 use module_state::DONE;
 use module_state::NOT_GRANTED;
 use module_state::SPENT;
-use state_layout::STATE_LENGTH;
-use libc::STDOUT_FILENO;
 use names::NAME_LENGTH;
+use state_layout::STATE_LENGTH;
 
 // 16 zero bytes, 31 of one value and a last one.
 fn name(most: u8, last: u8) -> [u8; NAME_LENGTH] {

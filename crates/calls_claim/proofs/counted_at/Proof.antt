@@ -1,6 +1,6 @@
-use Rattle.claim_count.proofs.Rules.{rules}
-use Rattle.claim_count.proofs.counted_at.Statement.{statement}
-use Rattle.claim_count.proofs.counted_at.Tie as tie
+use Rattle.calls_claim.proofs.Rules.{rules}
+use Rattle.calls_claim.proofs.counted_at.Statement.{statement}
+use Rattle.calls_claim.proofs.counted_at.Tie as tie
 
 process-at-requires : tie.Need-process-at-requires
 process-at-requires c κs = search rules

@@ -1,6 +1,6 @@
-use Rattle.claim_admission.proofs.Rules.{rules}
-use Rattle.claim_admission.proofs.claim_view.Statement.{statement}
-use Rattle.claim_admission.proofs.claim_view.Tie as tie
+use Rattle.calls_claim.proofs.Rules.{rules}
+use Rattle.calls_claim.proofs.claim_view.Statement.{statement}
+use Rattle.calls_claim.proofs.claim_view.Tie as tie
 
 claimed-requires : tie.Need-claimed-requires
 claimed-requires c κs = search rules

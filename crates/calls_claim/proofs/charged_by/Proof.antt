@@ -1,6 +1,6 @@
-use Rattle.claim_count.proofs.Rules.{rules}
-use Rattle.claim_count.proofs.charged_by.Statement.{statement}
-use Rattle.claim_count.proofs.charged_by.Tie as tie
+use Rattle.calls_claim.proofs.Rules.{rules}
+use Rattle.calls_claim.proofs.charged_by.Statement.{statement}
+use Rattle.calls_claim.proofs.charged_by.Tie as tie
 
 passed-by-requires : tie.Need-passed-by-requires
 passed-by-requires c κs = search rules

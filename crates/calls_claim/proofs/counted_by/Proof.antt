@@ -1,6 +1,6 @@
-use Rattle.claim_count.proofs.Rules.{rules}
-use Rattle.claim_count.proofs.counted_by.Statement.{statement}
-use Rattle.claim_count.proofs.counted_by.Tie as tie
+use Rattle.calls_claim.proofs.Rules.{rules}
+use Rattle.calls_claim.proofs.counted_by.Statement.{statement}
+use Rattle.calls_claim.proofs.counted_by.Tie as tie
 
 enum-told : tie.Need-enum-told
 enum-told c = search rules

@@ -1,6 +1,6 @@
-use Rattle.claim_admission.proofs.Rules.{rules}
-use Rattle.claim_admission.proofs.check.Statement.{statement}
-use Rattle.claim_admission.proofs.check.Tie as tie
+use Rattle.calls_claim.proofs.Rules.{rules}
+use Rattle.calls_claim.proofs.check.Statement.{statement}
+use Rattle.calls_claim.proofs.check.Tie as tie
 
 claim-view-requires : tie.Need-claim-view-requires
 claim-view-requires c κs = search rules

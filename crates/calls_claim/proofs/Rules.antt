@@ -9,22 +9,50 @@ use mir.Val.{Fits}
 use mir.Syntax.{w16}
 use Rattle.lists.proofs.Tests.{split}
 use Rattle.names.specs.declared.Session.{Session}
-use Rattle.table.specs.Table.{processAt, replaced}
+use Rattle.table.specs.Table.{processAt, replaced, standing, size, freePlace, isActive, firstPlace}
 use Rattle.table.specs.declared.Process.{Process}
 use Rattle.table.specs.declared.Table.{Table}
-use Rattle.module_state.specs.Claim.{isSpent, checked, checkOf, passedBy}
+use Rattle.module_state.specs.Claim.{isSpent, checked, checkOf, passedBy, claimed, speaksFor, processFound, claimView}
 use Rattle.module_state.specs.declared.Checked.{Checked}
 use Rattle.module_state.specs.declared.Claim.{Claim}
 use Rattle.module_state.specs.declared.Claim.the-variants.{Elevated, ByUser}
 use Rattle.module_state.specs.declared.State.{State}
 use Rattle.module_state.specs.declared.UserClaim.{UserClaim}
-use Rattle.module_state.proofs.Laws.{passed-admitted}
+use Rattle.module_state.proofs.Laws.{passed-admitted, view-of, checked-is}
 use Rattle.calls.specs.Calls.{Call, Under, protection, number, withTable, oneMore, counted, passes, charged, left, refusal, outcome}
 use Rattle.calls.specs.declared.Answer.the-variants.{RefusedClaim}
 use Rattle.calls.specs.declared.Outcome.{Outcome}
 use Rattle.calls.proofs.Cut.{left-stopped, left-passed, passed-by}
 use Rattle.calls.proofs.Rules.{refused-as, next-fits, counted-is, counted-elevated, rules as call-rules}
-use Rattle.claim_count.specs.Count.{countedAt, countedBy, chargedBy}
+use Rattle.calls_claim.specs.Count.{countedAt, countedBy, chargedBy}
+use lib.ListN.{List·getD-eq-default}
+use borrow.Author.Needs.{needs}
+use Rattle.lists.proofs.Lists.{length-mapped}
+use Rattle.module_state.specs.declared.ClaimView.{ClaimView}
+use Rattle.module_state.specs.declared.Grants.{Grants}
+use Rattle.module_state.specs.declared.Phase.{Phase}
+use Rattle.names.specs.declared.Credential.{Credential}
+use Rattle.table.specs.declared.Active.{Active}
+use Rattle.table.specs.declared.Found.{Found}
+use Rattle.table.specs.declared.Found.the-variants.{At, Nothing}
+use Rattle.module_state.specs.Module.{phaseOf, grantsOf}
+
+-- ---- the process of a claim
+module _ (t : Table) {f : Found} {p : Process} where
+  pub process-found-at : {k : ℕ} → f ≡ At k → p ≡ processAt t k → p ≡ processFound t f
+  unfolding processFound
+  process-found-at e q = q ∙ rw e
+
+  pub process-found-none : f ≡ Nothing → p ≡ freePlace → p ≡ processFound t f
+  unfolding processFound
+  process-found-none e q = q ∙ rw e
+
+pub view-is : (st : State) (s : Session) (claim : Claim) {a : Active} {f : Found} {p : Process} {c : Credential} {phase : Phase} {g : Grants}
+    → a ≡ claimed s claim → f ≡ firstPlace (isActive a) (standing (st .table)) → p ≡ processFound (st .table) f → c ≡ speaksFor claim (p .credential)
+    → phase ≡ phaseOf st s → g ≡ grantsOf st c
+    → _≡_ {A = ClaimView} (record { phase = phase; found = f; next = p .next; credential = c; grants = g }) (claimView st s claim)
+view-is st s claim ea ef ep ec h eg =
+    view-of st s claim ea ef (ap (λ (q : Process). q .credential) ep) (ap (λ (q : Process). q .next) ep) ec h eg
 
 -- ---- the next number of the process at a place
 module _ (st : State) (at : ℕ) {p : Process} {b : Bool} (q : p ≡ processAt (st .table) at) (e : b ≡ isSpent (p .next)) where
@@ -107,4 +135,4 @@ pub by-refused-claim : (st : State) {claim : Claim} {n : ℕ} {x : State} {o : O
 unfolding refusal
 by-refused-claim st w q call e m h p = refused-as st call m h p (charged-left st call p e m h q) w
 
-pub ruleset rules = (call-rules, count-spent, count-fits, count-more, count-elevated, count-user, charged-done, charge-stopped, charge-passed, by-refused-claim)
+pub ruleset rules = (call-rules, count-spent, count-fits, count-more, count-elevated, count-user, charged-done, charge-stopped, charge-passed, by-refused-claim, length-mapped, process-found-at, process-found-none, view-is, checked-is)

@@ -1,6 +1,6 @@
-use Rattle.claim_admission.proofs.Rules.{rules}
-use Rattle.claim_admission.proofs.process_found.Statement.{statement}
-use Rattle.claim_admission.proofs.process_found.Tie as tie
+use Rattle.calls_claim.proofs.Rules.{rules}
+use Rattle.calls_claim.proofs.process_found.Statement.{statement}
+use Rattle.calls_claim.proofs.process_found.Tie as tie
 
 enum-known-found : tie.Need-enum-known-found
 enum-known-found c = search rules
