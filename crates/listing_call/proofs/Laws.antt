@@ -1,16 +1,16 @@
 -- What callers cite: what the writer and the list call leave in the lent buffer, and that a refused one writes nothing.
 -- Assumes nothing.
-use Prim.Native.Nat.{ℕ, _+_, _*_, _<_, _≤_}
+use Prim.Native.Nat.{ℕ, _+_, _*_, _≤_}
 use mathlib.Core.Path.{_≡_, refl, sym, ap, _∙_}
 use mathlib.Core.Bool.{cond}
 use mathlib.Core.List.{List, [], _∷_, _++_}
 use native.Mathlib.Nat.{zero-add}
 use native.Mathlib.Omega.{arith}
-use borrow.Author.Tests.{eq-eqb, ne-eqb, le-leb, ltb-false, eqb-true, eqb-false}
+use borrow.Author.Tests.{eq-eqb, ne-eqb, ltb-false, eqb-true, eqb-false}
 use lib.Dec.{eqb}
-use lib.ListN.{length, take, drop}
+use lib.ListN.{length, drop}
 use Rattle.lists.specs.Lists.{select}
-use Rattle.rows.proofs.Over.{over-room, over-short, later-kept, written-in}
+use Rattle.rows.proofs.Over.{over-room}
 use Rattle.lists.specs.Each.{Each, each-nil, each-cons}
 use Rattle.lists.proofs.Tests.{split}
 use Rattle.names.specs.declared.Row.{Row}
@@ -26,26 +26,7 @@ use Rattle.calls.proofs.Cut.{accepted}
 use Rattle.calls.specs.Listing.{amongOf, rowOf, rowsOf, messageLength, listing}
 use Rattle.calls.specs.declared.Listed.{Listed}
 use Rattle.calls.specs.declared.Wanted.{Wanted}
-use Rattle.listing_messages.specs.Wire.{rowsAmong, listingOver, listingLength, listedBytes}
-use Rattle.listing_messages.proofs.Laws.{length-listing}
-
--- ---- what the writer leaves in a buffer that has room: the message, which is read as the laws of wire say, and the buffer's own bytes behind it
-module _ (rows : List Row) (g : Each RowFits rows) (old : List ℕ) where
-  pub listing-in : messageLength (length rows) ≤ length old → take (listingLength rows old) (listingOver rows old) ≡ listing rows
-  unfolding listingOver listingLength
-  listing-in h =
-      rw (le-leb (messageLength (length rows)) (length old) h)
-      (written-in 0 (messageLength (length rows)) (listing rows) old (length-listing rows g) (rw zero-add h))
-
-  pub listing-later : messageLength (length rows) ≤ length old → drop (listingLength rows old) (listingOver rows old) ≡ drop (messageLength (length rows)) old
-  unfolding listingOver listingLength
-  listing-later h =
-      rw (le-leb (messageLength (length rows)) (length old) h)
-      (rw zero-add at (later-kept 0 (messageLength (length rows)) (listing rows) old (length-listing rows g) (rw zero-add h)))
-
-pub listing-refused : (rows : List Row) (old : List ℕ) → length old < messageLength (length rows) → listingOver rows old ≡ old
-unfolding listingOver
-listing-refused rows old h = over-short 0 (messageLength (length rows)) (listing rows) old (rw zero-add h)
+use Rattle.listing_messages.specs.Wire.{rowsAmong, listingOver, listedBytes}
 
 -- ---- the rows of a table whose processes have names of 48 bytes and credentials of 2
 pub rows-fit : (wanted : Wanted) (l : List Process) → Each (λ p. RowFits (rowOf p)) l → Each RowFits (rowsAmong wanted l)
@@ -99,6 +80,13 @@ module _ (st : State) (s : Session) (claim : Claim) (wanted : Wanted) (old : Lis
     list-bytes h q =
         split (eqb (number st (ListProcesses s claim wanted (length old))) 0)
         (λ e. q ∙ sym (list-written (eqb-true (number st (ListProcesses s claim wanted (length old))) 0 e)))
+        (λ e. absurd (h (long ∙ rw e)))
+
+    -- so there is room where it is not
+    pub list-enough : (decided .length ≡ 0 → ⊥) → messageLength (length (rowsAmong wanted (standing (st .table)))) ≤ length old
+    list-enough h =
+        split (eqb (number st (ListProcesses s claim wanted (length old))) 0)
+        (λ e. rw (rows-of st wanted) at (list-room (eqb-true (number st (ListProcesses s claim wanted (length old))) 0 e)))
         (λ e. absurd (h (long ∙ rw e)))
 
     pub list-stays : decided .length ≡ 0 → old ≡ listedBytes st s claim wanted old

@@ -3,16 +3,16 @@
 use Prim.Native.Nat.{ℕ, _+_, _-_, _*_, _<_, _≤_}
 use mathlib.Core.Path.{_≡_, refl, sym, ap, _∙_}
 use mathlib.Core.Bool.{true, false}
-use mathlib.Core.List.{List, [], _∷_, map}
-use native.Mathlib.Nat.{add-zero}
+use mathlib.Core.List.{List, [], _∷_, _++_, map}
+use native.Mathlib.Nat.{add-zero, zero-add}
 use native.Mathlib.Numerals.{add-one}
 use native.Mathlib.Omega.{arith}
 use borrow.Rule.Slice.PartMut.{putMid}
-use lib.ListN.{length, getD, take, drop, length-drop, length-map, drop-of-length-le}
-use lib.Seq.{drop-cons, drop-drop, getD-drop, getD-take, length-take-le}
+use lib.ListN.{length, getD, take, drop, length-append, length-drop, length-map, drop-of-length-le}
+use lib.Seq.{drop-at, drop-cons, drop-drop, getD-drop, getD-take, length-take-le}
 use Rattle.rows.specs.Bytes.{bytesOf}
 use Rattle.rows.specs.Rows.{over}
-use Rattle.rows.proofs.Over.{over-append}
+use Rattle.rows.proofs.Over.{over-room}
 use Rattle.rows.proofs.Loops.{Wrote, wrote-begin, wrote-length, wrote-room, wrote-part, wrote-on, wrote-all}
 use Rattle.lists.specs.Lists.{select, join}
 use Rattle.lists.proofs.Lists.{length-select}
@@ -123,20 +123,40 @@ module _ {wanted : Wanted} {old : List ℕ} {l : List Process} {n : ℕ} {new : 
   pub written-length : length new ≡ length old
   written-length = wrote-length (v .wrote)
 
-  pub written-all : n ≤ i → new ≡ rowsOver all old
-  unfolding rowsOver
-  written-all h =
-      let none : length (drop k all) ≡ 0 = ap length (v .left ∙ rest-none wanted l n i h (v .within)) in
-      wrote-all (v .wrote) (omega (arith, none, length-drop k all)) .is
+  module _ (h : n ≤ i) where
+    none-left : length (drop k all) ≡ 0
+    none-left = ap length (v .left ∙ rest-none wanted l n i h (v .within))
 
--- ---- the head and the rows are the message
+    pub written-all : new ≡ rowsOver all old
+    unfolding rowsOver
+    written-all = wrote-all (v .wrote) (omega (arith, none-left, length-drop k all)) .is
+
+    pub written-count : k ≡ length all
+    written-count = omega (arith, none-left, length-drop k all, v .wrote .low)
+
+-- ---- the rows and the head are the message
 module _ (rows : List Row) (old : List ℕ) (h : messageLength (length rows) ≤ length old) where
-  enough : 4 + 51 * length rows ≤ length old
-  unfolding messageLength
-  enough = h
+  abbrev bytes : List ℕ
+  bytes = join (map rowBytes rows)
 
-  pub listing-whole : rowsOver rows (over 0 4 (head authProcesses (length rows)) old) ≡ listingOver rows old
-  unfolding rowsOver listingOver listing head bytesOf messageLength
+  enough : 4 + length rows * 51 ≤ length old
+  unfolding messageLength
+  enough = omega arith
+
+  front : length (take 4 old) ≡ 4
+  front = length-take-le 4 old (omega (arith, enough))
+
+  written : rowsOver rows old ≡ take 4 old ++ (bytes ++ drop (4 + length rows * 51) old)
+  unfolding rowsOver
+  written = over-room 4 (length rows * 51) bytes old enough
+
+  long : 4 ≤ length (rowsOver rows old)
+  long = rw (written, length-append, front) (omega arith)
+
+  pub listing-whole : over 0 4 (head authProcesses (length rows)) (rowsOver rows old) ≡ listingOver rows old
+  unfolding listingOver listing head bytesOf messageLength
   listing-whole =
       let e : 51 * length rows ≡ length rows * 51 = omega arith in
-      rw e (sym (over-append 0 4 (length rows * 51) (head authProcesses (length rows)) (join (map rowBytes rows)) old refl (omega (arith, enough))))
+      over-room 0 4 (head authProcesses (length rows)) (rowsOver rows old) long
+      ∙ rw (written, drop-at (take 4 old) (bytes ++ drop (4 + length rows * 51) old) 4 front, e)
+      (sym (over-room 0 (4 + length rows * 51) (listing rows) old (rw zero-add enough) ∙ rw zero-add))

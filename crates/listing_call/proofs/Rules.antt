@@ -7,30 +7,27 @@ use mathlib.Core.List.{List}
 use native.Mathlib.Omega.{arith}
 use borrow.Author.Needs.{needs}
 use borrow.Rule.Slice.PartMut.{putMid}
-use borrow.Author.Tests.{le-leb, lt-leb}
 use mir.Val.{Fits}
-use mir.Syntax.{w16, w64}
-use lib.ListN.{length, getD, take, drop, length-map}
-use Rattle.rows.specs.Bytes.{bytesOf}
+use mir.Syntax.{w16}
+use lib.ListN.{length, getD, take, drop}
 use Rattle.rows.specs.Rows.{over}
-use Rattle.rows.proofs.Over.{over-short, over-length}
 use Rattle.lists.proofs.Lists.{length-mapped}
 use Rattle.names.specs.Names.{typeOf, rowBytes, rowIn}
 use Rattle.names.specs.declared.Row.{Row}
 use Rattle.names.specs.declared.RowType.{RowType}
 use Rattle.names.proofs.Laws.{row-in}
-use Rattle.table.specs.Table.{standing, size, isAmong, countAmong}
+use Rattle.table.specs.Table.{standing, size, isAmong}
 use Rattle.table.specs.declared.Among.{Among}
 use Rattle.table.specs.declared.Process.{Process}
 use Rattle.table.specs.declared.Table.{Table}
 use Rattle.table.proofs.Laws.{standing-front, standing-few, size-few}
 use Rattle.table.proofs.Rules.{noProcess}
-use Rattle.calls.specs.Listing.{amongOf, rowOf, authProcesses, messageLength, listing}
+use Rattle.calls.specs.Listing.{amongOf, rowOf, authProcesses, messageLength}
 use Rattle.calls.specs.declared.Wanted.{Wanted}
-use Rattle.listing_messages.specs.Wire.{head, rowsAmong, rowsOver, listingOver, listingLength}
-use Rattle.listing_call.proofs.Rows.{rows-few, Written, written-none, written-room, written-hit, written-miss, written-length, written-all, listing-whole}
+use Rattle.listing_messages.specs.Wire.{head, rowsAmong, rowsOver, listingOver}
+use Rattle.listing_call.proofs.Rows.{rows-few, Written, written-none, written-room, written-hit, written-miss, written-length, written-all, written-count, listing-whole}
 use Rattle.listing_call.proofs.Rows as Rows
-use Rattle.listing_call.proofs.Laws.{list-bytes, list-stays}
+use Rattle.listing_call.proofs.Laws.{list-enough, list-bytes, list-stays}
 
 -- ---- the rows of a table
 pub row-made : (p : Process) {k : RowType} → k ≡ typeOf (p .kind) → _≡_ {A = Row} (record { credential = p .credential; kind = k; name = p .name }) (rowOf p)
@@ -39,10 +36,6 @@ row-made p e = rw e
 module _ (wanted : Wanted) {among : Among} (e : among ≡ amongOf wanted) where
   pub wanted-is : {b : Bool} (p : Process) → b ≡ isAmong among p → b ≡ isAmong (amongOf wanted) p
   wanted-is p q = q ∙ rw e
-
-  pub count-is : {n : ℕ} (t : Table) → n ≡ countAmong t among → n ≡ length (rowsAmong wanted (standing t))
-  unfolding countAmong rowsAmong
-  count-is t q = q ∙ rw (e, length-map)
 
 module _ (t : Table) {n : ℕ} (e : n ≡ size t) where
   front : take n (t .places) ≡ standing t
@@ -56,6 +49,9 @@ module _ (t : Table) {n : ℕ} (e : n ≡ size t) where
 
     pub rows-end : {old new : List ℕ} {k i : ℕ} → Written wanted old (t .places) n new k i → n ≤ i → new ≡ rowsOver (rowsAmong wanted (standing t)) old
     rows-end v h = written-all v h ∙ rw front
+
+    pub rows-counted : {old new : List ℕ} {k i : ℕ} → Written wanted old (t .places) n new k i → n ≤ i → k ≡ length (rowsAmong wanted (standing t))
+    rows-counted v h = written-count v h ∙ rw front
 
 module _ {wanted : Wanted} {old : List ℕ} {l : List Process} {n : ℕ} {new : List ℕ} {k i : ℕ} {b : Bool}
     (v : Written wanted old l n new k i) (h : i < n) (e : b ≡ isAmong (amongOf wanted) (getD l i noProcess)) where
@@ -80,45 +76,12 @@ pub rows-length : {wanted : Wanted} {old : List ℕ} {l : List Process} {n : ℕ
 rows-length v = written-length v
 
 -- ---- the message
-module _ (t : Table) (wanted : Wanted) {count : ℕ} (e : count ≡ length (rowsAmong wanted (standing t))) (h : length (t .places) ≡ 12) where
-  small : count ≤ 12
-  small = omega (arith, rows-few wanted (standing t), standing-few t h)
+module _ (t : Table) (wanted : Wanted) {count : ℕ} (e : count ≡ length (rowsAmong wanted (standing t))) where
+  pub count-fits : length (t .places) ≡ 12 → Fits w16 count
+  count-fits h = omega (arith, e, rows-few wanted (standing t), standing-few t h)
 
-  pub rows-fit : Fits w64 (51 * count)
-  rows-fit = omega (arith, small)
+  pub listing-put : (old : List ℕ) {mid new : List ℕ} → messageLength (length (rowsAmong wanted (standing t))) ≤ length old → mid ≡ rowsOver (rowsAmong wanted (standing t)) old
+      → new ≡ over 0 4 (head authProcesses count) mid → new ≡ listingOver (rowsAmong wanted (standing t)) old
+  listing-put old h m q = q ∙ rw (m, e) (listing-whole (rowsAmong wanted (standing t)) old h)
 
-  pub listing-fits : Fits w64 (4 + 51 * count)
-  listing-fits = omega (arith, small)
-
-  pub count-fits : Fits w16 count
-  count-fits = omega (arith, small)
-
-module _ (t : Table) (wanted : Wanted) (old : List ℕ) {count : ℕ} (e : count ≡ length (rowsAmong wanted (standing t))) where
-  -- the message's length, by the count
-  length-is : messageLength (length (rowsAmong wanted (standing t))) ≡ 4 + 51 * count
-  unfolding messageLength
-  length-is = rw e
-
-  module _ (h : length old < 4 + 51 * count) where
-    pub listing-short : 0 ≡ listingLength (rowsAmong wanted (standing t)) old
-    unfolding listingLength
-    listing-short = rw (length-is, lt-leb (4 + 51 * count) (length old) h)
-
-    pub listing-stays : old ≡ listingOver (rowsAmong wanted (standing t)) old
-    unfolding listingOver
-    listing-stays = sym (over-short 0 (messageLength (length (rowsAmong wanted (standing t)))) (listing (rowsAmong wanted (standing t))) old (omega (arith, length-is)))
-
-  module _ (h : 4 + 51 * count ≤ length old) where
-    pub listing-length : 4 + 51 * count ≡ listingLength (rowsAmong wanted (standing t)) old
-    unfolding listingLength
-    listing-length = rw (length-is, le-leb (4 + 51 * count) (length old) h)
-
-    module _ {mid : List ℕ} (m : mid ≡ over 0 4 (head authProcesses count) old) where
-      pub listing-room : messageLength (length (rowsAmong wanted (standing t))) ≤ length mid
-      unfolding head bytesOf
-      listing-room = omega (arith, length-is, ap length m ∙ over-length 0 4 (head authProcesses count) old refl)
-
-      pub listing-put : {new : List ℕ} → new ≡ rowsOver (rowsAmong wanted (standing t)) mid → new ≡ listingOver (rowsAmong wanted (standing t)) old
-      listing-put q = q ∙ rw (m, e) (listing-whole (rowsAmong wanted (standing t)) old (omega (arith, length-is)))
-
-pub ruleset rules = (needs, length-mapped, row-made, wanted-is, count-is, rows-begin, rows-end, rows-room, rows-on, rows-over, rows-length, rows-fit, listing-fits, count-fits, listing-short, listing-stays, listing-length, listing-room, listing-put, list-bytes, list-stays)
+pub ruleset rules = (needs, length-mapped, row-made, wanted-is, rows-begin, rows-end, rows-counted, rows-room, rows-on, rows-over, rows-length, count-fits, listing-put, list-enough, list-bytes, list-stays)

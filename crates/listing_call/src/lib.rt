@@ -5,7 +5,7 @@ ghost use lib.ListN.{length};
 ghost use Rattle.table.specs.Table.{isAmong, standing};
 ghost use Rattle.calls.specs.Calls.{listed};
 ghost use Rattle.calls.specs.Listing.{amongOf, rowOf, messageLength};
-ghost use Rattle.listing_messages.specs.Wire.{rowsAmong, rowsOver, listingOver, listingLength, listedBytes};
+ghost use Rattle.listing_messages.specs.Wire.{rowsAmong, rowsOver, listingOver, listedBytes};
 use calls::Listed;
 use calls::Wanted;
 use listing_messages::AUTH_PROCESSES;
@@ -38,18 +38,10 @@ fn row_of(p: Process) -> Row
     }
 }
 
-// How many rows a listing has.
-fn row_count(t: Table, wanted: Wanted) -> usize
-    ensures { λ r. ⌜ r ≡ length (rowsAmong wanted (standing t)) ⌝ }
-{
-    let rows = calls_list_tests::among_of(wanted);
-    table_search::count_among(t, rows)
-}
-
-// The rows, each in the 51 bytes from its own offset.
-fn put_rows(buffer: &mut [u8], t: Table, wanted: Wanted)
+// The rows, each in the 51 bytes from its own offset. How many there are.
+fn put_rows(buffer: &mut [u8], t: Table, wanted: Wanted) -> usize
     requires { ⌜ messageLength (length (rowsAmong wanted (standing t))) ≤ length (now buffer) ⌝ }
-    ensures { λ r. ⌜ now (buffer .exit) ≡ rowsOver (rowsAmong wanted (standing t)) (now (buffer .entry)) ⌝ }
+    ensures { λ r. ⌜ (r ≡ length (rowsAmong wanted (standing t))) × (now (buffer .exit) ≡ rowsOver (rowsAmong wanted (standing t)) (now (buffer .entry))) ⌝ }
 {
     let n = table::size(t);
     let places = t.places;
@@ -65,22 +57,18 @@ fn put_rows(buffer: &mut [u8], t: Table, wanted: Wanted)
         }
         i += 1;
     }
+    k
 }
 
 // ---- the message
 
-// The response, at the front of a buffer that has room for it. Its length; 0 where there is no room.
-pub fn put_listing(buffer: &mut [u8], t: Table, wanted: Wanted) -> usize
-    ensures { λ r. ⌜ (r ≡ listingLength (rowsAmong wanted (standing t)) (now (buffer .entry))) × (now (buffer .exit) ≡ listingOver (rowsAmong wanted (standing t)) (now (buffer .entry))) ⌝ }
+// The response, at the front of a buffer that has room for it.
+fn put_listing(buffer: &mut [u8], t: Table, wanted: Wanted)
+    requires { ⌜ messageLength (length (rowsAmong wanted (standing t))) ≤ length (now buffer) ⌝ }
+    ensures { λ r. ⌜ now (buffer .exit) ≡ listingOver (rowsAmong wanted (standing t)) (now (buffer .entry)) ⌝ }
 {
-    let count = row_count(t, wanted);
-    let long = 4 + 51 * count;
-    if buffer.len() < long {
-        return 0;
-    }
+    let count = put_rows(buffer, t, wanted);
     listing_messages::put_head(buffer, AUTH_PROCESSES, count as u16);
-    put_rows(buffer, t, wanted);
-    long
 }
 
 // The list call: what calls decides for the room that the buffer has, and the response where it is accepted.

@@ -2,7 +2,7 @@
 use Prim.Native.Nat.{ℕ, _+_, _*_}
 use mathlib.Core.Bool.{Bool, cond, _&&_}
 use mathlib.Core.List.{List, _∷_, _++_, map}
-use lib.Dec.{eqb, ltb, leb}
+use lib.Dec.{eqb, ltb}
 use lib.ListN.{length, getD, take, drop}
 use Rattle.lists.specs.Lists.{select, join}
 use Rattle.rows.specs.Bytes.{bytesOf, numberAt}
@@ -115,10 +115,6 @@ rowsOver rows old = over 4 (length rows * 51) (join (map rowBytes rows)) old
 -- "The message has 4 + 51 × count bytes and later bytes of the buffer are not touched."
 unfoldable pub listingOver : List Row → List ℕ → List ℕ
 listingOver rows old = over 0 (messageLength (length rows)) (listing rows) old
-
--- the message's length; 0 where the buffer is too short
-unfoldable pub listingLength : List Row → List ℕ → ℕ
-listingLength rows old = cond (leb (messageLength (length rows)) (length old)) (messageLength (length rows)) 0
 
 -- ---- the list call: what it leaves in the lent buffer. "A refusal leaves state and buffer as they were."
 unfoldable pub listedBytes : State → Session → Claim → Wanted → List ℕ → List ℕ
