@@ -19,22 +19,22 @@ use Rattle.calls.specs.declared.Listed.{Listed}
 use Rattle.calls.specs.declared.Wanted.{Wanted}
 use Rattle.state_layout.specs.Layout.{stateOf}
 use Rattle.listing_messages.specs.Wire.{listedBytes}
-use Rattle.entries_record.specs.Entry.{isMade, Ready, Entry}
-use Rattle.entries_record.proofs.Laws.{entry-none}
-use Rattle.entries_store.specs.Stored.{Stored}
-use Rattle.entries_store.proofs.Laws.{call-none, call-made}
+use Rattle.entries_call.specs.Called.{isMade, Ready, Called}
+use Rattle.entries_call.proofs.Laws.{entry-none}
+use Rattle.entries_call.specs.PutBack.{PutBack}
+use Rattle.entries_call.proofs.Laws.{call-none, call-made}
 use Rattle.entries_arguments.proofs.Rules.{fine-fits, fine-both}
 use Rattle.entries_protected.specs.Listing.{entryResponse, entryLength, ListEntry}
 
 -- ---- a record, which tests the slice itself
 module _ {tested : Bool} (fine : Bool) (f : tested ≡ fine) (before : List ℕ) where
-  pub record-unclaimed : (call : Call) → not tested ≡ true → Entry fine before call 1 before
+  pub record-unclaimed : (call : Call) → not tested ≡ true → Called fine before call 1 before
   unfolding isMade
   record-unclaimed call n = entry-none fine before call (rw (← f, not-true tested n))
 
   pub record-claimed : (s : Session) (claim : Claim) (class : Class) {s₁ : Session} {claim₁ : Claim} {class₁ : Class} {r : ℕ} {after : List ℕ}
-      → not tested ≡ false → s₁ ≡ s → claim₁ ≡ claim → class₁ ≡ class → Entry true before (Record s₁ claim₁ class₁) r after
-      → Entry fine before (Record s claim class) r after
+      → not tested ≡ false → s₁ ≡ s → claim₁ ≡ claim → class₁ ≡ class → Called true before (Record s₁ claim₁ class₁) r after
+      → Called fine before (Record s claim class) r after
   record-claimed s claim class n a b c v = rw (← f, not-false tested n, ← a, ← b, ← c) v
 
 -- ---- the listing
@@ -48,7 +48,7 @@ module _ {tested : Bool} (fine : Bool) (f : tested ≡ fine) (before : List ℕ)
   pub list-called : {st : State} {s₁ : Session} {claim₁ : Claim} {wanted₁ : Wanted} {l : Listed} {r : ℕ} {after new : List ℕ}
       → not h ≡ false → st ≡ stateOf before → s₁ ≡ s → claim₁ ≡ claim → wanted₁ ≡ wanted
       → (l ≡ listed st s₁ claim₁ wanted₁ (length old)) × (new ≡ listedBytes st s₁ claim₁ wanted₁ old)
-      → Stored before (l .outcome) r after → ListEntry fine before s claim wanted old r after new (l .length)
+      → PutBack before (l .outcome) r after → ListEntry fine before s claim wanted old r after new (l .length)
   unfolding entryResponse entryLength listed
   list-called {st} {s₁} {claim₁} {wanted₁} {l} {r} {after} {new} n a b c d (p, q) v =
       let z : isMade fine before ≡ true = rw (← f) (sym (e .is) ∙ not-false h n) in

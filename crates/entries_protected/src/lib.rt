@@ -2,7 +2,7 @@
 ghost use mathlib.Core.Bool.{_&&_};
 ghost use Rattle.names.specs.Names.{readName};
 ghost use Rattle.calls.specs.Calls.{End, Record, Kill, SetWord};
-ghost use Rattle.entries_record.specs.Entry.{Entry};
+ghost use Rattle.entries_call.specs.Called.{Called};
 ghost use Rattle.entries_arguments.specs.Arguments.{sessionOf, classOf, credentialOf, wantedOf, isFlag, flagOf, userClaimOf, claimOf, isClaimed};
 ghost use Rattle.entries_protected.specs.Listing.{ListEntry};
 use module_state::ARGUMENT;
@@ -16,13 +16,13 @@ pub extern "C" fn slavotuk_end(
     verdict: u32,
     keep: u32,
 ) -> u32
-    ensures { λ r. ⌜ Entry (isFlag verdict && isFlag keep) (now (state .entry)) (End (sessionOf session) (userClaimOf credential number verdict) (flagOf keep)) r (now (state .exit)) ⌝ }
+    ensures { λ r. ⌜ Called (isFlag verdict && isFlag keep) (now (state .entry)) (End (sessionOf session) (userClaimOf credential number verdict) (flagOf keep)) r (now (state .exit)) ⌝ }
 {
-    if !entries_record::is_ready(entries_arguments::are_flags(verdict, keep), state) {
+    if !entries_call::is_ready(entries_arguments::are_flags(verdict, keep), state) {
         return ARGUMENT as u32;
     }
     let st = state_read::read(state);
-    entries_store::store(
+    entries_call::put_back(
         state,
         calls_ending::end(
             st,
@@ -43,7 +43,7 @@ pub extern "C" fn slavotuk_record(
     verdict: u32,
     class: u32,
 ) -> u32
-    ensures { λ r. ⌜ Entry (isClaimed kind verdict) (now (state .entry)) (Record (sessionOf session) (claimOf kind credential number verdict) (classOf class)) r (now (state .exit)) ⌝ }
+    ensures { λ r. ⌜ Called (isClaimed kind verdict) (now (state .entry)) (Record (sessionOf session) (claimOf kind credential number verdict) (classOf class)) r (now (state .exit)) ⌝ }
 {
     if !entries_arguments::is_claimed(kind, verdict) {
         return ARGUMENT as u32;
@@ -70,7 +70,7 @@ pub extern "C" fn slavotuk_list(
 ) -> u32
     ensures { λ r. ⌜ ListEntry (isClaimed kind verdict) (now (state .entry)) (sessionOf session) (claimOf kind credential number verdict) (wantedOf wanted) (now (response .entry)) r (now (state .exit)) (now (response .exit)) (now (long .exit)) ⌝ }
 {
-    if !entries_record::is_ready(entries_arguments::is_claimed(kind, verdict), state) {
+    if !entries_call::is_ready(entries_arguments::is_claimed(kind, verdict), state) {
         *long = 0;
         return ARGUMENT as u32;
     }
@@ -84,7 +84,7 @@ pub extern "C" fn slavotuk_list(
     );
     let outcome = listed.outcome;
     *long = listed.length;
-    entries_store::store(state, outcome)
+    entries_call::put_back(state, outcome)
 }
 
 #[no_mangle]
@@ -97,17 +97,17 @@ pub extern "C" fn slavotuk_kill(
     verdict: u32,
     name: &[u8],
 ) -> u32
-    ensures { λ r. ⌜ Entry (readName (now (name .entry)) .fits && isClaimed kind verdict) (now (state .entry)) (Kill (sessionOf session) (claimOf kind credential number verdict) (readName (now (name .entry)) .name)) r (now (state .exit)) ⌝ }
+    ensures { λ r. ⌜ Called (readName (now (name .entry)) .fits && isClaimed kind verdict) (now (state .entry)) (Kill (sessionOf session) (claimOf kind credential number verdict) (readName (now (name .entry)) .name)) r (now (state .exit)) ⌝ }
 {
     let read = names::read_name(name);
-    if !entries_record::is_ready(
+    if !entries_call::is_ready(
         entries_arguments::both(read.fits, entries_arguments::is_claimed(kind, verdict)),
         state,
     ) {
         return ARGUMENT as u32;
     }
     let st = state_read::read(state);
-    entries_store::store(
+    entries_call::put_back(
         state,
         calls_ending::kill(
             st,
@@ -129,13 +129,13 @@ pub extern "C" fn slavotuk_set_word(
     target: u32,
     word: u32,
 ) -> u32
-    ensures { λ r. ⌜ Entry (isClaimed kind verdict) (now (state .entry)) (SetWord (sessionOf session) (claimOf kind credential number verdict) (credentialOf target) word) r (now (state .exit)) ⌝ }
+    ensures { λ r. ⌜ Called (isClaimed kind verdict) (now (state .entry)) (SetWord (sessionOf session) (claimOf kind credential number verdict) (credentialOf target) word) r (now (state .exit)) ⌝ }
 {
-    if !entries_record::is_ready(entries_arguments::is_claimed(kind, verdict), state) {
+    if !entries_call::is_ready(entries_arguments::is_claimed(kind, verdict), state) {
         return ARGUMENT as u32;
     }
     let st = state_read::read(state);
-    entries_store::store(
+    entries_call::put_back(
         state,
         calls_standing::set_word(
             st,

@@ -1,4 +1,4 @@
--- A call made on a slice, and the count where it lies: in a slice that holds a state, it makes the bytes of the counted state.
+-- The count where it lies: in a slice that holds a state, it makes the bytes of the counted state.
 -- Assumes nothing.
 use Prim.Native.Nat.{ℕ, _+_, _<_}
 use mathlib.Core.Path.{_≡_, sym, ap, _∙_}
@@ -25,23 +25,9 @@ use Rattle.calls.proofs.Cut.{outcome-stopped}
 use Rattle.state_layout.specs.Layout.{stateOf, stateBytes, holdsState}
 use Rattle.state_layout.proofs.InPlace.{next-held}
 use Rattle.state_layout.proofs.Laws.{one-form}
-use Rattle.entries_record.specs.Entry.{isMade, Ready, entryNumber, entryBytes, Entry}
+use Rattle.entries_call.specs.Called.{Ready}
+use Rattle.entries_call.proofs.Laws.{made-holds}
 use Rattle.entries_record.specs.Recorded.{countedIn}
-
--- ---- a call on a slice
-module _ (fine : Bool) (before : List ℕ) (call : Call) where
-  pub entry-none : isMade fine before ≡ false → Entry fine before call 1 before
-  unfolding entryNumber entryBytes _unless_ _▸_
-  entry-none z = record { number-is = rw z; bytes-are = rw z }
-
-  pub entry-made : isMade fine before ≡ true → {answer : ℕ} {after : List ℕ} → answer ≡ number (stateOf before) call
-      → after ≡ stateBytes (outcome (stateOf before) call .state) → Entry fine before call answer after
-  unfolding entryNumber entryBytes _unless_ _▸_
-  entry-made z e w = record { number-is = e ∙ rw z; bytes-are = w ∙ rw z }
-
-pub made-holds : {fine h : Bool} {before : List ℕ} → Ready fine before h → not h ≡ false → holdsState before ≡ true
-unfolding isMade
-made-holds {fine} {h} {before} e k = and-right fine (holdsState before) (sym (e .is) ∙ not-false h k)
 
 -- what a call leaves whose claim did not pass stands in the slice already, so nothing need be written
 pub stopped-bytes : {fine h : Bool} {before : List ℕ} → Ready fine before h → not h ≡ false → (call : Call) → passes (stateOf before) call ≡ false

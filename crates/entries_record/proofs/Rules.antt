@@ -7,7 +7,6 @@ use mathlib.Core.List.{List}
 use borrow.Author.Tests.{not-true, not-false}
 use mir.Val.{Fits}
 use mir.Syntax.{w16}
-use Rattle.rows.specs.Bytes.{Bytes}
 use Rattle.names.specs.declared.Session.{Session}
 use Rattle.table.specs.Table.{processAt}
 use Rattle.table.specs.declared.Active.the-variants.{UserOf}
@@ -23,10 +22,11 @@ use Rattle.module_state.proofs.Laws.{checked-number, checked-next, checked-is, 
 use Rattle.calls.specs.Calls.{Record, protection, recordTests, asked, number, effect, passes}
 use Rattle.calls.proofs.Cut.{only-counted, passed-by}
 use Rattle.calls.proofs.Rules.{claim-place, next-fits, record-number, rules as call-rules}
-use Rattle.state_layout.specs.Layout.{stateOf, stateBytes, holdsState, nextWritten}
-use Rattle.entries_record.specs.Entry.{isMade, Ready, Entry}
+use Rattle.state_layout.specs.Layout.{stateOf, stateBytes, nextWritten}
+use Rattle.entries_call.specs.Called.{Ready, Called}
+use Rattle.entries_call.proofs.Laws.{entry-none, entry-made, made-holds}
 use Rattle.entries_record.specs.Recorded.{countedIn}
-use Rattle.entries_record.proofs.Laws.{entry-none, entry-made, made-holds, stopped-bytes, counted-held}
+use Rattle.entries_record.proofs.Laws.{stopped-bytes, counted-held}
 
 -- ---- the count
 module _ (b : List ℕ) (s : Session) (u : UserClaim) {by : Checked} (e : by ≡ checked (stateOf b) s (ByUser u)) (z : by .number ≡ 0) where
@@ -55,7 +55,7 @@ module _ (b : List ℕ) (s : Session) {claim : Claim} where
 
 -- ---- the record
 module _ (b : List ℕ) (s : Session) (claim : Claim) (class : Class) {h : Bool} (e : Ready true b h) where
-  pub record-none : not h ≡ true → Entry true b (Record s claim class) 1 b
+  pub record-none : not h ≡ true → Called true b (Record s claim class) 1 b
   record-none k = entry-none true b (Record s claim class) (sym (e .is) ∙ not-true h k)
 
   module _ (k : not h ≡ false) {by : Checked} (a : by ≡ checked (stateOf b) s claim) {n : ℕ} (c : n ≡ asked (recordTests class) by) where
@@ -68,25 +68,15 @@ module _ (b : List ℕ) (s : Session) (claim : Claim) (class : Class) {h : Bool}
       unfolding protection
       passed = y ∙ ap (passedBy by) q ∙ passed-by (stateOf b) (Record s claim class) refl a
 
-      pub record-stopped : p ≡ false → Entry true b (Record s claim class) n b
+      pub record-stopped : p ≡ false → Called true b (Record s claim class) n b
       record-stopped z = entry-made true b (Record s claim class) (sym (e .is) ∙ not-false h k) q (sym (stopped-bytes e k (Record s claim class) (sym passed ∙ z)))
 
-      pub record-passed : {after : List ℕ} → p ≡ true → after ≡ countedIn b s claim → Entry true b (Record s claim class) n after
+      pub record-passed : {after : List ℕ} → p ≡ true → after ≡ countedIn b s claim → Called true b (Record s claim class) n after
       unfolding protection effect
       record-passed z w =
           entry-made true b (Record s claim class) (sym (e .is) ∙ not-false h k) q
           (w
           ∙ counted-held b (e .bytes) (made-holds e k) s claim (sym (checked-number (stateOf b) s claim a) ∙ passed-admitted by n y z)
           ∙ ap stateBytes (sym (only-counted (stateOf b) (Record s claim class) refl refl (sym passed ∙ z))))
-
--- ---- whether a call is made
-module _ {fine : Bool} (b : List ℕ) (g : Bytes b) where
-  pub ready-holds : {h : Bool} → fine ≡ true → h ≡ holdsState b → Ready fine b h
-  unfolding isMade
-  ready-holds f e = record { is = e ∙ rw f; bytes = g }
-
-  pub ready-not : fine ≡ false → Ready fine b fine
-  unfolding isMade
-  ready-not f = record { is = rw f; bytes = g }
 
 pub ruleset rules = (call-rules, one-more-fits, count-written, count-elevated, count-by-user, record-none, record-stopped, record-passed, passed-admitted, checked-is)

@@ -3,13 +3,8 @@
 use mathlib.Core.Path.{sym, _∙_}
 use denote.Ref.{now}
 use Rattle.lists.proofs.Once.{OneAnswer, OneContent}
-use Rattle.entries_record.proofs.is_ready.Kinds as is-ready-kinds
-use Rattle.entries_record.proofs.is_ready.Reads as is-ready
 use Rattle.entries_record.proofs.record.Kinds as record-kinds
 use Rattle.entries_record.proofs.record.Reads as record-reads
-
-pub is-ready-once : OneAnswer 1 is-ready-kinds.ps is-ready-kinds.r is-ready.Post
-is-ready-once κs a x y s t p q = p .is ∙ sym (q .is)
 
 pub record-once : OneAnswer 1 record-kinds.ps record-kinds.r record-reads.Post
 record-once κs a x y s t p q = p .number-is ∙ sym (q .number-is)

@@ -1,11 +1,10 @@
-// Calls on the state that a slice holds: whether one is made; and the record call where the state lies. Nothing is read for it but what the check of
-// its claim asks, and nothing is written but the two bytes of a next number.
+// The record call where the state lies: nothing is read for it but what the check of its claim asks, and nothing is written but the two bytes of a next number.
 ghost use mathlib.Core.Path.{_≡_};
 ghost use mathlib.Core.Bool.{true};
 ghost use Rattle.module_state.specs.Claim.{checked};
 ghost use Rattle.calls.specs.Calls.{Record};
 ghost use Rattle.state_layout.specs.Layout.{stateOf};
-ghost use Rattle.entries_record.specs.Entry.{Ready, Entry};
+ghost use Rattle.entries_call.specs.Called.{Called};
 ghost use Rattle.entries_record.specs.Recorded.{countedIn};
 use module_state::ARGUMENT;
 use module_state::Checked;
@@ -13,13 +12,6 @@ use module_state::Claim;
 use module_state::Class;
 use module_state::UserClaim;
 use names::Session;
-
-// Whether a call is made on a slice: the arguments that are no part of it are in order, and the slice holds a state.
-pub fn is_ready(fine: bool, state: &[u8]) -> bool
-    ensures { λ r. ⌜ Ready fine (now (state .entry)) r ⌝ }
-{
-    fine && state_test::holds(state)
-}
 
 fn count_user(state: &mut [u8], s: Session, u: UserClaim, by: Checked)
     requires { ⌜ (by ≡ checked (stateOf (now state)) s (Claim.ByUser u)) × (by .number ≡ 0) ⌝ }
@@ -48,9 +40,9 @@ fn check(state: &[u8], s: Session, claim: Claim) -> Checked
 // The number of a record. Where its claim passed, refused afterwards or not, and is a user's, its process's next number is one more. A slice that holds no state
 // is refused.
 pub fn record(state: &mut [u8], s: Session, claim: Claim, class: Class) -> u8
-    ensures { λ r. ⌜ Entry true (now (state .entry)) (Record s claim class) r (now (state .exit)) ⌝ }
+    ensures { λ r. ⌜ Called true (now (state .entry)) (Record s claim class) r (now (state .exit)) ⌝ }
 {
-    if !is_ready(true, state) {
+    if !entries_call::is_ready(true, state) {
         return ARGUMENT;
     }
     let by = check(state, s, claim);

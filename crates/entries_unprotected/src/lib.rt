@@ -7,7 +7,7 @@ ghost use Rattle.rows.specs.Bytes.{byteOf};
 ghost use Rattle.names.specs.Names.{readName};
 ghost use Rattle.module_state.specs.Module.{credentialCount};
 ghost use Rattle.calls.specs.Calls.{Open, Close, Select, Start, Continue, Elevate, Drop};
-ghost use Rattle.entries_record.specs.Entry.{holdsNumber, Entry};
+ghost use Rattle.entries_call.specs.Called.{holdsNumber, Called};
 ghost use Rattle.entries_arguments.specs.Arguments.{sessionOf, credentialOf, isFlag, flagOf, pairsOf};
 ghost use Rattle.entries_unprotected.specs.Fresh.{FreshEntry};
 ghost use Rattle.entries_unprotected.specs.Version.{libraryVersion};
@@ -21,13 +21,13 @@ use state_layout::STATE_LENGTH;
 
 #[no_mangle]
 pub extern "C" fn slavotuk_open(state: &mut [u8], session: u32) -> u32
-    ensures { λ r. ⌜ Entry true (now (state .entry)) (Open (sessionOf session)) r (now (state .exit)) ⌝ }
+    ensures { λ r. ⌜ Called true (now (state .entry)) (Open (sessionOf session)) r (now (state .exit)) ⌝ }
 {
-    if !entries_record::is_ready(true, state) {
+    if !entries_call::is_ready(true, state) {
         return ARGUMENT as u32;
     }
     let st = state_read::read(state);
-    entries_store::store(
+    entries_call::put_back(
         state,
         calls_session::open_session(st, entries_arguments::session_of(session)),
     )
@@ -35,13 +35,13 @@ pub extern "C" fn slavotuk_open(state: &mut [u8], session: u32) -> u32
 
 #[no_mangle]
 pub extern "C" fn slavotuk_close(state: &mut [u8], session: u32) -> u32
-    ensures { λ r. ⌜ Entry true (now (state .entry)) (Close (sessionOf session)) r (now (state .exit)) ⌝ }
+    ensures { λ r. ⌜ Called true (now (state .entry)) (Close (sessionOf session)) r (now (state .exit)) ⌝ }
 {
-    if !entries_record::is_ready(true, state) {
+    if !entries_call::is_ready(true, state) {
         return ARGUMENT as u32;
     }
     let st = state_read::read(state);
-    entries_store::store(
+    entries_call::put_back(
         state,
         calls_session::close_session(st, entries_arguments::session_of(session)),
     )
@@ -49,13 +49,13 @@ pub extern "C" fn slavotuk_close(state: &mut [u8], session: u32) -> u32
 
 #[no_mangle]
 pub extern "C" fn slavotuk_select(state: &mut [u8], session: u32, version: u32) -> u32
-    ensures { λ r. ⌜ Entry true (now (state .entry)) (Select (sessionOf session) (byteOf version)) r (now (state .exit)) ⌝ }
+    ensures { λ r. ⌜ Called true (now (state .entry)) (Select (sessionOf session) (byteOf version)) r (now (state .exit)) ⌝ }
 {
-    if !entries_record::is_ready(true, state) {
+    if !entries_call::is_ready(true, state) {
         return ARGUMENT as u32;
     }
     let st = state_read::read(state);
-    entries_store::store(
+    entries_call::put_back(
         state,
         calls_session::select_version(
             st,
@@ -72,14 +72,14 @@ pub extern "C" fn slavotuk_start(
     credential: u32,
     name: &[u8],
 ) -> u32
-    ensures { λ r. ⌜ Entry (readName (now (name .entry)) .fits) (now (state .entry)) (Start (sessionOf session) (credentialOf credential) (readName (now (name .entry)) .name)) r (now (state .exit)) ⌝ }
+    ensures { λ r. ⌜ Called (readName (now (name .entry)) .fits) (now (state .entry)) (Start (sessionOf session) (credentialOf credential) (readName (now (name .entry)) .name)) r (now (state .exit)) ⌝ }
 {
     let read = names::read_name(name);
-    if !entries_record::is_ready(read.fits, state) {
+    if !entries_call::is_ready(read.fits, state) {
         return ARGUMENT as u32;
     }
     let st = state_read::read(state);
-    entries_store::store(
+    entries_call::put_back(
         state,
         calls_unprotected::start(
             st,
@@ -97,14 +97,14 @@ pub extern "C" fn slavotuk_continue(
     credential: u32,
     name: &[u8],
 ) -> u32
-    ensures { λ r. ⌜ Entry (readName (now (name .entry)) .fits) (now (state .entry)) (Continue (sessionOf session) (credentialOf credential) (readName (now (name .entry)) .name)) r (now (state .exit)) ⌝ }
+    ensures { λ r. ⌜ Called (readName (now (name .entry)) .fits) (now (state .entry)) (Continue (sessionOf session) (credentialOf credential) (readName (now (name .entry)) .name)) r (now (state .exit)) ⌝ }
 {
     let read = names::read_name(name);
-    if !entries_record::is_ready(read.fits, state) {
+    if !entries_call::is_ready(read.fits, state) {
         return ARGUMENT as u32;
     }
     let st = state_read::read(state);
-    entries_store::store(
+    entries_call::put_back(
         state,
         calls_unprotected::continue_saved(
             st,
@@ -123,17 +123,17 @@ pub extern "C" fn slavotuk_elevate(
     name: &[u8],
     verdict: u32,
 ) -> u32
-    ensures { λ r. ⌜ Entry (readName (now (name .entry)) .fits && isFlag verdict) (now (state .entry)) (Elevate (sessionOf session) (credentialOf credential) (readName (now (name .entry)) .name) (flagOf verdict)) r (now (state .exit)) ⌝ }
+    ensures { λ r. ⌜ Called (readName (now (name .entry)) .fits && isFlag verdict) (now (state .entry)) (Elevate (sessionOf session) (credentialOf credential) (readName (now (name .entry)) .name) (flagOf verdict)) r (now (state .exit)) ⌝ }
 {
     let read = names::read_name(name);
-    if !entries_record::is_ready(
+    if !entries_call::is_ready(
         entries_arguments::both(read.fits, entries_arguments::is_flag(verdict)),
         state,
     ) {
         return ARGUMENT as u32;
     }
     let st = state_read::read(state);
-    entries_store::store(
+    entries_call::put_back(
         state,
         calls_unprotected::elevate(
             st,
@@ -147,13 +147,13 @@ pub extern "C" fn slavotuk_elevate(
 
 #[no_mangle]
 pub extern "C" fn slavotuk_drop(state: &mut [u8], session: u32) -> u32
-    ensures { λ r. ⌜ Entry true (now (state .entry)) (Drop (sessionOf session)) r (now (state .exit)) ⌝ }
+    ensures { λ r. ⌜ Called true (now (state .entry)) (Drop (sessionOf session)) r (now (state .exit)) ⌝ }
 {
-    if !entries_record::is_ready(true, state) {
+    if !entries_call::is_ready(true, state) {
         return ARGUMENT as u32;
     }
     let st = state_read::read(state);
-    entries_store::store(
+    entries_call::put_back(
         state,
         calls_unprotected::drop_elevation(st, entries_arguments::session_of(session)),
     )

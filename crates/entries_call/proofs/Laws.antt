@@ -1,4 +1,4 @@
--- What is stored of a call made on the state that a slice holds is what its entry asks for.
+-- A call made on a slice; and that what is put back of it is what its entry asks for.
 -- Assumes nothing.
 use Prim.Native.Nat.{ℕ}
 use mathlib.Core.Path.{_≡_, refl, sym, ap, _∙_}
@@ -6,20 +6,35 @@ use mathlib.Core.Bool.{Bool, true, false, not, cond}
 use mathlib.Core.List.{List}
 use lib.Dec.{eqb}
 use borrow.Author.Tests.{not-true, not-false, eqb-true, eqb-false}
-use Rattle.lists.proofs.Tests.{split}
+use Rattle.lists.proofs.Tests.{split, and-right}
+use Rattle.module_state.specs.Numbers.{_unless_, _▸_}
 use Rattle.module_state.specs.declared.State.{State}
 use Rattle.calls.specs.Calls.{Call, number, Protection, Free, Under, protection, refusal, outcome, answerNumber}
 use Rattle.calls.specs.declared.Answer.{Answer}
 use Rattle.calls.specs.declared.Outcome.{Outcome}
 use Rattle.calls.proofs.Cut.{left-free}
 use Rattle.calls.proofs.Laws.{outcome-done, outcome-refused, refusal-leaves, answer-number}
-use Rattle.state_layout.specs.Layout.{stateOf, stateBytes, stateWritten}
+use Rattle.state_layout.specs.Layout.{stateOf, stateBytes, holdsState, stateWritten}
 use Rattle.state_layout.proofs.Laws.{holds-shape, one-form, state-written}
-use Rattle.entries_record.specs.Entry.{Ready, Entry}
-use Rattle.entries_record.proofs.Laws.{entry-none, entry-made, made-holds}
-use Rattle.entries_store.specs.Stored.{mayChange, storedBytes, Stored}
+use Rattle.entries_call.specs.Called.{isMade, Ready, entryNumber, entryBytes, Called}
+use Rattle.entries_call.specs.PutBack.{mayChange, bytesPutBack, PutBack}
 
--- ---- a slice on which a call is made: what is stored are the bytes of the outcome's state. What the refusal of a call without a claim leaves stands there already
+-- ---- a call on a slice
+module _ (fine : Bool) (before : List ℕ) (call : Call) where
+  pub entry-none : isMade fine before ≡ false → Called fine before call 1 before
+  unfolding entryNumber entryBytes _unless_ _▸_
+  entry-none z = record { number-is = rw z; bytes-are = rw z }
+
+  pub entry-made : isMade fine before ≡ true → {answer : ℕ} {after : List ℕ} → answer ≡ number (stateOf before) call
+      → after ≡ stateBytes (outcome (stateOf before) call .state) → Called fine before call answer after
+  unfolding entryNumber entryBytes _unless_ _▸_
+  entry-made z e w = record { number-is = e ∙ rw z; bytes-are = w ∙ rw z }
+
+pub made-holds : {fine h : Bool} {before : List ℕ} → Ready fine before h → not h ≡ false → holdsState before ≡ true
+unfolding isMade
+made-holds {fine} {h} {before} e k = and-right fine (holdsState before) (sym (e .is) ∙ not-false h k)
+
+-- ---- a slice on which a call is made: what is put back are the bytes of the outcome's state. What the refusal of a call without a claim leaves stands there already
 module _ {tested h : Bool} {before : List ℕ} (e : Ready tested before h) (n : not h ≡ false) (call : Call) where
   abbrev st : State
   st = stateOf before
@@ -35,9 +50,9 @@ module _ {tested h : Bool} {before : List ℕ} (e : Ready tested before h) (n : 
   refused-bytes z Free p = sym (ap stateBytes (refusal-leaves st call z ∙ left-free st call p) ∙ one-form before (made-holds e n) (e .bytes))
   refused-bytes z (Under s claim) p = written
 
-  pub stored-bytes : storedBytes before (outcome (stateOf before) call) ≡ stateBytes next
-  unfolding storedBytes mayChange
-  stored-bytes =
+  pub bytes-put-back : bytesPutBack before (outcome (stateOf before) call) ≡ stateBytes next
+  unfolding bytesPutBack mayChange
+  bytes-put-back =
       split (eqb (number st call) 0)
       (λ z. ap (λ (a : Answer). cond (mayChange a) (stateWritten before next) before) (ap (λ (o : Outcome). o .answer) (outcome-done st call (eqb-true (number st call) 0 z))) ∙ written)
       (λ z.
@@ -46,13 +61,13 @@ module _ {tested h : Bool} {before : List ℕ} (e : Ready tested before h) (n : 
 
 -- ---- an entry: refused for its arguments or for the slice, or as the call answers
 module _ {tested : Bool} (fine : Bool) (f : tested ≡ fine) (before : List ℕ) (call : Call) {h : Bool} (e : Ready tested before h) where
-  pub call-none : not h ≡ true → Entry fine before call 1 before
+  pub call-none : not h ≡ true → Called fine before call 1 before
   call-none n = entry-none fine before call (rw (← f) (sym (e .is) ∙ not-true h n))
 
   pub call-made : {st : State} {other : Call} {o : Outcome} {r : ℕ} {after : List ℕ}
-      → not h ≡ false → st ≡ stateOf before → o ≡ outcome st other → other ≡ call → Stored before o r after → Entry fine before call r after
+      → not h ≡ false → st ≡ stateOf before → o ≡ outcome st other → other ≡ call → PutBack before o r after → Called fine before call r after
   call-made {st} {other} {o} {r} {after} n s q w v =
       let a : o ≡ outcome (stateOf before) call = rw (← s, ← w) q in
       entry-made fine before call (rw (← f) (sym (e .is) ∙ not-false h n))
       (v .number-is ∙ ap (λ (x : Outcome). answerNumber (x .answer)) a ∙ answer-number (stateOf before) call)
-      (v .bytes-are ∙ ap (storedBytes before) a ∙ stored-bytes e n call)
+      (v .bytes-are ∙ ap (bytesPutBack before) a ∙ bytes-put-back e n call)

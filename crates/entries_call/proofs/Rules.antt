@@ -5,14 +5,26 @@ use mathlib.Core.Path.{_≡_, _∙_}
 use mathlib.Core.Bool.{Bool, true, false}
 use mathlib.Core.List.{List}
 use borrow.Author.Needs.{needs}
+use Rattle.rows.specs.Bytes.{Bytes}
 use Rattle.module_state.specs.declared.Claim.{Claim}
 use Rattle.module_state.specs.declared.State.{State}
 use Rattle.calls.specs.Calls.{answerNumber}
 use Rattle.calls.specs.declared.Answer.{Answer}
 use Rattle.calls.specs.declared.Answer.the-variants.{Done, Refused, RefusedClaim}
 use Rattle.calls.specs.declared.Outcome.{Outcome}
-use Rattle.state_layout.specs.Layout.{stateWritten}
-use Rattle.entries_store.specs.Stored.{mayChange, storedBytes, Stored}
+use Rattle.state_layout.specs.Layout.{holdsState, stateWritten}
+use Rattle.entries_call.specs.Called.{isMade, Ready}
+use Rattle.entries_call.specs.PutBack.{mayChange, bytesPutBack, PutBack}
+
+-- ---- whether a call is made
+module _ {fine : Bool} (b : List ℕ) (g : Bytes b) where
+  pub ready-holds : {h : Bool} → fine ≡ true → h ≡ holdsState b → Ready fine b h
+  unfolding isMade
+  ready-holds f e = record { is = e ∙ rw f; bytes = g }
+
+  pub ready-not : fine ≡ false → Ready fine b fine
+  unfolding isMade
+  ready-not f = record { is = rw f; bytes = g }
 
 -- ---- whether the state may have changed
 module _ {answer : Answer} where
@@ -29,12 +41,12 @@ module _ {answer : Answer} where
   change-claim e = rw e
 
 module _ (before : List ℕ) (o : Outcome) {n : ℕ} (q : n ≡ answerNumber (o .answer)) {b : Bool} (e : b ≡ mayChange (o .answer)) where
-  pub stored-written : {after : List ℕ} {x : State} → b ≡ true → x ≡ o .state → after ≡ stateWritten before x → Stored before o n after
-  unfolding storedBytes
-  stored-written z s w = record { number-is = q; bytes-are = w ∙ rw (← e, z, s) }
+  pub put-back-written : {after : List ℕ} {x : State} → b ≡ true → x ≡ o .state → after ≡ stateWritten before x → PutBack before o n after
+  unfolding bytesPutBack
+  put-back-written z s w = record { number-is = q; bytes-are = w ∙ rw (← e, z, s) }
 
-  pub stored-left : b ≡ false → Stored before o n before
-  unfolding storedBytes
-  stored-left z = record { number-is = q; bytes-are = rw (← e, z) }
+  pub put-back-left : b ≡ false → PutBack before o n before
+  unfolding bytesPutBack
+  put-back-left z = record { number-is = q; bytes-are = rw (← e, z) }
 
-pub ruleset rules = (needs, change-done, change-refused, change-claim, stored-written, stored-left)
+pub ruleset rules = (needs, change-done, change-refused, change-claim, put-back-written, put-back-left)

@@ -1,6 +1,6 @@
-use Rattle.entries_store.proofs.Rules.{rules}
-use Rattle.entries_store.proofs.may_change.Statement.{statement}
-use Rattle.entries_store.proofs.may_change.Tie as tie
+use Rattle.entries_call.proofs.Rules.{rules}
+use Rattle.entries_call.proofs.may_change.Statement.{statement}
+use Rattle.entries_call.proofs.may_change.Tie as tie
 
 enum-told : tie.Need-enum-told
 enum-told c = search rules

@@ -1,6 +1,6 @@
-use Rattle.entries_store.proofs.Rules.{rules}
-use Rattle.entries_store.proofs.store.Statement.{statement}
-use Rattle.entries_store.proofs.store.Tie as tie
+use Rattle.entries_call.proofs.Rules.{rules}
+use Rattle.entries_call.proofs.put_back.Statement.{statement}
+use Rattle.entries_call.proofs.put_back.Tie as tie
 
 answer-number-requires : tie.Need-answer-number-requires
 answer-number-requires c κs = search rules
@@ -23,8 +23,8 @@ returns c = search rules
 returns-2 : tie.Need-returns-2
 returns-2 c = search rules
 
-pub store-spec : {M : Type 1} → statement M
-store-spec =
+pub put-back-spec : {M : Type 1} → statement M
+put-back-spec =
     tie.close
     (tie.spec
     answer-number-requires

@@ -6,9 +6,9 @@ use mathlib.Core.List.{List}
 use Rattle.calls.specs.Calls.{Call}
 use Rattle.calls.proofs.Facts.{small-unless, small-then, number-small}
 use Rattle.state_layout.specs.Layout.{stateOf}
-use Rattle.entries_record.specs.Entry.{holdsNumber, entryNumber, Entry}
+use Rattle.entries_call.specs.Called.{holdsNumber, entryNumber, Called}
 
-pub entry-small : {fine : Bool} {before after : List ℕ} {call : Call} {answer : ℕ} → Entry fine before call answer after → answer ≤ 15
+pub entry-small : {fine : Bool} {before after : List ℕ} {call : Call} {answer : ℕ} → Called fine before call answer after → answer ≤ 15
 unfolding entryNumber
 entry-small {before = before} {call = call} e = rw (e .number-is) (small-then _ _ (small-unless 1 _ tt) (number-small (stateOf before) call))
 

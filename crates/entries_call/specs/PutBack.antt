@@ -1,4 +1,4 @@
--- What an outcome answers, and what it leaves in the lent state, whichever call it is of.
+-- What an outcome answers, and what is put back of it into the lent state, whichever call it is of.
 use Prim.Native.Nat.{ℕ}
 use mathlib.Core.Path.{_≡_}
 use mathlib.Core.Bool.{Bool, true, false, cond}
@@ -15,9 +15,9 @@ mayChange Done = true
 mayChange (Refused n) = false
 mayChange (RefusedClaim n claim) = true
 
-unfoldable pub storedBytes : List ℕ → Outcome → List ℕ
-storedBytes before outcome = cond (mayChange (outcome .answer)) (stateWritten before (outcome .state)) before
+unfoldable pub bytesPutBack : List ℕ → Outcome → List ℕ
+bytesPutBack before outcome = cond (mayChange (outcome .answer)) (stateWritten before (outcome .state)) before
 
-pub record Stored (before : List ℕ) (outcome : Outcome) (answer : ℕ) (after : List ℕ) : Type 0 where
+pub record PutBack (before : List ℕ) (outcome : Outcome) (answer : ℕ) (after : List ℕ) : Type 0 where
   pub number-is : answer ≡ answerNumber (outcome .answer)
-  pub bytes-are : after ≡ storedBytes before outcome
+  pub bytes-are : after ≡ bytesPutBack before outcome

@@ -1,7 +1,7 @@
 use native.Mathlib.Omega.{arith}
-use Rattle.entries_record.proofs.Rules.{ready-holds, ready-not, rules}
-use Rattle.entries_record.proofs.is_ready.Statement.{statement}
-use Rattle.entries_record.proofs.is_ready.Tie as tie
+use Rattle.entries_call.proofs.Rules.{ready-holds, ready-not, rules}
+use Rattle.entries_call.proofs.is_ready.Statement.{statement}
+use Rattle.entries_call.proofs.is_ready.Tie as tie
 
 holds-requires : tie.Need-holds-requires
 holds-requires c κs = search rules
