@@ -1,14 +1,14 @@
 -- What a search's answer says, and what the tests say: what callers cite.
 -- Assumes nothing.
 use Prim.Native.Nat.{ℕ, _<_, _≤_}
-use mathlib.Core.Path.{_≡_, refl, ap, _∙_}
+use mathlib.Core.Path.{_≡_, refl, sym, ap, _∙_}
 use mathlib.Core.Bool.{Bool, true, false, _&&_}
 use mathlib.Core.List.{List}
 use native.Mathlib.Omega.{arith}
 use borrow.Author.Tests.{lt-ltb, le-ltb, eqb-true, eq-eqb}
-use lib.ListN.{length, getD}
+use lib.ListN.{length}
 use Rattle.lists.specs.Lists.{any, firstIndex}
-use Rattle.lists.proofs.Lists.{first-low, first-passes, none-before, any-inside, any-past}
+use Rattle.lists.proofs.Lists.{first-low, any-inside, any-past}
 use Rattle.lists.proofs.Tests.{below, clash, and-left, and-right}
 use Rattle.names.specs.Names.{sameName}
 use Rattle.names.proofs.Laws.{same→name}
@@ -24,19 +24,15 @@ use Rattle.table.specs.declared.Found.the-variants.{At, Nothing}
 use Rattle.table.specs.declared.Process.{Process}
 use Rattle.table.specs.Table.{isUser, isElevation, isSaved, isIn, isOf, isActive, isAmong, isNamed, foundPlace, firstPlace}
 
--- the place found stands in the list, passes the test, and is the first that does
+-- the place found is the first that passes the test, and one does
 pub record FoundAt (f : Process → Bool) (l : List Process) (k : ℕ) : Type 0 where
-  pub inside : k < length l
   pub is : k ≡ firstIndex f l
   pub some : any f l ≡ true
-  pub passes : (d : Process) → f (getD l k d) ≡ true
-  pub first : (d : Process) (j : ℕ) → j < k → f (getD l j d) ≡ false
 
 -- none passes
 pub record FoundNone (f : Process → Bool) (l : List Process) : Type 0 where
   pub past : length l ≤ firstIndex f l
   pub none : any f l ≡ false
-  pub fails : (d : Process) (j : ℕ) → j < length l → f (getD l j d) ≡ false
 
 module _ (f : Process → Bool) (l : List Process) where
   first-is : firstIndex f l < length l → firstPlace f l ≡ At (firstIndex f l)
@@ -53,20 +49,14 @@ module _ (f : Process → Bool) (l : List Process) where
       hit : firstIndex f l < length l → FoundAt f l k
       hit h =
           let q : firstIndex f l ≡ k = cc (first-is h, e) in
-          record {
-            inside = rw q at h;
-            is = (cc);
-            some = any-inside f l h;
-            passes = λ d. rw q at (first-passes f l d h);
-            first = λ d j b. none-before f l d j (omega arith);
-          }
+          record { is = sym q; some = any-inside f l h }
 
       miss : length l ≤ firstIndex f l → FoundAt f l k
       miss h = let z : _≡_ {A = ℕ} 0 1 = cc (first-past h, e) in absurd (omega arith)
 
   pub found-none : firstPlace f l ≡ Nothing → FoundNone f l
   found-none e =
-      below (firstIndex f l) (length l) hit (λ h. record { past = h; none = any-past f l h; fails = λ d j b. none-before f l d j (omega arith) })
+      below (firstIndex f l) (length l) hit (λ h. record { past = h; none = any-past f l h })
     where
       hit : firstIndex f l < length l → FoundNone f l
       hit h = let z : _≡_ {A = ℕ} 0 1 = cc (first-is h, e) in absurd (omega arith)
