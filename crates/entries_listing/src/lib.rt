@@ -1,7 +1,7 @@
 // The listing's messages, read and written for programs in C and Rust.
 ghost use mathlib.Core.Path.{_≡_};
 ghost use Rattle.rows.specs.Rows.{over};
-ghost use Rattle.listing_messages.specs.Wire.{request, readRequest, requestRoom, readCount};
+ghost use Rattle.listing_messages.specs.Wire.{headLength, request, readRequest, requestRoom, readCount};
 ghost use Rattle.entries_listing.specs.Messages.{Given, RowEntry};
 use module_state::ARGUMENT;
 use module_state::DONE;
@@ -21,7 +21,7 @@ pub extern "C" fn slavotuk_read_request(message: &[u8], credential: &mut u16) ->
 
 #[no_mangle]
 pub extern "C" fn slavotuk_write_request(buffer: &mut [u8], credential: u16) -> u32
-    ensures { λ r. ⌜ (r ≡ requestRoom (now (buffer .entry))) × (now (buffer .exit) ≡ over 0 4 (request credential) (now (buffer .entry))) ⌝ }
+    ensures { λ r. ⌜ (r ≡ requestRoom (now (buffer .entry))) × (now (buffer .exit) ≡ over 0 headLength (request credential) (now (buffer .entry))) ⌝ }
 {
     listing_messages::put_request(buffer, credential) as u32
 }

@@ -1,14 +1,11 @@
 -- "Numbers a call can answer": no entry of a message answers a number over 15.
 -- Assumes nothing.
 use Prim.Native.Nat.{ℕ, _≤_}
-use mathlib.Core.Bool.{Bool}
 use mathlib.Core.List.{List}
 use native.Mathlib.Omega.{arith}
 use Rattle.lists.proofs.Tests.{split}
-use Rattle.rows.specs.Bytes.{byteOf}
 use Rattle.calls.proofs.Facts.{small-unless, small-when, small-then}
 use Rattle.message_fields_write.specs.Bodies.{numberFor}
-use Rattle.message_codes.specs.Codes.{pieceOf}
 use Rattle.message_write.specs.Written.{writeNumber, writePieceNumber}
 use Rattle.message_read.specs.Messages.{isMessage, readMessage}
 use Rattle.entries_messages.specs.Entries.{readMessageNumber, writeMessageNumber, readPieceNumber, putPieceNumber}

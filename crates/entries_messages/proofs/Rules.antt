@@ -7,7 +7,6 @@ use mathlib.Core.List.{List}
 use native.Mathlib.Omega.{arith}
 use borrow.Author.Needs.{needs}
 use borrow.Author.Tests.{eq-eqb, ne-eqb, lt-ltb, le-ltb, not-true, not-false}
-use lib.Dec.{eqb}
 use lib.ListN.{length, getD, set}
 use Rattle.lists.proofs.Loops.{Copied, copied-none, copied-more, copied-all}
 use Rattle.rows.specs.Bytes.{byteOf}

@@ -52,7 +52,7 @@ pub request-carried : (credential : ℕ) → credential < 65536 → carries 0x8e
 unfolding carries shapeFor shapeOf find requests restOf fitsRest formOf fieldsOf
 request-carried credential h = and-both (one-allowed OneCredential _ credential refl refl h) refl
 
--- "what they promised stays promised": the request that is written is read with its credential
+-- what they promised stays promised: the request that is written is read with its credential
 pub request-is-read : (credential : ℕ) → credential < 65536 → ReadsAs 0x8e (alone credential) [] (request credential)
 request-is-read credential h = rw (request-is credential) (written-is-read 0x8e (alone credential) [] refl (request-carried credential h))
 

@@ -68,7 +68,7 @@ fn put_listing(buffer: &mut [u8], t: Table, wanted: Wanted)
     ensures { λ r. ⌜ now (buffer .exit) ≡ listingOver (rowsAmong wanted (standing t)) (now (buffer .entry)) ⌝ }
 {
     let count = put_rows(buffer, t, wanted);
-    listing_messages::put_head(buffer, AUTH_PROCESSES, count as u16);
+    listing_messages::put_message_head(buffer, AUTH_PROCESSES, count as u16);
 }
 
 // The list call: what calls decides for the room that the buffer has, and the response where it is accepted.

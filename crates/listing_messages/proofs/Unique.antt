@@ -3,8 +3,8 @@
 use mathlib.Core.Path.{sym, _∙_}
 use denote.Ref.{now}
 use Rattle.lists.proofs.Once.{OneAnswer, OneContent}
-use Rattle.listing_messages.proofs.put_head.Kinds as put-head-kinds
-use Rattle.listing_messages.proofs.put_head.Reads as put-head
+use Rattle.listing_messages.proofs.put_message_head.Kinds as put-message-head-kinds
+use Rattle.listing_messages.proofs.put_message_head.Reads as put-message-head
 use Rattle.listing_messages.proofs.read_request.Kinds as read-request-kinds
 use Rattle.listing_messages.proofs.read_request.Reads as read-request
 use Rattle.listing_messages.proofs.put_request.Kinds as put-request-kinds
@@ -14,8 +14,8 @@ use Rattle.listing_messages.proofs.read_count.Reads as read-count
 use Rattle.listing_messages.proofs.read_row_at.Kinds as read-row-at-kinds
 use Rattle.listing_messages.proofs.read_row_at.Reads as read-row-at
 
-pub put-head-once : OneContent 1 put-head-kinds.ps put-head-kinds.r put-head.Post (λ κs s. now (s .0))
-put-head-once κs a x y s t p q = p ∙ sym q
+pub put-message-head-once : OneContent 1 put-message-head-kinds.ps put-message-head-kinds.r put-message-head.Post (λ κs s. now (s .0))
+put-message-head-once κs a x y s t p q = p ∙ sym q
 
 pub read-request-once : OneAnswer 1 read-request-kinds.ps read-request-kinds.r read-request.Post
 read-request-once κs a x y s t p q = p ∙ sym q

@@ -7,7 +7,7 @@ use lib.ListN.{length, getD, take, drop}
 use Rattle.lists.specs.Lists.{select, join}
 use Rattle.rows.specs.Bytes.{bytesOf, numberAt}
 use Rattle.rows.specs.Rows.{rows, every, over}
-use Rattle.names.specs.Names.{rowBytes, isRow, noRow}
+use Rattle.names.specs.Names.{rowLength, rowBytes, isRow, noRow}
 use Rattle.names.specs.Names as Names
 use Rattle.names.specs.declared.Row.{Row}
 use Rattle.names.specs.declared.Session.{Session}
@@ -25,8 +25,17 @@ use Rattle.listing_messages.specs.declared.RequestRead.{RequestRead}
 use Rattle.listing_messages.specs.declared.RowAnswer.{RowAnswer}
 
 -- ---- what both messages begin with. "Byte 1 is reserved: written zero": a code, the reserved byte and a number of two bytes
+abbrev pub headNumberAt : ℕ
+headNumberAt = 2
+
+abbrev pub headNumberSize : ℕ
+headNumberSize = 2
+
+abbrev pub headLength : ℕ
+headLength = headNumberAt + headNumberSize
+
 unfoldable pub head : ℕ → ℕ → List ℕ
-head code n = code ∷ 0 ∷ bytesOf 2 n
+head code n = code ∷ 0 ∷ bytesOf headNumberSize n
 
 -- "ignored on reading": a message has a code and a length, whatever byte 1 is
 unfoldable pub isHeaded : ℕ → ℕ → List ℕ → Bool
@@ -34,7 +43,7 @@ isHeaded code long message = eqb (length message) long && eqb (getD message 0 0)
 
 -- the number that follows the reserved byte; "Two-byte numbers are little endian."
 unfoldable pub headNumber : List ℕ → ℕ
-headNumber message = numberAt 2 2 message
+headNumber message = numberAt headNumberSize headNumberAt message
 
 -- ---- GET_AUTH_PROCESSES: 004 Table 16, "(Table 44): code, reserved, credential in 2 bytes, 65535 for all"
 abbrev pub getAuthProcesses : ℕ
@@ -45,7 +54,7 @@ request credential = head getAuthProcesses credential
 
 -- "a wrong code or any length but 4 is 14"
 unfoldable pub requestNumber : List ℕ → ℕ
-requestNumber message = No.message unless isHeaded getAuthProcesses 4 message
+requestNumber message = No.message unless isHeaded getAuthProcesses headLength message
 
 -- "every credential value is read and written as it stands"
 unfoldable pub readRequest : List ℕ → RequestRead
@@ -57,20 +66,20 @@ readRequest message =
 
 -- "its writer answers 15 to a buffer under 4 bytes"
 unfoldable pub requestRoom : List ℕ → ℕ
-requestRoom old = No.room when ltb (length old) 4
+requestRoom old = No.room when ltb (length old) headLength
 
 -- ---- AUTH_PROCESSES read: "(Tables 45, 46): code, reserved, count in 2 bytes, then rows of 51 bytes"
 
 -- the part that the row at a place has
 unfoldable pub rowPart : List ℕ → ℕ → List ℕ
-rowPart message at = take 51 (drop (4 + at * 51) message)
+rowPart message at = take rowLength (drop (headLength + at * rowLength) message)
 
 -- "it refuses with 14 a wrong code, a length under 4 or other than 4 + 51 × count, or a type over 2"; a length under 4 is other than
 -- 4 + 51 × count, whatever the count
 unfoldable pub isListing : List ℕ → Bool
 isListing message =
     isHeaded authProcesses (messageLength (headNumber message)) message
-    && every isRow (rows (headNumber message) 51 (drop 4 message))
+    && every isRow (rows (headNumber message) rowLength (drop headLength message))
 
 unfoldable pub countNumber : List ℕ → ℕ
 countNumber message = No.message unless isListing message
@@ -110,7 +119,7 @@ rowsAmong wanted l = map rowOf (select (isAmong (amongOf wanted)) l)
 
 -- "Rows are written one after another into the middle of the lent response, in table order."
 unfoldable pub rowsOver : List Row → List ℕ → List ℕ
-rowsOver rows old = over 4 (length rows * 51) (join (map rowBytes rows)) old
+rowsOver rows old = over headLength (length rows * rowLength) (join (map rowBytes rows)) old
 
 -- "The message has 4 + 51 × count bytes and later bytes of the buffer are not touched."
 unfoldable pub listingOver : List Row → List ℕ → List ℕ

@@ -2,14 +2,16 @@
 ghost use mathlib.Core.Path.{_≡_};
 ghost use lib.ListN.{length, drop};
 ghost use Rattle.rows.specs.Rows.{rows, every, over};
-ghost use Rattle.names.specs.Names.{isRow};
+ghost use Rattle.names.specs.Names.{rowLength, isRow};
 ghost use Rattle.calls.specs.Listing.{messageLength};
-ghost use Rattle.listing_messages.specs.Wire.{head, isHeaded, headNumber, request, readRequest, requestRoom, isListing, readCount, refusedRow, readRowAt};
+ghost use Rattle.listing_messages.specs.Wire.{headLength, head, isHeaded, headNumber, request, readRequest, requestRoom, isListing, readCount, refusedRow, readRowAt};
 use module_state::ARGUMENT;
 use module_state::DONE;
 use module_state::MESSAGE;
 use module_state::ROOM;
+use listing_row::ROW_LENGTH;
 use names::Credential;
+use names::NAME_LENGTH;
 use names::Name;
 use names::Row;
 use names::RowType;
@@ -18,6 +20,11 @@ use names::RowType;
 pub const GET_AUTH_PROCESSES: u8 = 0x8e;
 
 pub const AUTH_PROCESSES: u8 = 0x0e;
+
+// The code, the reserved byte and a number stand before the rows.
+const NUMBER_AT: usize = 2;
+
+pub const HEAD_LENGTH: usize = NUMBER_AT + 2;
 
 // What a request says. Where it is refused, the credential is 0.
 pub struct RequestRead {
@@ -50,17 +57,17 @@ fn is_headed(message: &[u8], code: u8, long: usize) -> bool
 fn head_number(message: &[u8]) -> u16
     ensures { λ r. ⌜ r ≡ headNumber (now (message .entry)) ⌝ }
 {
-    rows::number16(message, 2)
+    rows::number16(message, NUMBER_AT)
 }
 
 // A code, the reserved byte and a number, at the front of a buffer that has room for them.
-pub fn put_head(buffer: &mut [u8], code: u8, number: u16)
-    ensures { λ r. ⌜ now (buffer .exit) ≡ over 0 4 (head code number) (now (buffer .entry)) ⌝ }
+pub fn put_message_head(buffer: &mut [u8], code: u8, number: u16)
+    ensures { λ r. ⌜ now (buffer .exit) ≡ over 0 headLength (head code number) (now (buffer .entry)) ⌝ }
 {
-    if 4 <= buffer.len() {
+    if HEAD_LENGTH <= buffer.len() {
         buffer[0] = code;
         buffer[1] = 0;
-        rows::put_number16(buffer, 2, number);
+        rows::put_number16(buffer, NUMBER_AT, number);
     }
 }
 
@@ -70,7 +77,7 @@ pub fn put_head(buffer: &mut [u8], code: u8, number: u16)
 pub fn read_request(message: &[u8]) -> RequestRead
     ensures { λ r. ⌜ r ≡ readRequest (now (message .entry)) ⌝ }
 {
-    if !is_headed(message, GET_AUTH_PROCESSES, 4) {
+    if !is_headed(message, GET_AUTH_PROCESSES, HEAD_LENGTH) {
         return RequestRead {
             number: MESSAGE,
             credential: 0,
@@ -84,12 +91,12 @@ pub fn read_request(message: &[u8]) -> RequestRead
 
 // The request, at the front of a buffer that has room for it.
 pub fn put_request(buffer: &mut [u8], credential: u16) -> u8
-    ensures { λ r. ⌜ (r ≡ requestRoom (now (buffer .entry))) × (now (buffer .exit) ≡ over 0 4 (request credential) (now (buffer .entry))) ⌝ }
+    ensures { λ r. ⌜ (r ≡ requestRoom (now (buffer .entry))) × (now (buffer .exit) ≡ over 0 headLength (request credential) (now (buffer .entry))) ⌝ }
 {
-    if buffer.len() < 4 {
+    if buffer.len() < HEAD_LENGTH {
         return ROOM;
     }
-    put_head(buffer, GET_AUTH_PROCESSES, credential);
+    put_message_head(buffer, GET_AUTH_PROCESSES, credential);
     DONE
 }
 
@@ -98,13 +105,13 @@ pub fn put_request(buffer: &mut [u8], credential: u16) -> u8
 // Whether each row is one, in a message that is as long as its count says.
 fn are_rows(message: &[u8], count: u16) -> bool
     requires { ⌜ length (now message) ≡ messageLength count ⌝ }
-    ensures { λ r. ⌜ r ≡ every isRow (rows count 51 (drop 4 (now (message .entry)))) ⌝ }
+    ensures { λ r. ⌜ r ≡ every isRow (rows count rowLength (drop headLength (now (message .entry)))) ⌝ }
 {
     let n = count as usize;
     let mut at: usize = 0;
     while at < n {
-        let start = 4 + at * 51;
-        let end = start + 51;
+        let start = HEAD_LENGTH + at * ROW_LENGTH;
+        let end = start + ROW_LENGTH;
         if !listing_row::is_row(&message[start..end]) {
             return false;
         }
@@ -117,7 +124,7 @@ fn is_listing(message: &[u8]) -> bool
     ensures { λ r. ⌜ r ≡ isListing (now (message .entry)) ⌝ }
 {
     let count = head_number(message);
-    let long = 4 + 51 * (count as usize);
+    let long = HEAD_LENGTH + ROW_LENGTH * (count as usize);
     is_headed(message, AUTH_PROCESSES, long) && are_rows(message, count)
 }
 
@@ -145,7 +152,9 @@ fn refused_row(number: u8) -> RowAnswer
         row: Row {
             credential: Credential(0),
             kind: RowType::ActiveUser,
-            name: Name { bytes: [0; 48] },
+            name: Name {
+                bytes: [0; NAME_LENGTH],
+            },
         },
     }
 }
@@ -163,8 +172,8 @@ pub fn read_row_at(message: &[u8], at: usize) -> RowAnswer
     if count <= at {
         return refused_row(ARGUMENT);
     }
-    let start = 4 + at * 51;
-    let end = start + 51;
+    let start = HEAD_LENGTH + at * ROW_LENGTH;
+    let end = start + ROW_LENGTH;
     let found = listing_row::read_row(&message[start..end]);
     let row = found.row;
     RowAnswer {

@@ -11,8 +11,6 @@ use Rattle.listing_row.proofs.read_row.Kinds as read-row-kinds
 use Rattle.listing_row.proofs.read_row.Reads as read-row
 use Rattle.listing_row.proofs.type_number.Kinds as type-number-kinds
 use Rattle.listing_row.proofs.type_number.Reads as type-number
-use Rattle.listing_row.proofs.type_numbered.Kinds as type-numbered-kinds
-use Rattle.listing_row.proofs.type_numbered.Reads as type-numbered
 use Rattle.listing_row.proofs.type_of.Kinds as type-of-kinds
 use Rattle.listing_row.proofs.type_of.Reads as type-of
 
@@ -27,9 +25,6 @@ read-row-once κs a x y s t p q = p ∙ sym q
 
 pub type-number-once : OneAnswer 0 type-number-kinds.ps type-number-kinds.r type-number.Post
 type-number-once κs a x y s t p q = p ∙ sym q
-
-pub type-numbered-once : OneAnswer 0 type-numbered-kinds.ps type-numbered-kinds.r type-numbered.Post
-type-numbered-once κs a x y s t p q = p ∙ sym q
 
 pub type-of-once : OneAnswer 0 type-of-kinds.ps type-of-kinds.r type-of.Post
 type-of-once κs a x y s t p q = p ∙ sym q

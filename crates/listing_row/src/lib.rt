@@ -2,12 +2,25 @@
 ghost use mathlib.Core.Path.{_≡_};
 ghost use Rattle.names.specs.Names.{typeOf, typeNumber, typeNumbered, rowIn, isRow, noRow, readRow};
 use names::Credential;
+use names::ELEVATION_TYPE;
 use names::Kind;
+use names::LAST_TYPE;
 use names::NAME_LENGTH;
 use names::Name;
 use names::Row;
 use names::RowRead;
 use names::RowType;
+use names::SAVED_TYPE;
+use names::USER_TYPE;
+
+// Where the fields of a row begin: the credential, the type, the name.
+const CREDENTIAL_AT: usize = 0;
+
+const TYPE_AT: usize = CREDENTIAL_AT + 2;
+
+const NAME_AT: usize = TYPE_AT + 1;
+
+pub const ROW_LENGTH: usize = NAME_AT + NAME_LENGTH;
 
 // The type of the row of a process.
 pub fn type_of(kind: Kind) -> RowType
@@ -25,35 +38,35 @@ pub fn type_number(kind: RowType) -> u8
     ensures { λ r. ⌜ r ≡ typeNumber kind ⌝ }
 {
     match kind {
-        RowType::ActiveUser => 0,
-        RowType::ActiveElevation => 1,
-        RowType::SavedUser => 2,
+        RowType::ActiveUser => USER_TYPE,
+        RowType::ActiveElevation => ELEVATION_TYPE,
+        RowType::SavedUser => SAVED_TYPE,
     }
 }
 
-// The type of a number; a number over 2, which is no type's, is taken for 2.
-pub fn type_numbered(number: u8) -> RowType
+// The type of a number; a number that is no type's is taken for the last.
+fn type_numbered(number: u8) -> RowType
     ensures { λ r. ⌜ r ≡ typeNumbered number ⌝ }
 {
-    if number == 0 {
+    if number == USER_TYPE {
         return RowType::ActiveUser;
     }
-    if number == 1 {
+    if number == ELEVATION_TYPE {
         return RowType::ActiveElevation;
     }
     RowType::SavedUser
 }
 
-// The row, in a part of 51 bytes. A part of another length stays.
+// The row, in a part of a row's length. A part of another length stays.
 pub fn put_row(part: &mut [u8], row: Row)
     ensures { λ r. ⌜ now (part .exit) ≡ rowIn (now (part .entry)) row ⌝ }
 {
-    if part.len() == 51 {
+    if part.len() == ROW_LENGTH {
         let credential = row.credential.0;
         let kind = row.kind;
-        rows::put_number16(part, 0, credential);
-        part[2] = type_number(kind);
-        names::put_name(&mut part[3..51], row.name);
+        rows::put_number16(part, CREDENTIAL_AT, credential);
+        part[TYPE_AT] = type_number(kind);
+        names::put_name(&mut part[NAME_AT..ROW_LENGTH], row.name);
     }
 }
 
@@ -72,11 +85,11 @@ fn no_row() -> RowRead
     }
 }
 
-// Whether a slice is a row's: 51 bytes, with a type of at most 2.
+// Whether a slice is a row's: of its length, with the number of a type.
 pub fn is_row(part: &[u8]) -> bool
     ensures { λ r. ⌜ r ≡ isRow (now (part .entry)) ⌝ }
 {
-    part.len() == 51 && part[2] <= 2
+    part.len() == ROW_LENGTH && part[TYPE_AT] <= LAST_TYPE
 }
 
 // The row that a slice says.
@@ -86,9 +99,9 @@ pub fn read_row(part: &[u8]) -> RowRead
     if !is_row(part) {
         return no_row();
     }
-    let credential = rows::number16(part, 0);
-    let number = part[2];
-    let read = names::read_name(&part[3..51]);
+    let credential = rows::number16(part, CREDENTIAL_AT);
+    let number = part[TYPE_AT];
+    let read = names::read_name(&part[NAME_AT..ROW_LENGTH]);
     let name = read.name;
     RowRead {
         fits: true,

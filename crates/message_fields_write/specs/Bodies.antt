@@ -16,8 +16,7 @@ bodyBytes shape values rest = fieldBytes (fields shape) values ++ rest
 unfoldable pub bodyLong : Shape → List ℕ → ℕ
 bodyLong shape rest = headLong shape + length rest
 
--- of so many bytes, which can carry what was handed in or not: "Where a writer is handed values that no message can carry, it answers 14, the room (15) being asked
--- before them"
+-- of so many bytes, where what was handed in can be carried or not: the room (15) is asked before what a message can carry (14)
 unfoldable pub numberFor : ℕ → Bool → List ℕ → ℕ
 numberFor long carried old =
     No.room when ltb (length old) long

@@ -27,7 +27,7 @@ headOf shape = fieldsAt + headLong shape
 unfoldable pub messageValues : List ℕ → List ℕ
 messageValues message = valuesOf (shapeIn message) (drop fieldsAt message)
 
--- "A wrong code, another length than the fields and counts say, a count that runs past the end, a value that 004 reserves in a field that enumerates": not so
+-- none is: a wrong code, another length than the fields and counts say, a count that runs past the end, a value that 004 reserves in a field that enumerates
 unfoldable pub isMessage : List ℕ → Bool
 isMessage message =
     leb (headOf (shapeIn message)) (length message)

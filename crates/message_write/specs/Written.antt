@@ -21,7 +21,7 @@ writtenOver number long bytes old = given number (over 0 long bytes old) old
 unfoldable pub shapeFor : ℕ → List ℕ → Shape
 shapeFor code values = shapeOf code (getD values 0 0)
 
--- "Reserved bytes and bits are written zero"
+-- reserved bytes and bits are written zero
 unfoldable pub messageBytes : ℕ → List ℕ → List ℕ → List ℕ
 messageBytes code values rest = code ∷ 0 ∷ bodyBytes (shapeFor code values) values rest
 

@@ -1,6 +1,6 @@
 use Rattle.listing_messages.proofs.Rules.{rules}
-use Rattle.listing_messages.proofs.put_head.Statement.{statement}
-use Rattle.listing_messages.proofs.put_head.Tie as tie
+use Rattle.listing_messages.proofs.put_message_head.Statement.{statement}
+use Rattle.listing_messages.proofs.put_message_head.Tie as tie
 
 slice-write-buffer : tie.Need-slice-write-buffer
 slice-write-buffer c = search rules
@@ -20,8 +20,8 @@ returns c = search rules
 returns-2 : tie.Need-returns-2
 returns-2 c = search rules
 
-pub put-head-spec : {M : Type 1} → statement M
-put-head-spec =
+pub put-message-head-spec : {M : Type 1} → statement M
+put-message-head-spec =
     tie.close
     (tie.spec
     slice-write-buffer
