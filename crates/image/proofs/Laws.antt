@@ -58,6 +58,9 @@ pub offset-is : (offset : ℕ) → isRowOffset offset ≡ true → offset ≡ sa
 unfolding isRowOffset
 offset-is offset e = eqb-true offset savedAt e
 
+pub offset-low : (offset : ℕ) → isRowOffset offset ≡ true → offset ≤ savedAt
+offset-low offset e = omega (arith, offset-is offset e)
+
 -- ---- what the head of an image has
 pub record Head (h : ImageHead) : Type 0 where
   pub mask : h .mask < 256
@@ -121,9 +124,6 @@ abbrev pub rowAt : List ℕ → ℕ → ℕ → List ℕ
 rowAt b offset i = take (offset + i * savedSize + savedSize - (offset + i * savedSize)) (drop (offset + i * savedSize) b)
 
 module _ (b : List ℕ) {offset n i : ℕ} (v : SavedLie b offset n) (k : i < n) where
-  saved-at : offset ≡ savedAt
-  saved-at = offset-is offset (v .from)
-
   pub saved-room : offset + i * savedSize + savedSize ≤ length b
   unfolding imageLong
   saved-room = omega (arith, v .long)
@@ -132,10 +132,10 @@ module _ (b : List ℕ) {offset n i : ℕ} (v : SavedLie b offset n) (k : i < n)
   saved-part = simp (length-take, length-drop) (omega (arith, saved-room))
 
   pub saved-fits : Fits w64 (offset + i * savedSize)
-  saved-fits = omega (arith, saved-at, v .few)
+  saved-fits = omega (arith, offset-low offset (v .from), v .few)
 
   pub saved-ends : Fits w64 (offset + i * savedSize + savedSize)
-  saved-ends = omega (arith, saved-at, v .few)
+  saved-ends = omega (arith, offset-low offset (v .from), v .few)
 
 -- ---- the rows that are kept are all rows exactly where each may be and all names differ
 module _ (grants : List Grants) where
@@ -291,7 +291,7 @@ module _ {i : Image} (f : Fit i) where
 
   row-offset-is : headIn b .offset ≡ i .offset
   unfolding headIn numberAt imageBytes numbersBytes join bytesOf
-  row-offset-is = number-back 2 (i .offset) (omega (arith, at-offset))
+  row-offset-is = number-back 2 (i .offset) (omega (arith, offset-low (i .offset) (f .offset)))
 
   head-is : headFits (headIn b) ≡ true
   unfolding headFits
@@ -353,9 +353,6 @@ saved-length b = length-map (rows (headIn b .rows) savedSize (drop (headIn b .of
 module _ (b : List ℕ) (g : Bytes b) (e : isImage b ≡ true) where
   v : IsImage b
   v = image b e
-
-  h : ImageHead
-  h = headIn b
 
   abbrev words : List ℕ
   words = numbersIn credentialCount wordSize (drop wordsAt b)
@@ -442,10 +439,6 @@ module _ (b : List ℕ) (g : Bytes b) (e : isImage b ≡ true) where
 owner-by : (st : State) (c : Credential) → provisioned st c ≡ isOwner (st .credentials) c
 unfolding provisioned isOwner
 owner-by st c = refl
-
-pairs-first : {A : Type 0} {P : A → Type 0} {R : A → A → Type 0} {l : List A} → ((x y : A) → P x → R x y) → Each P l → Pairs R l
-pairs-first k each-nil = pairs-nil
-pairs-first k (each-cons {x = x} {l = l} p h) = pairs-cons (each-all l (λ y. k x y p)) (pairs-first k h)
 
 row-back : (l : List SavedRow) → map savedRow (select isSavedOne (map savedProcess l)) ≡ l
 unfolding select savedRow savedProcess

@@ -193,8 +193,3 @@ module _ {A : Type 0} (f : A → Bool) where
 
   pub pairs-select : {R : A → A → Type 0} {l : List A} → Pairs R l → Pairs R (select f l)
   pairs-select {l = l} h = rw (select-reject l) (pairs-reject (λ x. not (f x)) h)
-
-  pub select-all : {l : List A} → Each (λ x. f x ≡ true) l → select f l ≡ l
-  unfolding select
-  select-all each-nil = refl
-  select-all (each-cons e h) = rw (e, select-all h)

@@ -25,7 +25,7 @@ use Rattle.image.specs.declared.ImageTest.{ImageTest}
 use Rattle.image.specs.declared.SavedRow.{SavedRow}
 use Rattle.image.specs.Image.{wordsAt, wordSize, savedSize, savedOwnerAt, savedNextAt, savedNameAt, imageLong, numbersIn, headIn, grantsSaid, grantsIn, savedFrom, savedAmong, savedIn, imageIn, isOwner, isKeepable, differ, headFits, wordFits, imageFits, isImage, imageTest, SavedLie}
 use Rattle.image.proofs.Rows.{saved-name}
-use Rattle.image.proofs.Laws.{offset-is, head-has, rowAt, saved-room, saved-part, saved-fits, saved-ends}
+use Rattle.image.proofs.Laws.{offset-low, head-has, rowAt, saved-room, saved-part, saved-fits, saved-ends}
 use Rattle.image_test.specs.Tests.{restFits}
 
 -- ---- the words: the first i pass
@@ -104,7 +104,7 @@ module _ (b : List ℕ) (h : ImageHead) (e : headFits h ≡ true) where
   long-part = omega (arith, head-has h e .few)
 
   pub long-fits : Fits w64 (h .offset + h .rows * savedSize)
-  long-fits = omega (arith, head-has h e .few, offset-is (h .offset) (head-has h e .offset))
+  long-fits = omega (arith, head-has h e .few, offset-low (h .offset) (head-has h e .offset))
 
   pub length-asked : eqb (length b) (h .offset + h .rows * savedSize) ≡ eqb (length b) (imageLong (h .offset) (h .rows))
   unfolding imageLong
