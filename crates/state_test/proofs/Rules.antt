@@ -20,7 +20,7 @@ use Rattle.lists.proofs.Tests.{split, clash, and-left, and-right, and-both, or-
 use Rattle.lists.proofs.Each.{each-imp, pairs-imp₂}
 use Rattle.rows.specs.Rows.{rows, every, pairwise}
 use Rattle.rows.proofs.Rows.{rows-length, rows-take, map-take, row-at, pairwise-by, by-pairwise}
-use Rattle.rows.proofs.Loops.{RecordsTo, records-begin, records-on, records-fail, records-all, or-zero, map-part, and-assoc, paired-begin, paired-on, paired-fail, paired-all}
+use Rattle.rows.proofs.Loops.{LaterTo, later-begin, later-on, later-fail, later-all, or-zero, map-part, and-assoc, paired-begin, paired-on, paired-fail, paired-all}
 use Rattle.names.specs.declared.Name.{Name}
 use Rattle.names.specs.declared.NameRead.{NameRead}
 use Rattle.names.specs.Names.{sameName, readName, userType, elevationType, kindNumbered}
@@ -326,19 +326,15 @@ apart-keys l {m} {k} v p w q =
     let names : Pairs (λ (x y : Process). otherNames x y ≡ true) l = pairwise-by (λ x y r. r) l (sym (w .passes (not-true k q))) in
     sym (by-pairwise {R = λ (x y : Process). areApart x y ≡ true} (λ x y r. r) (pairs-imp₂ (λ x y r s. and-both r s) keys names))
 
--- the place at i with the later ones
-pub apart-begin : {f : Process → Bool} (n : ℕ) (s : List ℕ) (i : ℕ) → i < n → RecordsTo f processFrom n placeSize placesAt s (i + 1) (i + 1)
-apart-begin {f} n s i h = records-begin f processFrom n placeSize placesAt s (i + 1) (omega arith)
+-- a place with the later ones
+pub apart-fail : {n : ℕ} {s : List ℕ} {d : Process} {i j : ℕ} {b : Bool} → LaterTo areApart processFrom n placeSize placesAt s d i j → i < n → j < n
+    → b ≡ areApart (processFrom (take (placesAt + i * placeSize + placeSize - (placesAt + i * placeSize)) (drop (placesAt + i * placeSize) s))) (processFrom (take (placesAt + j * placeSize + placeSize - (placesAt + j * placeSize)) (drop (placesAt + j * placeSize) s)))
+    → not b ≡ true → false ≡ every (areApart (getD (map processFrom (rows n placeSize (drop placesAt s))) i d)) (drop (i + 1) (map processFrom (rows n placeSize (drop placesAt s))))
+apart-fail v l h e q = later-fail v l h e q
 
-module _ {n : ℕ} {s : List ℕ} {i a j : ℕ} {b : Bool} (v : RecordsTo (areApart (getD (map processFrom (rows n placeSize (drop placesAt s))) i freePlace)) processFrom n placeSize placesAt s a j) (k : i < n) (h : j < n) (e : b ≡ areApart (processFrom (take (placesAt + i * placeSize + placeSize - (placesAt + i * placeSize)) (drop (placesAt + i * placeSize) s))) (processFrom (take (placesAt + j * placeSize + placeSize - (placesAt + j * placeSize)) (drop (placesAt + j * placeSize) s)))) where
-  with-first : b ≡ areApart (getD (map processFrom (rows n placeSize (drop placesAt s))) i freePlace) (processFrom (take (placesAt + j * placeSize + placeSize - (placesAt + j * placeSize)) (drop (placesAt + j * placeSize) s)))
-  with-first = e ∙ ap (λ (p : Process). areApart p (processFrom (take (placesAt + j * placeSize + placeSize - (placesAt + j * placeSize)) (drop (placesAt + j * placeSize) s)))) (sym (map-part processFrom n placeSize placesAt s i freePlace k))
-
-  pub apart-on : not b ≡ false → RecordsTo (areApart (getD (map processFrom (rows n placeSize (drop placesAt s))) i freePlace)) processFrom n placeSize placesAt s a (j + 1)
-  apart-on q = records-on v h with-first q
-
-  pub apart-fail : not b ≡ true → false ≡ every (areApart (getD (map processFrom (rows n placeSize (drop placesAt s))) i freePlace)) (drop a (map processFrom (rows n placeSize (drop placesAt s))))
-  apart-fail q = records-fail v h with-first q
+pub apart-all : {n : ℕ} {s : List ℕ} {d : Process} {i j : ℕ} → LaterTo areApart processFrom n placeSize placesAt s d i j → n ≤ j
+    → true ≡ every (areApart (getD (map processFrom (rows n placeSize (drop placesAt s))) i d)) (drop (i + 1) (map processFrom (rows n placeSize (drop placesAt s))))
+apart-all v h = later-all v h
 
 -- ---- all together
 few-apart : {A : Type 0} (f : A → A → Bool) (l : List A) → length l < 2 → pairwise f l ≡ true
@@ -386,4 +382,4 @@ module _ (b : List ℕ) {t : Bool} (e : t ≡ allFit b) where
           let all : take (length b - 0) b ≡ b = take-all (length b - 0) b (omega arith) in
           m ∙ ap (λ (l : List ℕ). pairwise areApart (map processFrom (rows n placeSize (drop placesAt l)))) all ∙ last
 
-pub ruleset rules = (needs, length-mapped, rivals-elsewhere, rivals-other, rivals-users, rivals-last, apart-rivals, apart-name, place-part, apart-begin, apart-on, apart-fail, holds-pairs, holds-few, records-begin, records-on, records-all, paired-begin, paired-on, paired-fail, paired-all, key-user, key-elevation, key-saved, keys-begin, keys-on, keys-all, name-stands, digests-begin, digests-on, digests-all, fresh-begin, fresh-on, fresh-all, distinct-begin, distinct-on, distinct-all, apart-keys, holds-unfit, fit-counted, fit-whole, fit-few)
+pub ruleset rules = (needs, length-mapped, rivals-elsewhere, rivals-other, rivals-users, rivals-last, apart-rivals, apart-name, place-part, later-begin, later-on, apart-fail, apart-all, holds-pairs, holds-few, paired-begin, paired-on, paired-fail, paired-all, key-user, key-elevation, key-saved, keys-begin, keys-on, keys-all, name-stands, digests-begin, digests-on, digests-all, fresh-begin, fresh-on, fresh-all, distinct-begin, distinct-on, distinct-all, apart-keys, holds-unfit, fit-counted, fit-whole, fit-few)

@@ -1,16 +1,13 @@
 use Rattle.table.specs.Table.{freePlace}
-use Rattle.rows.specs.Rows.{rows}
-use lib.ListN.{getD, drop}
-use mathlib.Core.List.{map}
 use Rattle.state_layout.specs.Layout.{placeSize, placesAt, processFrom, areApart}
-use Rattle.rows.proofs.Loops.{RecordsTo}
-use Prim.Native.Nat.{_+_, _-_}
+use Rattle.rows.proofs.Loops.{LaterTo}
+use Prim.Native.Nat.{_-_}
 use Rattle.state_test.proofs.Rules.{rules}
 use Rattle.state_test.proofs.is_apart.Statement.{statement}
 use Rattle.state_test.proofs.is_apart.Tie as tie
 
 abbrev Inv-loop : tie.InvT-loop
-Inv-loop s n i a e j₀ j = RecordsTo (areApart (getD (map processFrom (rows n placeSize (drop placesAt s))) i freePlace)) processFrom n placeSize placesAt s (i + 1) j
+Inv-loop s n i a e j₀ j = LaterTo areApart processFrom n placeSize placesAt s freePlace i j
 
 abbrev μ-loop : tie.MeasureT-loop
 μ-loop s n i a e j₀ j = n - j
