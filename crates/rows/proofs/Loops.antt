@@ -335,9 +335,15 @@ module _ {A B : Type 0} where
             left = v .left ∙ rw (ahead, ← e, t);
           })
 
-    pub chosen-all : n ≤ i → Put off (length all * k) (join (map enc all)) old new
-    unfolding select
-    chosen-all h =
-        let past : length (take n l) ≤ i = omega (arith, length-take-le n l (v .within)) in
-        let none : drop j all ≡ [] = v .left ∙ rw (drop-of-length-le (take n l) past) in
-        wrote-all (v .wrote) (omega (arith, ap length none, length-drop j all))
+    module _ (h : n ≤ i) where
+      none-left : drop j all ≡ []
+      unfolding select
+      none-left =
+          let past : length (take n l) ≤ i = omega (arith, length-take-le n l (v .within)) in
+          v .left ∙ rw (drop-of-length-le (take n l) past)
+
+      pub chosen-all : Put off (length all * k) (join (map enc all)) old new
+      chosen-all = wrote-all (v .wrote) (omega (arith, ap length none-left, length-drop j all))
+
+      pub chosen-count : j ≡ length all
+      chosen-count = omega (arith, ap length none-left, length-drop j all, v .wrote .low)

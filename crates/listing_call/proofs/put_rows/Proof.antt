@@ -1,12 +1,11 @@
-use Rattle.listing_call.proofs.Rows.{Written}
 use Prim.Native.Nat.{_-_}
 use mathlib.Core.Logic.{⊎-elim}
-use Rattle.listing_call.proofs.Rules.{rules}
+use Rattle.listing_call.proofs.Rules.{Writing, rules}
 use Rattle.listing_call.proofs.put_rows.Statement.{statement}
 use Rattle.listing_call.proofs.put_rows.Tie as tie
 
 abbrev Inv-loop : tie.InvT-loop
-Inv-loop buffer₀ wanted n places k₀ i₀ buffer k i = Written wanted buffer₀ places n buffer k i
+Inv-loop buffer₀ wanted n places k₀ i₀ buffer k i = Writing wanted places n buffer₀ buffer k i
 
 abbrev μ-loop : tie.MeasureT-loop
 μ-loop buffer₀ wanted n places k₀ i₀ buffer k i = n - i
