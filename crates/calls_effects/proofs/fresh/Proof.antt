@@ -1,3 +1,4 @@
+-- written by tools/scaffold, which keeps the answers that are not a plain search
 use Rattle.lists.proofs.Loops.{Mapped}
 use Rattle.calls.specs.Calls.{taken}
 use Prim.Native.Nat.{_-_}

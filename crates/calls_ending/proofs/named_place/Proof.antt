@@ -1,3 +1,4 @@
+-- written by tools/scaffold, which keeps the answers that are not a plain search
 use Rattle.calls.proofs.Rules.{rules}
 use Rattle.calls_ending.proofs.named_place.Statement.{statement}
 use Rattle.calls_ending.proofs.named_place.Tie as tie

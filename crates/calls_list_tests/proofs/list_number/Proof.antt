@@ -1,3 +1,4 @@
+-- written by tools/scaffold, which keeps the answers that are not a plain search
 use Rattle.calls.specs.Calls.{asked, listTests}
 use Rattle.calls.proofs.Rules.{rules}
 use Rattle.calls_list_tests.proofs.list_number.Statement.{statement}

@@ -1,3 +1,4 @@
+-- written by tools/scaffold, which keeps the answers that are not a plain search
 use Rattle.calls.specs.Calls.{number}
 use Rattle.calls.proofs.Rules.{rules}
 use Rattle.calls_session.proofs.open_number.Statement.{statement}

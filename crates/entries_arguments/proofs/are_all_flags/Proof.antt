@@ -1,3 +1,4 @@
+-- written by tools/scaffold, which keeps the answers that are not a plain search
 use lib.ListN.{length}
 use Prim.Native.Nat.{_-_}
 use Rattle.entries_arguments.proofs.Rules.{rules, Flags}

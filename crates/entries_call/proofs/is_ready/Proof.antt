@@ -1,3 +1,4 @@
+-- written by tools/scaffold, which keeps the answers that are not a plain search
 use native.Mathlib.Omega.{arith}
 use Rattle.entries_call.proofs.Rules.{ready-holds, ready-not, rules}
 use Rattle.entries_call.proofs.is_ready.Statement.{statement}

@@ -1,3 +1,4 @@
+-- written by tools/scaffold, which keeps the answers that are not a plain search
 use Rattle.entries_image.proofs.Rules.{rules}
 use Rattle.entries_image.proofs.slavotuk_image.Statement.{statement}
 use Rattle.entries_image.proofs.slavotuk_image.Tie as tie

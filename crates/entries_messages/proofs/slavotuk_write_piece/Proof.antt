@@ -1,3 +1,4 @@
+-- written by tools/scaffold, which keeps the answers that are not a plain search
 use Rattle.entries_messages.proofs.Rules.{rules}
 use Rattle.entries_messages.proofs.slavotuk_write_piece.Statement.{statement}
 use Rattle.entries_messages.proofs.slavotuk_write_piece.Tie as tie

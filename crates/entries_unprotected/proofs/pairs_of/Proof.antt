@@ -1,3 +1,4 @@
+-- written by tools/scaffold, which keeps the answers that are not a plain search
 use Rattle.lists.proofs.Loops.{Copied}
 use Rattle.entries_arguments.specs.Arguments.{pairsOf}
 use Prim.Native.Nat.{_-_}

@@ -1,3 +1,4 @@
+-- written by tools/scaffold, which keeps the answers that are not a plain search
 use Rattle.entries_unprotected.proofs.Rules.{rules}
 use Rattle.entries_unprotected.proofs.slavotuk_close.Statement.{statement}
 use Rattle.entries_unprotected.proofs.slavotuk_close.Tie as tie

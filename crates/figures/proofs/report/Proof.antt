@@ -1,3 +1,4 @@
+-- written by tools/scaffold, which keeps the answers that are not a plain search
 use Rattle.figures.proofs.Rules.{Reporting, turnsLeft, rules}
 use Rattle.figures.proofs.report.Statement.{statement}
 use Rattle.figures.proofs.report.Tie as tie

@@ -1,3 +1,4 @@
+-- written by tools/scaffold, which keeps the answers that are not a plain search
 use Prim.Native.Nat.{_-_}
 use lib.ListN.{length as List·length}
 use Rattle.figures.proofs.Rules.{rules}

@@ -1,3 +1,4 @@
+-- written by tools/scaffold, which keeps the answers that are not a plain search
 use Rattle.image_figures.proofs.Rules.{rules}
 use Rattle.image_figures.proofs.figures_in.Statement.{statement}
 use Rattle.image_figures.proofs.figures_in.Tie as tie

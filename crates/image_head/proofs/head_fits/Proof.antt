@@ -1,3 +1,4 @@
+-- written by tools/scaffold, which keeps the answers that are not a plain search
 use Rattle.image_head.proofs.Rules.{rules}
 use Rattle.image_head.proofs.head_fits.Statement.{statement}
 use Rattle.image_head.proofs.head_fits.Tie as tie

@@ -1,3 +1,4 @@
+-- written by tools/scaffold, which keeps the answers that are not a plain search
 use Rattle.image_read.proofs.Rules.{rules}
 use Rattle.image_read.proofs.module_of.Statement.{statement}
 use Rattle.image_read.proofs.module_of.Tie as tie

@@ -1,3 +1,4 @@
+-- written by tools/scaffold, which keeps the answers that are not a plain search
 use Prim.Native.Nat.{_-_}
 use Rattle.image_read.proofs.Rules.{ReadTo, rules}
 use Rattle.image_read.proofs.read_saved.Statement.{statement}

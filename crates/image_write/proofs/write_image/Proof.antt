@@ -1,3 +1,4 @@
+-- written by tools/scaffold, which keeps the answers that are not a plain search
 use Rattle.image_write.proofs.Rules.{rules}
 use Rattle.image_write.proofs.write_image.Statement.{statement}
 use Rattle.image_write.proofs.write_image.Tie as tie

@@ -1,3 +1,4 @@
+-- written by tools/scaffold, which keeps the answers that are not a plain search
 use Rattle.message_fields.proofs.Rules.{rules}
 use Rattle.message_fields.proofs.meaning.Statement.{statement}
 use Rattle.message_fields.proofs.meaning.Tie as tie

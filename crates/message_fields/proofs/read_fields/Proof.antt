@@ -1,3 +1,4 @@
+-- written by tools/scaffold, which keeps the answers that are not a plain search
 use Prim.Native.Nat.{_-_}
 use Rattle.message_fields.proofs.Rules.{rules, Read}
 use Rattle.message_fields.proofs.read_fields.Statement.{statement}

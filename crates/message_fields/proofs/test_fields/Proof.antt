@@ -1,3 +1,4 @@
+-- written by tools/scaffold, which keeps the answers that are not a plain search
 use Prim.Native.Nat.{_-_}
 use Rattle.message_fields.proofs.Rules.{rules, Tested}
 use Rattle.message_fields.proofs.test_fields.Statement.{statement}

@@ -1,3 +1,4 @@
+-- written by tools/scaffold, which keeps the answers that are not a plain search
 use Rattle.message_formats.proofs.Rules.{rules}
 use Rattle.message_formats.specs.Formats.{formOf}
 use Rattle.message_formats.proofs.form_of.Statement.{statement}

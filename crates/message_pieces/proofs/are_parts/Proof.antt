@@ -1,3 +1,4 @@
+-- written by tools/scaffold, which keeps the answers that are not a plain search
 use Rattle.message_pieces.proofs.Parts.{rules, PartsFrom}
 use Rattle.message_pieces.proofs.are_parts.Statement.{statement}
 use Rattle.message_pieces.proofs.are_parts.Tie as tie

@@ -1,3 +1,4 @@
+-- written by tools/scaffold, which keeps the answers that are not a plain search
 use Rattle.message_pieces.proofs.Parts.{rules}
 use Rattle.message_pieces.proofs.fits_rest.Statement.{statement}
 use Rattle.message_pieces.proofs.fits_rest.Tie as tie

@@ -1,3 +1,4 @@
+-- written by tools/scaffold, which keeps the answers that are not a plain search
 use Rattle.message_pieces.proofs.Rules.{rules}
 use Rattle.message_pieces.specs.Pieces.{restLong}
 use Rattle.message_pieces.proofs.rest_length.Statement.{statement}

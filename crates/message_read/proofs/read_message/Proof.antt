@@ -1,3 +1,4 @@
+-- written by tools/scaffold, which keeps the answers that are not a plain search
 use Rattle.message_read.proofs.Rules.{rules}
 use Rattle.message_read.proofs.read_message.Statement.{statement}
 use Rattle.message_read.proofs.read_message.Tie as tie

@@ -1,3 +1,4 @@
+-- written by tools/scaffold, which keeps the answers that are not a plain search
 use Rattle.names.proofs.Rules.{rules}
 use Rattle.names.proofs.stirred.Statement.{statement}
 use Rattle.names.proofs.stirred.Tie as tie

@@ -1,3 +1,4 @@
+-- written by tools/scaffold, which keeps the answers that are not a plain search
 use Rattle.names.proofs.Rules.{rules}
 use Rattle.names.proofs.word.Statement.{statement}
 use Rattle.names.proofs.word.Tie as tie

@@ -1,3 +1,4 @@
+-- written by tools/scaffold, which keeps the answers that are not a plain search
 use Rattle.rows.proofs.Rules.{rules}
 use Rattle.rows.proofs.byte_of.Statement.{statement}
 use Rattle.rows.proofs.byte_of.Tie as tie

@@ -1,3 +1,4 @@
+-- written by tools/scaffold, which keeps the answers that are not a plain search
 use Prim.Native.Nat.{_-_}
 use lib.ListN.{length}
 use Rattle.rows.proofs.Rules.{rules, BytesTo}

@@ -1,3 +1,4 @@
+-- written by tools/scaffold, which keeps the answers that are not a plain search
 use Rattle.rows.proofs.Rules.{rules, NumberTo}
 use Rattle.rows.proofs.put_number.Statement.{statement}
 use Rattle.rows.proofs.put_number.Tie as tie

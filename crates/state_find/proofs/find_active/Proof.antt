@@ -1,3 +1,4 @@
+-- written by tools/scaffold, which keeps the answers that are not a plain search
 use Rattle.state_layout.specs.Layout.{stateOf}
 use Rattle.table.specs.Table.{isActive}
 use Rattle.table_search.proofs.Rules.{Searching}

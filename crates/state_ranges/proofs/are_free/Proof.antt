@@ -1,3 +1,4 @@
+-- written by tools/scaffold, which keeps the answers that are not a plain search
 use Prim.Native.Nat.{_-_}
 use Rattle.state_ranges.proofs.Rules.{Parted, rules}
 use Rattle.state_ranges.proofs.are_free.Statement.{statement}

@@ -1,3 +1,4 @@
+-- written by tools/scaffold, which keeps the answers that are not a plain search
 use Prim.Native.Nat.{_-_}
 use Rattle.state_test.proofs.Rules.{DigestsTo, rules}
 use Rattle.state_test.proofs.digests.Statement.{statement}

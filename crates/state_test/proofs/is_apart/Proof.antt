@@ -1,3 +1,4 @@
+-- written by tools/scaffold, which keeps the answers that are not a plain search
 use Rattle.table.specs.Table.{freePlace}
 use Rattle.state_layout.specs.Layout.{placeSize, placesAt, processFrom, areApart}
 use Rattle.rows.proofs.Loops.{LaterTo}

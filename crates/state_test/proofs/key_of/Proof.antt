@@ -1,3 +1,4 @@
+-- written by tools/scaffold, which keeps the answers that are not a plain search
 use Rattle.state_test.proofs.Rules.{rules}
 use Rattle.state_test.proofs.key_of.Statement.{statement}
 use Rattle.state_test.proofs.key_of.Tie as tie

@@ -1,3 +1,4 @@
+-- written by tools/scaffold, which keeps the answers that are not a plain search
 use Rattle.state_test.proofs.Rules.{KeysTo, rules}
 use Rattle.state_test.proofs.keys_meet.Statement.{statement}
 use Rattle.state_test.proofs.keys_meet.Tie as tie

@@ -1,3 +1,4 @@
+-- written by tools/scaffold, which keeps the answers that are not a plain search
 use Rattle.state_write.proofs.Rules.{rules}
 use Rattle.state_write.proofs.put_grants.Statement.{statement}
 use Rattle.state_write.proofs.put_grants.Tie as tie

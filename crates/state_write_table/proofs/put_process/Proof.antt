@@ -1,3 +1,4 @@
+-- written by tools/scaffold, which keeps the answers that are not a plain search
 use Rattle.state_write_table.proofs.Rules.{process-same, rules}
 use Rattle.state_write_table.proofs.put_process.Statement.{statement}
 use Rattle.state_write_table.proofs.put_process.Tie as tie

@@ -1,3 +1,4 @@
+-- written by tools/scaffold, which keeps the answers that are not a plain search
 use Rattle.table.proofs.Rules.{rules}
 use Rattle.table.proofs.process_at.Statement.{statement}
 use Rattle.table.proofs.process_at.Tie as tie

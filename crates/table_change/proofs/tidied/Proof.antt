@@ -1,3 +1,4 @@
+-- written by tools/scaffold, which keeps the answers that are not a plain search
 use Rattle.lists.proofs.Loops.{Cleared}
 use Rattle.table.specs.Table.{places, freePlace}
 use Prim.Native.Nat.{_-_}

@@ -1,3 +1,4 @@
+-- written by tools/scaffold, which keeps the answers that are not a plain search
 use Rattle.table_removal.proofs.Rules.{Shifting}
 use Prim.Native.Nat.{_-_}
 use Rattle.table_removal.proofs.Rules.{rules}

@@ -1,3 +1,4 @@
+-- written by tools/scaffold, which keeps the answers that are not a plain search
 use Rattle.lists.proofs.Loops.{Sifted}
 use Rattle.table.specs.Table.{places, isActiveIn, freePlace}
 use Prim.Native.Nat.{_-_}
