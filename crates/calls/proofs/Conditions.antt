@@ -1,5 +1,5 @@
 -- "Numbers a call can answer": a table for each number of a call. Each has calls that meet the number's condition, and beside them the same with that
--- condition mended and no other thing changed, but for the number of a claim where the first has spent it. 14, and 15 of the request's writer, are in crate wire.
+-- condition mended and no other thing changed, but for the number of a claim where the first has spent it. 14, and 15 of the request's writer, are in crate listing_messages.
 -- Assumes nothing.
 use Prim.Native.Nat.{ℕ}
 use mathlib.Core.Path.{refl}
