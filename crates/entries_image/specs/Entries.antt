@@ -31,5 +31,5 @@ restoreNumber before image =
 
 pub record RestoreEntry (before image : List ℕ) (answer : ℕ) (after : List ℕ) : Type 0 where
   pub number-is : answer ≡ restoreNumber before image
-  -- "the slice then holds what it held"
+  -- the slice then holds what it held
   pub bytes-are : after ≡ cond (eqb (restoreNumber before image) No.done) (stateBytes (restored image)) before

@@ -113,7 +113,7 @@ pub record Examples : Type 0 where
   pub refused-are : map (λ (e : Event). e .answered) (history (fresh grants) refused) ≡ 0 ∷ 0 ∷ 0 ∷ 0 ∷ 10 ∷ 9 ∷ 8 ∷ 1 ∷ 15 ∷ 6 ∷ 2 ∷ 5 ∷ 5 ∷ []
   pub after-refused : Told refused (Live (session 0) (credential 0) (2 ∷ 1 ∷ 0 ∷ [])) (Live (session 0) (credential 1) (0 ∷ []))
   pub next-is : map (λ p. p .next) (standing (run (fresh grants) continued .table)) ≡ 4 ∷ []
-  -- "no listing exceeds 616 bytes", and there is one of just as many: with twelve standing, in what the call answers and in the bytes of its message
+  -- no listing exceeds 616 bytes, and there is one of just as many: with twelve standing, in what the call answers and in the bytes of its message
   pub longest-listing : listed twelve (session 0) (yes′ 0 0) Every 616 .length ≡ 616
   pub longest-message : length (listing (rowsOf twelve Every)) ≡ 616
 

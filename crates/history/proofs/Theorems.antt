@@ -61,7 +61,7 @@ users User s c n e = refl
 users Elevation s c n e = clash refl e
 users Saved s c n e = refl
 
--- ---- "no listing exceeds 616 bytes": of any state in which at most 12 stand
+-- ---- no listing exceeds 616 bytes: of any state in which at most 12 stand
 module _ (st : State) (v : Rules st) where
   message-fits : (wanted : Wanted) → messageLength (length (rowsOf st wanted)) ≤ 616
   unfolding messageLength rowsOf

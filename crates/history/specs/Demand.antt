@@ -65,11 +65,11 @@ pub record TwoPassed (tell : Name → Life) (events : List Event) (name : Name) 
 pub record Demand3 (tell : Name → Life) (events : List Event) (st : State) : Type 0 where
   -- places, names, owners and sessions
   pub rules : Rules st
-  -- "The next number of each user process equals the count of records accepted under it since its start, taken from the history of calls." Order 3: "counts accepted claims plus these"
+  -- the next number of each user process equals the count of records accepted under it since its start, taken from the history of calls; order 3: "counts accepted claims plus these"
   pub numbers : Each (λ p. isElevation (p .kind) ≡ false → p .next ≡ count (told tell events (p .name))) (processes st)
-  -- "So between a start and that process's removal no number is accepted twice": none passes a claim's check twice, though the call was refused afterwards
+  -- so between a start and that process's removal no number is accepted twice: none passes a claim's check twice, though the call was refused afterwards
   pub once : (name : Name) (v : TwoPassed tell events name) → v .one .claim .number ≢ v .two .claim .number
-  -- "and no listing exceeds 616 bytes"
+  -- and no listing exceeds 616 bytes
   pub listing : (s : Session) (claim : Claim) (wanted : Wanted) (room : ℕ) → listed st s claim wanted room .length ≤ 616
 
 -- its clauses on a state in plain words: of any place that is taken, and of any two

@@ -108,7 +108,7 @@ since w (entry ∷ entries) = since (noting entry w) entries
 
 -- ---- what is to hold
 
--- "no listing exceeds 616 bytes": the length that was answered, and the bytes that were written
+-- no listing exceeds 616 bytes: the length that was answered, and the bytes that were written
 pub record Small (r : Response) : Type 0 where
   pub length-small : r .length ≤ 616
   pub later-kept : drop (r .length) (r .new) ≡ drop (r .length) (r .old)

@@ -231,7 +231,7 @@ unfoldable pub lacksRoom : State → ℕ → Bool
 lacksRoom st room = ltb room (imageRoom st)
 
 pub record ImageWritten (st : State) (old : List ℕ) (long : ℕ) (new : List ℕ) : Type 0 where
-  -- "it answers the length, 0 on a refusal"
+  -- the length; 0 on a refusal
   pub length-is : long ≡ cond (lacksRoom st (length old)) 0 (imageRoom st)
   -- later bytes are not touched, and none of a buffer that is too short
   pub bytes-are : new ≡ over 0 (imageRoom st) (stateImage st) old

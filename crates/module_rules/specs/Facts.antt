@@ -28,20 +28,20 @@ isRunning kind = isUser kind || isElevation kind
 
 -- of each process
 pub record Owned (st : State) (p : Process) : Type 0 where
-  -- "Each has a provisioned owner."
+  -- each has a provisioned owner
   pub owner : provisioned st (p .credential) ≡ true
-  -- "Each active one stands in an open session with a version chosen"
+  -- each active one stands in an open session with a version chosen
   pub seated : isRunning (p .kind) ≡ true → isChosen (phaseOf st (p .session)) ≡ true
 
 -- of each two
 pub record Apart (p q : Process) : Type 0 where
-  -- "No two agree in all 48 bytes."
+  -- no two agree in all 48 bytes
   pub names : p .name .bytes ≢ q .name .bytes
-  -- "in one session a credential has at most one active user process, and there is at most one elevation": not both are the active process that is meant
+  -- in one session a credential has at most one active user process, and there is at most one elevation: not both are the active process that is meant
   pub alone : (which : Active) → isActive which p ≡ true → isActive which q ≡ true → ⊥
 
 pub record Rules (st : State) : Type 0 where
-  -- "At most 12 processes stand."
+  -- at most 12 processes stand
   pub few : length (processes st) ≤ T.places
   pub each : Each (Owned st) (processes st)
   pub pairs : Pairs Apart (processes st)
