@@ -1,8 +1,8 @@
--- The laws that close the needs of this crate's functions by `search rules`: a test that a search answers; continue and drop, as their code goes through them.
+-- The laws that close the needs of this crate's functions by `search rules`: a test that a search answers; elevate, continue and drop, as their code goes through them.
 -- Assumes nothing.
 use Prim.Native.Nat.{ℕ, _<_, _≤_}
 use mathlib.Core.Path.{_≡_, refl, sym, _∙_}
-use mathlib.Core.Bool.{Bool, true, false}
+use mathlib.Core.Bool.{Bool, true, false, not}
 use native.Mathlib.Omega.{arith}
 use lib.Dec.{T, ltb}
 use borrow.Author.Tests.{le-leb, lt-leb}
@@ -11,7 +11,7 @@ use Rattle.names.specs.declared.Name.{Name}
 use Rattle.names.specs.declared.Session.{Session}
 use Rattle.table.specs.Table.{standing, size, processAt, isActive, isNamed, findActive, findNamed, replaced, removed}
 use Rattle.table.specs.declared.Active.the-variants.{UserOf, ElevationIn}
-use Rattle.table.specs.declared.Among.the-variants.{SavedOf}
+use Rattle.table.specs.declared.Among.the-variants.{All, SavedOf}
 use Rattle.table.specs.declared.Found.{Found}
 use Rattle.table.specs.declared.Found.the-variants.{At, Nothing}
 use Rattle.table.specs.declared.Process.{Process}
@@ -25,7 +25,7 @@ use Rattle.module_state.specs.declared.State.{State}
 use Rattle.module_state.proofs.Rules.{when-hit, when-miss, unless-hit, unless-miss, when-stop, when-pass, unless-stop, unless-pass, part-stop, part-pass}
 use Rattle.calls.specs.declared.Answer.the-variants.{Done, Refused}
 use Rattle.calls.specs.declared.Outcome.{Outcome}
-use Rattle.calls.specs.Calls.{Continue, Drop, isFull, namedPlace, number, withTable, activated, protection, outcome}
+use Rattle.calls.specs.Calls.{Continue, Elevate, Drop, isFull, hasNamed, namedPlace, number, withTable, activated, protection, outcome}
 use Rattle.calls.proofs.Rules.{rules as calls-rules, by-refusal, by-effect, known-stop, known-pass, active-none, active-some, named-none, named-some, full-is, effect-continue, effect-drop}
 
 -- ---- a test that a search answers, and others after it
@@ -42,6 +42,17 @@ module _ (st : State) (m : ℕ) {n : ℕ} (e : n ≡ size (st .table)) where
 
   pub full-miss : n < 12 → 0 ≡ m when isFull st
   full-miss h = when-miss m (full-is st e) (lt-leb 12 n h)
+
+-- ---- elevate, after the tests that it begins with and its verdict: its search, then the tests of a new process
+module _ (st : State) (s : Session) (c : Credential) (name : Name) (verdict : Bool) {known : ℕ} (e : known ≡ No.argument unless isCredential c ▸ entered st s ▸ No.credential unless provisioned st c)
+    (z : known ≡ 0) (y : not verdict ≡ false) {f : Found} (a : f ≡ findActive (st .table) (ElevationIn s)) where
+  pub elevate-active : {k : ℕ} → f ≡ At k → 7 ≡ number st (Elevate s c name verdict)
+  unfolding number
+  elevate-active h = known-pass _ _ _ _ e z (unless-pass 8 refl _ y (found-stop 7 _ tt (active-some st (ElevationIn s) a h)))
+
+  pub elevate-new : {r : ℕ} → f ≡ Nothing → r ≡ No.nameTaken when hasNamed st name All ▸ No.full when isFull st → r ≡ number st (Elevate s c name verdict)
+  unfolding number
+  elevate-new h q = known-pass _ _ _ _ e z (unless-pass 8 refl _ y (none-pass 7 _ (active-none st (ElevationIn s) a h) q))
 
 -- ---- continue: the tests that it begins with, then its search for the saved process, then that for an active one
 module _ (st : State) (s : Session) (c : Credential) (name : Name) {known : ℕ} {r : Outcome}
@@ -95,4 +106,4 @@ module _ (st : State) (s : Session) {entry : ℕ} {r : Outcome} (e : entry ≡ e
         by-effect st (Drop s) (part-pass _ e z (unless-miss 6 (active-some st (ElevationIn s) a h) refl)) refl q
         (effect-drop st x s (found-at (isActive (ElevationIn s)) (standing (st .table)) (sym a ∙ h) .is) b)
 
-pub ruleset rules = (calls-rules, found-stop, none-pass, full-hit, full-miss, continued-is, continue-unknown, continue-none, continue-active, continue-done, drop-unentered, drop-none, drop-done)
+pub ruleset rules = (calls-rules, found-stop, none-pass, full-hit, full-miss, elevate-active, elevate-new, continued-is, continue-unknown, continue-none, continue-active, continue-done, drop-unentered, drop-none, drop-done)

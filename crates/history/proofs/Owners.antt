@@ -1,6 +1,5 @@
 -- For whom the module was made: document 01's calls provision no credential and take none away. They leave the credentials, but for a word.
 -- Assumes nothing.
-use Prim.Native.Nat.{ℕ}
 use mathlib.Core.Path.{_≡_, refl, sym, ap, _∙_}
 use mathlib.Core.Bool.{Bool, true, false}
 use mathlib.Core.List.{List, [], _∷_}
@@ -14,7 +13,7 @@ use Rattle.module_state.specs.declared.Claim.the-variants.{Elevated, ByUser}
 use Rattle.module_state.specs.declared.Grants.{Grants}
 use Rattle.module_state.specs.declared.State.{State}
 use Rattle.module_state.specs.declared.UserClaim.{UserClaim}
-use Rattle.calls.specs.Calls.{Call, Open, Close, Drop, Select, Start, Continue, Elevate, End, Record, ListProcesses, Kill, SetWord, withWord, counted, ended, effect}
+use Rattle.calls.specs.Calls.{Call, Open, Close, Drop, Select, Start, Continue, Elevate, End, Record, ListProcesses, Kill, SetWord, withGrants, counted, ended, effect}
 use Rattle.calls.specs.Run.{step, run}
 use Rattle.history.specs.History.{SameOwners}
 use Rattle.history.proofs.Facts.{Facts, facts}
@@ -35,13 +34,12 @@ module _ (st : State) where
   credentials-ended s u true = credentials-counted s (ByUser u)
   credentials-ended s u false = credentials-counted s (ByUser u)
 
-  owners-word : (next : State) → next .credentials ≡ st .credentials → (c : Credential) (word : ℕ) → provisioned st c ≡ true → SameOwners st (withWord next c word)
+  owners-grants : (next : State) → next .credentials ≡ st .credentials → (c : Credential) (new : Grants) → provisioned st c ≡ true → new .provisioned ≡ true → SameOwners st (withGrants next c new)
   unfolding provisioned
-  owners-word next e c word owner =
-      let new : Grants = record { provisioned = true; word = word } in
+  owners-grants next e c new owner still =
       record {
         as-many = length-set (next .credentials) (c .0) new ∙ ap length e;
-        same = λ d. rw e (same-set (λ (g : Grants). g .provisioned) (st .credentials) (c .0) (d .0) unprovisioned new (sym owner));
+        same = λ d. rw e (same-set (λ (g : Grants). g .provisioned) (st .credentials) (c .0) (d .0) unprovisioned new (still ∙ sym owner));
       }
 
   owners-effect : (call : Call) → Facts st call → SameOwners st (effect st call)
@@ -57,7 +55,7 @@ module _ (st : State) where
   owners-effect (Record s claim class) f = owners-same _ (credentials-counted s claim)
   owners-effect (ListProcesses s claim wanted room) f = owners-same _ (credentials-counted s claim)
   owners-effect (Kill s claim name) f = owners-same _ (credentials-counted s claim)
-  owners-effect (SetWord s claim c word) f = owners-word (counted st s claim) (credentials-counted s claim) c word (f .owner)
+  owners-effect (SetWord s claim c word) f = owners-grants (counted st s claim) (credentials-counted s claim) c _ (f .owner) refl
 
   owners-step : (call : Call) → SameOwners st (step st call)
   owners-step call =

@@ -13,7 +13,7 @@ use lib.ListN.{length, take, drop, getD, replicate, List·getD-eq-default, lengt
 use lib.Seq.{getD-take, getD-drop}
 use Rattle.rows.specs.Bytes.{numberAt, Widened}
 use Rattle.lists.specs.Lists.{firstIndex}
-use Rattle.lists.proofs.Lists.{length-mapped}
+use Rattle.lists.proofs.Lists.{length-mapped, first-inside}
 use Rattle.rows.specs.Rows.{rows}
 use Rattle.rows.proofs.Bytes.{number-part}
 use Rattle.rows.proofs.Rows.{rows-length}
@@ -30,7 +30,7 @@ use Rattle.table.specs.declared.Process.{Process}
 use Rattle.table.specs.declared.Table.{Table}
 use Rattle.table.proofs.Laws.{standing-of, size-few}
 use Rattle.table.proofs.Rules.{noProcess, size-part, size-all, process-got}
-use Rattle.table.proofs.Searched.{found-at}
+use Rattle.table.proofs.Searched.{FoundAt, found-at}
 use Rattle.table_search.proofs.Rules.{Searching, begin, on, hit, none}
 use Rattle.module_state.specs.Module.{closedSession, phaseOf, unprovisioned, grantsOf, sessionCount, credentialCount}
 use Rattle.module_state.specs.Claim.{speaksFor, processFound, claimView}
@@ -229,7 +229,9 @@ module _ (t : Table) {f : Found} where
   found-standing g e = case f e
     where
       case : (f : Found) → f ≡ firstPlace g (standing t) → isStanding t f ≡ true
-      case (At k) e = lt-ltb k (length (standing t)) (found-at g (standing t) (sym e) .inside)
+      case (At k) e =
+          let a : FoundAt g (standing t) k = found-at g (standing t) (sym e) in
+          lt-ltb k (length (standing t)) (rw (a .is) (first-inside g (standing t) (a .some)))
       case Nothing e = refl
 
   pub standing-at : {k : ℕ} → isStanding t f ≡ true → f ≡ At k → k < size t

@@ -22,7 +22,6 @@ enum-told : tie.Need-enum-told
 enum-told c = search rules
 
 returns-3 : tie.Need-returns-3
-unfolding number
 returns-3 c = search rules
 
 enum-told-2 : tie.Need-enum-told-2
@@ -32,7 +31,6 @@ new-number-requires : tie.Need-new-number-requires
 new-number-requires c κs = search rules
 
 returns-4 : tie.Need-returns-4
-unfolding number
 returns-4 c = search rules
 
 pub elevate-number-spec : {M : Type 1} → statement M
