@@ -4,7 +4,7 @@
 use Prim.Native.Nat.{ℕ}
 use mathlib.Core.Path.{refl}
 use mathlib.Core.Bool.{true, false}
-use mathlib.Core.List.{List, [], _∷_}
+use mathlib.Core.List.{List, [], _∷_, _++_}
 use Rattle.names.specs.declared.Kind.the-variants.{User}
 use Rattle.table.specs.Table.{tableOf}
 use Rattle.module_state.specs.declared.Claim.the-variants.{Elevated}
@@ -12,23 +12,11 @@ use Rattle.module_state.specs.declared.State.{State}
 use Rattle.calls.specs.declared.Wanted.the-variants.{Every, Only}
 use Rattle.calls.specs.Calls.{Open, Close, Select, Start, Continue, Elevate, Drop, End, Record, ListProcesses, Kill, SetWord, withTable, userProcess, fresh}
 use Rattle.calls.proofs.Sequences.{P, Q, R, pairs, name, session, credential, class, userYes, userNo, yes′, no′, Step, _⇒_, Answered, after, computed}
-use Rattle.calls.proofs.Orders.{twelve}
+use Rattle.calls.proofs.Orders.{saves, opening, twelve}
 
--- the state that each table but that of 11 begins with: sessions 0 and 1 have version 1.0, session 2 is open without one, session 3 is closed. In session 0
--- stand P, credential 0's, R, credential 1's, and the elevation Q, credential 0's; and credential 0 has saved name 1
+-- the state that each table but that of 11 begins with: that of Orders, with one saved, name 1
 abbrev toFour : List Step
-toFour =
-    (Open (session 0) ⇒ 0)
-    ∷ (Select (session 0) 0x10 ⇒ 0)
-    ∷ (Open (session 1) ⇒ 0)
-    ∷ (Select (session 1) 0x10 ⇒ 0)
-    ∷ (Open (session 2) ⇒ 0)
-    ∷ (Start (session 0) (credential 0) P ⇒ 0)
-    ∷ (Start (session 0) (credential 1) R ⇒ 0)
-    ∷ (Elevate (session 0) (credential 0) Q true ⇒ 0)
-    ∷ (Start (session 1) (credential 0) (name 1) ⇒ 0)
-    ∷ (End (session 1) (userYes 0 0) true ⇒ 0)
-    ∷ []
+toFour = opening ++ saves (1 ∷ [])
 
 abbrev pub four : State
 four = after (fresh pairs) toFour

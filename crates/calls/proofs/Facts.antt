@@ -42,55 +42,55 @@ use Rattle.calls.specs.Run.{step}
 use Rattle.calls.proofs.Cut.{left-passed, left-stopped, accepted}
 use Rattle.calls.proofs.Laws.{outcome-done, outcome-refused, answer-number}
 
--- ---- a number is 0 to 15, so a refusal's is 1 to 15
+-- ---- a number is 0 to the last, so a refusal's is 1 to the last
 
--- `T (leb n 15)` computes, for each of the numbers
+-- `T (leb n No.last)` computes, for each of the numbers
 abbrev Small : ℕ → Type 0
-Small n = n ≤ 15
+Small n = n ≤ No.last
 
-pub small-when : (n : ℕ) (b : Bool) → T (leb n 15) → (n when b) ≤ 15
-small-when n b h = by-when Small (omega arith) n b (leb→le n 15 h)
+pub small-when : (n : ℕ) (b : Bool) → T (leb n No.last) → (n when b) ≤ No.last
+small-when n b h = by-when Small (omega arith) n b (leb→le n No.last h)
 
-pub small-unless : (n : ℕ) (b : Bool) → T (leb n 15) → (n unless b) ≤ 15
-small-unless n b h = by-unless Small (omega arith) n b (leb→le n 15 h)
+pub small-unless : (n : ℕ) (b : Bool) → T (leb n No.last) → (n unless b) ≤ No.last
+small-unless n b h = by-unless Small (omega arith) n b (leb→le n No.last h)
 
-pub small-then : (n m : ℕ) → n ≤ 15 → m ≤ 15 → (n ▸ m) ≤ 15
+pub small-then : (n m : ℕ) → n ≤ No.last → m ≤ No.last → (n ▸ m) ≤ No.last
 small-then = by-then Small
 
 pub ruleset small = (small-when, small-unless, small-then)
 
-small-entered : (st : State) (s : Session) → entered st s ≤ 15
+small-entered : (st : State) (s : Session) → entered st s ≤ No.last
 unfolding entered phaseNumber
 small-entered st s = search small
 
-small-turn : (next : ℕ) (u : UserClaim) → turnNumber next u ≤ 15
+small-turn : (next : ℕ) (u : UserClaim) → turnNumber next u ≤ No.last
 unfolding turnNumber
 small-turn next u = search small
 
-small-claim : (claim : Claim) (view : ClaimView) → claimNumber claim view ≤ 15
+small-claim : (claim : Claim) (view : ClaimView) → claimNumber claim view ≤ No.last
 unfolding claimNumber
 small-claim Elevated view = search small
 small-claim (ByUser u) view = search (small, small-turn)
 
-small-checked : (st : State) (s : Session) (claim : Claim) → checked st s claim .number ≤ 15
+small-checked : (st : State) (s : Session) (claim : Claim) → checked st s claim .number ≤ No.last
 unfolding checked checkOf checkNumber phaseNumber
 small-checked st s claim = search (small, small-claim) depth 12
 
-small-grant : (by : Checked) (class : Class) → grantNumber by class ≤ 15
+small-grant : (by : Checked) (class : Class) → grantNumber by class ≤ No.last
 small-grant = by-grant Small (omega arith) (omega arith)
 
-small-none : 0 ≤ 15
+small-none : 0 ≤ No.last
 small-none = omega arith
 
-small-granted : (by : Checked) (class : Class) (b : Bool) → (grantNumber by class when b) ≤ 15
+small-granted : (by : Checked) (class : Class) (b : Bool) → (grantNumber by class when b) ≤ No.last
 small-granted by class b = by-when Small (omega arith) _ b (small-grant by class)
 
-small-others : (by : Checked) (class : Class) (b : Bool) → (grantNumber by class unless b) ≤ 15
+small-others : (by : Checked) (class : Class) (b : Bool) → (grantNumber by class unless b) ≤ No.last
 small-others by class b = by-unless Small (omega arith) _ b (small-grant by class)
 
 ruleset smalls = (small, small-entered, small-checked, small-grant, small-none, small-granted, small-others)
 
-pub number-small : (st : State) (call : Call) → number st call ≤ 15
+pub number-small : (st : State) (call : Call) → number st call ≤ No.last
 unfolding number asked endTests recordTests listTests killTests setWordTests
 number-small st (Open s) = search smalls
 number-small st (Close s) = search smalls
@@ -106,10 +106,10 @@ number-small st (Kill s claim name) = search smalls
 number-small st (SetWord s claim c word) = search smalls depth 12
 
 -- "Numbers a call can answer": no other number is ever answered
-pub refusal-small : (st : State) (call : Call) → (number st call ≡ 0 → ⊥) → (1 ≤ answerNumber (outcome st call .answer)) × (answerNumber (outcome st call .answer) ≤ 15)
+pub refusal-small : (st : State) (call : Call) → (number st call ≡ 0 → ⊥) → (1 ≤ answerNumber (outcome st call .answer)) × (answerNumber (outcome st call .answer) ≤ No.last)
 refusal-small st call h =
     let e : answerNumber (outcome st call .answer) ≡ number st call = answer-number st call in
-    let k : number st call ≤ 15 = number-small st call in
+    let k : number st call ≤ No.last = number-small st call in
     (omega (arith, e, h), omega (arith, e, k))
 
 -- ---- "Choosing 0x10 a second time is done and changes nothing"

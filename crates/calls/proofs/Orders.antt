@@ -5,7 +5,7 @@
 use Prim.Native.Nat.{ℕ}
 use mathlib.Core.Path.{refl}
 use mathlib.Core.Bool.{true, false}
-use mathlib.Core.List.{List, [], _∷_}
+use mathlib.Core.List.{List, [], _∷_, _++_}
 use Rattle.module_state.specs.declared.Claim.the-variants.{Elevated}
 use Rattle.module_state.specs.declared.State.{State}
 use Rattle.calls.specs.declared.Wanted.the-variants.{Every, Only}
@@ -18,8 +18,8 @@ abbrev pub saves : List ℕ → List Step
 saves [] = []
 saves (n ∷ ns) = (Start (session 1) (credential 0) (name n) ⇒ 0) ∷ (End (session 1) (userYes 0 0) true ⇒ 0) ∷ saves ns
 
-abbrev pub toTwelve : List Step
-toTwelve =
+abbrev pub opening : List Step
+opening =
     (Open (session 0) ⇒ 0)
     ∷ (Select (session 0) 0x10 ⇒ 0)
     ∷ (Open (session 1) ⇒ 0)
@@ -28,7 +28,10 @@ toTwelve =
     ∷ (Start (session 0) (credential 0) P ⇒ 0)
     ∷ (Start (session 0) (credential 1) R ⇒ 0)
     ∷ (Elevate (session 0) (credential 0) Q true ⇒ 0)
-    ∷ saves (1 ∷ 2 ∷ 3 ∷ 4 ∷ 5 ∷ 6 ∷ 7 ∷ 8 ∷ 9 ∷ [])
+    ∷ []
+
+abbrev pub toTwelve : List Step
+toTwelve = opening ++ saves (1 ∷ 2 ∷ 3 ∷ 4 ∷ 5 ∷ 6 ∷ 7 ∷ 8 ∷ 9 ∷ [])
 
 abbrev pub twelve : State
 twelve = after (fresh pairs) toTwelve

@@ -14,7 +14,7 @@ use Rattle.entries_arguments.specs.Arguments.{arePairs}
 use Rattle.calls.proofs.Facts.{small-unless}
 use Rattle.entries_unprotected.specs.Fresh.{canFresh, FreshEntry}
 
-pub fresh-small : {before flags words after : List ℕ} {answer : ℕ} → FreshEntry before flags words answer after → answer ≤ 15
+pub fresh-small : {before flags words after : List ℕ} {answer : ℕ} → FreshEntry before flags words answer after → answer ≤ No.last
 fresh-small e = rw (e .number-is) (small-unless 1 _ tt)
 
 -- of two slices as long as each other, whatever they hold, the same is answered, and where that is 0 the same is made

@@ -15,6 +15,7 @@ use module_state::ARGUMENT;
 use module_state::CREDENTIALS;
 use module_state::DONE;
 use module_state::Grants;
+use module_state::UNPROVISIONED;
 use state_layout::STATE_LENGTH;
 
 // ---- the calls
@@ -165,11 +166,7 @@ fn pairs_of(provisioned: &[u8], words: &[u32]) -> [Grants; CREDENTIALS]
     requires { ⌜ (length (now provisioned) ≡ credentialCount) × (length (now words) ≡ credentialCount) ⌝ }
     ensures { λ r. ⌜ r ≡ pairsOf (now (provisioned .entry)) (now (words .entry)) ⌝ }
 {
-    let none = Grants {
-        provisioned: false,
-        word: 0,
-    };
-    let mut pairs = [none; CREDENTIALS];
+    let mut pairs = [UNPROVISIONED; CREDENTIALS];
     let mut i: usize = 0;
     while i < CREDENTIALS {
         pairs[i] = Grants {

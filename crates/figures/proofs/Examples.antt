@@ -13,7 +13,7 @@ use Rattle.module_state.specs.Module.{provisioned, wordGrants}
 use Rattle.image.specs.Image.{isRowOffset, imageLong, numbersIn, headIn, grantsSaid, grantsIn, savedFrom, savedIn, imageIn, isOwner, isKeepable, differ, headFits, wordFits, imageFits, isImage}
 use Rattle.image_figures.specs.Figures.{sum, largest, classesBelow, classesHeld, classesGranted, largestNext, figuresIn, isSaid, sizeSaid, isGood, lineOf}
 use Rattle.image_figures.specs.declared.Line.the-variants.{Bad, Good}
-use Rattle.figures.specs.Drawer.{firstPiece, afterPiece, firstPieces, linesOf, goodOnes, totalsOf, isPast, printedOf}
+use Rattle.figures.specs.Drawer.{firstSheet, afterSheet, firstSheets, linesOf, goodOnes, totalsOf, isPast, printedOf}
 use Rattle.figures.specs.Text.{digitsUpTo, numberText, numberThen, threeText, lineText, textOf}
 use Rattle.figures.specs.declared.Output.{Output}
 use Rattle.figures.specs.declared.Output.the-variants.{Image, Total}
@@ -60,7 +60,7 @@ pub record Drawers : Type 0 where
   pub cut-reaches : printedOf (0 ∷ 1 ∷ (take 41 plain ++ (42 ∷ 0 ∷ plain))) ≡ bad ∷ total 1 0 0 0 ∷ []
 
 pub drawers : Drawers
-unfolding textOf lineText threeText numberThen numberText digitsUpTo printedOf firstPieces firstPiece afterPiece linesOf goodOnes totalsOf isPast sum largest classesBelow classesHeld classesGranted largestNext figuresIn isSaid sizeSaid isGood lineOf provisioned wordGrants tableOf padded select every pairwise rows numberOf numberAt sameBytes sameName isRowOffset imageLong numbersIn headIn grantsSaid grantsIn savedFrom savedIn imageIn isOwner isKeepable differ headFits wordFits imageFits isImage
+unfolding textOf lineText threeText numberThen numberText digitsUpTo printedOf firstSheets firstSheet afterSheet linesOf goodOnes totalsOf isPast sum largest classesBelow classesHeld classesGranted largestNext figuresIn isSaid sizeSaid isGood lineOf provisioned wordGrants tableOf padded select every pairwise rows numberOf numberAt sameBytes sameName isRowOffset imageLong numbersIn headIn grantsSaid grantsIn savedFrom savedIn imageIn isOwner isKeepable differ headFits wordFits imageFits isImage
 drawers =
     record {
       one-image = refl;

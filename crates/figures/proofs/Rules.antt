@@ -24,8 +24,8 @@ use Rattle.image_figures.specs.declared.Figures.{Figures}
 use Rattle.image_figures.specs.declared.Line.{Line}
 use Rattle.image_figures.specs.declared.Line.the-variants.{Bad, Good}
 use Rattle.image_figures.proofs.Laws.{Small, SmallLine, line-small}
-use Rattle.figures.specs.Drawer.{Piece, linesOf, goodOnes, totalsOf, totalsWith, mostImages, stepOf, After, OfPieces, OfPiece}
-use Rattle.figures.specs.Drawer.{stopOf, isFailure, FilledTo, Buffers, pieceIn, PieceIn, hasFailed, isPrinted, isLast, toldOf, Tells, turnOf, Turned}
+use Rattle.figures.specs.Drawer.{Sheet, linesOf, goodOnes, totalsOf, totalsWith, mostImages, stepOf, After, OfSheets, OfSheet}
+use Rattle.figures.specs.Drawer.{stopOf, isFailure, FilledTo, Buffers, sheetIn, SheetIn, hasFailed, isPrinted, isLast, toldOf, Tells, turnOf, Turned}
 use Rattle.figures.proofs.Texts.{spelled, text-begin, text-more, text-all, text-full, text-none, number-added, three-added, line-bad, line-good, text-image, text-total, text-past}
 use Rattle.figures.specs.declared.Totals.{Totals}
 use Rattle.figures.specs.declared.Turn.{Turn}
@@ -35,7 +35,7 @@ use Rattle.figures.specs.declared.Output.the-variants.{Image, Total, Too
 use Rattle.figures.specs.declared.Stop.{Stop}
 use Rattle.figures.specs.declared.Stop.the-variants.{Full, Ended, Failed}
 use Rattle.figures.specs.declared.Filled.{Filled}
-use Rattle.figures.specs.declared.PieceRead.{PieceRead}
+use Rattle.figures.specs.declared.SheetRead.{SheetRead}
 use Rattle.figures.specs.declared.Told.{Told}
 use Rattle.figures.specs.declared.Told.the-variants.{Printed, Unread, Unwritten}
 
@@ -78,18 +78,18 @@ unfolding totalsOf goodOnes sum
 bounded-more Bad l s v = record { good = omega (arith, v .good); rows = omega (arith, v .rows); classes = omega (arith, v .classes) }
 bounded-more (Good f) l s v = record { good = omega (arith, v .good); rows = omega (arith, s .rows-few, v .rows); classes = omega (arith, s .classes-few, v .classes) }
 
-bounded : (l : List Piece) → Bounded (totalsOf (linesOf l))
+bounded : (l : List Sheet) → Bounded (totalsOf (linesOf l))
 unfolding linesOf totalsOf goodOnes sum
 bounded [] = record { good = omega arith; rows = omega arith; classes = omega arith }
 bounded (p ∷ l) = bounded-more (lineOf (p .said) (p .image)) (linesOf l) (line-small (p .said) (p .image)) (bounded l)
 
-module _ {t : Totals} (v : OfPieces t) where
+module _ {t : Totals} (v : OfSheets t) where
   bounds : Bounded t
   bounds = rw (v .are) (bounded (v .read))
 
   images-are : length (v .read) ≡ t .images
   unfolding totalsOf linesOf
-  images-are = sym (ap (λ (u : Totals). u .images) (v .are) ∙ length-map (v .read) (λ (p : Piece). lineOf (p .said) (p .image)))
+  images-are = sym (ap (λ (u : Totals). u .images) (v .are) ∙ length-map (v .read) (λ (p : Sheet). lineOf (p .said) (p .image)))
 
   images-few : t .images ≤ mostImages
   images-few = omega (arith, images-are, v .few)
@@ -98,9 +98,9 @@ module _ {t : Totals} (v : OfPieces t) where
     pub good-fits : Fits w64 (t .good + 1)
     good-fits = omega (arith, bounds .good)
 
-    module _ {x : Line} (is : OfPiece x) {f : Figures} (e : x ≡ Good f) where
+    module _ {x : Line} (is : OfSheet x) {f : Figures} (e : x ≡ Good f) where
       small : Small f
-      small = rw (sym (is .is) ∙ e) at (line-small (is .piece .said) (is .piece .image))
+      small = rw (sym (is .is) ∙ e) at (line-small (is .sheet .said) (is .sheet .image))
 
       pub rows-fit : Fits w64 (t .rows + f .rows)
       rows-fit = omega (arith, bounds .rows, small .rows-few)
@@ -118,7 +118,7 @@ module _ (t : Totals) {x : Line} where
   unfolding totalsWith
   counted-good {f} e = record { is = λ l h. rw (h, e) (totals-good l f) }
 
-pub step-few : {t : Totals} → OfPieces t → (t .images ≡ mostImages → ⊥) → t .images < mostImages
+pub step-few : {t : Totals} → OfSheets t → (t .images ≡ mostImages → ⊥) → t .images < mostImages
 step-few v k = omega (arith, k, images-few v)
 
 module _ (t : Totals) (said image : List ℕ) where
@@ -177,17 +177,17 @@ filled-short after got v same e = record { few = omega (arith, same, v .few); wh
 pub filled-whole : {old new : List ℕ} {count : ℕ} → Filling old new count → length new ≤ count → FilledTo (length new) (record { count = count; stop = Full })
 filled-whole v h = record { few = v .few; whole = λ f. omega (arith, v .few) }
 
--- ---- a piece in its buffers
+-- ---- a sheet in its buffers
 pub buffers-kept : {said₀ image₀ : List ℕ} (said image : List ℕ) → Buffers said₀ image₀ → length said ≡ length said₀ → length image ≡ length image₀ → Buffers said image
 buffers-kept said image v a b = record { for-length = a ∙ v .for-length; for-image = omega (arith, b, v .for-image) }
 
 pub size-long : {size : ℕ} (said image : List ℕ) → Buffers said image → size < 65536 → size ≡ length (take size image)
 size-long {size} said image v h = front size image (omega (arith, v .for-image))
 
-pub piece-read : {head rest : Filled} {size : ℕ} {said₀ image₀ said : List ℕ} (part : List ℕ) → Buffers said₀ image₀ → length said ≡ length said₀ → FilledTo (length said) head
+pub sheet-read : {head rest : Filled} {size : ℕ} {said₀ image₀ said : List ℕ} (part : List ℕ) → Buffers said₀ image₀ → length said ≡ length said₀ → FilledTo (length said) head
     → size ≡ sizeSaid (take (head .count) said) → size < 65536 → length part ≡ length (take size image₀) → FilledTo (length part) rest
-    → PieceIn said (part ++ drop size image₀) (record { said = head; image = rest })
-piece-read {size = size} {said₀ = said₀} {image₀ = image₀} part v a p e h b q =
+    → SheetIn said (part ++ drop size image₀) (record { said = head; image = rest })
+sheet-read {size = size} {said₀ = said₀} {image₀ = image₀} part v a p e h b q =
     let long = b ∙ sym (size-long said₀ image₀ v h) in
     record {
       said-there = rw (a ∙ v .for-length) at p;
@@ -195,10 +195,10 @@ piece-read {size = size} {said₀ = said₀} {image₀ = image₀} part v a p e 
       image-fits = rw length-append (omega (arith, q .few));
     }
 
-pub said-long : {said image : List ℕ} {read : PieceRead} → Buffers said image → PieceIn said image read → read .said .count ≡ length (take (read .said .count) said)
+pub said-long : {said image : List ℕ} {read : SheetRead} → Buffers said image → SheetIn said image read → read .said .count ≡ length (take (read .said .count) said)
 said-long {said} {read = read} v p = front (read .said .count) said (omega (arith, p .said-there .few, v .for-length))
 
-pub failed-either : (read : PieceRead) {head rest : Bool} → head ≡ isFailure (read .said .stop) → rest ≡ isFailure (read .image .stop) → (head || rest) ≡ hasFailed read
+pub failed-either : (read : SheetRead) {head rest : Bool} → head ≡ isFailure (read .said .stop) → rest ≡ isFailure (read .image .stop) → (head || rest) ≡ hasFailed read
 unfolding hasFailed
 failed-either read e f = rw (e, f)
 
@@ -216,21 +216,21 @@ unfolding toldOf
 is-written true output = refl
 is-written false output = refl
 
-pub of-piece : {x : Line} (said image : List ℕ) → x ≡ lineOf said image → OfPiece x
-of-piece said image e = record { piece = record { said = said; image = image }; is = e }
+pub of-sheet : {x : Line} (said image : List ℕ) → x ≡ lineOf said image → OfSheet x
+of-sheet said image e = record { sheet = record { said = said; image = image }; is = e }
 
-pieces-more : (l : List Piece) (p : Piece) → length l < mostImages → OfPieces (totalsWith (lineOf (p .said) (p .image)) (linesOf l))
+sheets-more : (l : List Sheet) (p : Sheet) → length l < mostImages → OfSheets (totalsWith (lineOf (p .said) (p .image)) (linesOf l))
 unfolding linesOf totalsWith
-pieces-more l p few =
+sheets-more l p few =
     record {
       read = l ++ (p ∷ []);
       few = rw (length-append l (p ∷ [])) (omega arith);
-      are = ap totalsOf (sym (map-append (λ (p : Piece). lineOf (p .said) (p .image)) l (p ∷ [])));
+      are = ap totalsOf (sym (map-append (λ (p : Sheet). lineOf (p .said) (p .image)) l (p ∷ [])));
     }
 
-step-pieces : {t : Totals} (said image : List ℕ) (v : OfPieces t) → OfPieces (stepOf said image (linesOf (v .read)) .totals)
+step-sheets : {t : Totals} (said image : List ℕ) (v : OfSheets t) → OfSheets (stepOf said image (linesOf (v .read)) .totals)
 unfolding stepOf
-step-pieces said image v =
+step-sheets said image v =
     let lines : List Line = linesOf (v .read) in
     let so-far : length (v .read) ≡ length lines = images-are v ∙ ap (λ (u : Totals). u .images) (v .are) ∙ images-of lines in
     split (eqb (length said) 0)
@@ -238,7 +238,7 @@ step-pieces said image v =
     (λ z.
     split (eqb (length lines) mostImages)
     (λ q. rw (z, q, ← v .are) v)
-    (λ q. let n = eqb-false (length lines) mostImages q in rw (z, q) (pieces-more (v .read) (record { said = said; image = image }) (omega (arith, n, so-far, v .few)))))
+    (λ q. let n = eqb-false (length lines) mostImages q in rw (z, q) (sheets-more (v .read) (record { said = said; image = image }) (omega (arith, n, so-far, v .few)))))
 
 -- of the three ends of a step the last alone goes on
 step-counted : (said image : List ℕ) (l : List Line) → stepOf said image l .more ≡ true → stepOf said image l .totals ≡ totalsWith (lineOf said image) l
@@ -267,7 +267,7 @@ unfolding toldOf
 told-last true step h m = h m
 told-last false step h m = refl
 
-module _ {t : Totals} (read : PieceRead) (said image : List ℕ) {failed : Bool} (e : failed ≡ hasFailed read) where
+module _ {t : Totals} (read : SheetRead) (said image : List ℕ) {failed : Bool} (e : failed ≡ hasFailed read) where
   pub turned-unread : failed ≡ true → Turned t read said image (record { totals = t; told = Unread; more = false })
   unfolding turnOf
   turned-unread f = record { written = false; is = record { is = λ l h. rw (← e, f, h) } }
@@ -275,30 +275,30 @@ module _ {t : Totals} (read : PieceRead) (said image : List ℕ) {failed : Bool}
   pub turned-read : failed ≡ false → {step : Step} → After t (stepOf (take (read .said .count) said) (take (read .image .count) image)) step
       → {told : Told} → Tells (step .output) told → {printed : Bool} → printed ≡ isPrinted told
       → Turned t read said image (record { totals = step .totals; told = told; more = printed && step .more })
-  unfolding turnOf pieceIn
+  unfolding turnOf sheetIn
   turned-read f a o p = record { written = o .written; is = record { is = λ l h. rw (← e, f, p, o .is, is-written (o .written) _, a .is l h) } }
 
 -- where no turn comes after, what was said is last
 pub record Last (told : Told) (more : Bool) : Type 0 where
   pub is : more ≡ false → isLast told ≡ true
 
--- what a turn leaves: the totals of some pieces; where it goes on, one image more, and where not, what is said last
-module _ {t : Totals} {read : PieceRead} {said image : List ℕ} {turn : Turn} (v : OfPieces t) (s : Turned t read said image turn) where
+-- what a turn leaves: the totals of some sheets; where it goes on, one image more, and where not, what is said last
+module _ {t : Totals} {read : SheetRead} {said image : List ℕ} {turn : Turn} (v : OfSheets t) (s : Turned t read said image turn) where
   abbrev lines : List Line
   lines = linesOf (v .read)
 
-  abbrev taken : Piece
-  taken = pieceIn read said image
+  abbrev taken : Sheet
+  taken = sheetIn read said image
 
   turn-is : turn ≡ turnOf read taken (s .written) lines
   turn-is = s .is .is lines (v .are)
 
-  pub turned-pieces : OfPieces (turn .totals)
+  pub turned-sheets : OfSheets (turn .totals)
   unfolding turnOf
-  turned-pieces =
+  turned-sheets =
       rw turn-is (split (hasFailed read)
       (λ f. rw (f, ← v .are) v)
-      (λ f. rw f (step-pieces (taken .said) (taken .image) v)))
+      (λ f. rw f (step-sheets (taken .said) (taken .image) v)))
 
   one-more : turn .more ≡ true → turn .totals ≡ totalsWith (lineOf (taken .said) (taken .image)) lines
   unfolding turnOf
@@ -326,19 +326,19 @@ pub record Reporting (said₀ image₀ said image : List ℕ) (t : Totals) (told
   pub said-long : length said ≡ length said₀
   pub image-long : length image ≡ length image₀
   pub buffers : Buffers said image
-  pub of-pieces : OfPieces t
+  pub of-sheets : OfSheets t
   pub last : Last told more
 
 pub no-lines : record { images = 0; good = 0; rows = 0; classes = 0 } ≡ totalsOf []
 unfolding totalsOf goodOnes sum
 no-lines = refl
 
-no-pieces : OfPieces (totalsOf [])
+no-sheets : OfSheets (totalsOf [])
 unfolding linesOf
-no-pieces = record { read = []; few = omega arith; are = refl }
+no-sheets = record { read = []; few = omega arith; are = refl }
 
 pub report-begin : {said image : List ℕ} {t : Totals} → Buffers said image → t ≡ totalsOf [] → {told : Told} → Reporting said image said image t told true
-report-begin v e = record { said-long = refl; image-long = refl; buffers = v; of-pieces = rw e no-pieces; last = record { is = λ m. absurd (true≢false m) } }
+report-begin v e = record { said-long = refl; image-long = refl; buffers = v; of-sheets = rw e no-sheets; last = record { is = λ m. absurd (true≢false m) } }
 
 pub last-said : {told : Told} {more : Bool} → Last told more → more ≡ false → isLast told ≡ true
 last-said v m = v .is m
@@ -346,10 +346,10 @@ last-said v m = v .is m
 abbrev pub turnsLeft : Totals → Bool → ℕ
 turnsLeft t more = cond more (suc (mostImages - t .images)) 0
 
-pub turns-less : {t : Totals} {read : PieceRead} {said image : List ℕ} {turn : Turn} {more : Bool} → more ≡ true → OfPieces t → Turned t read said image turn → turnsLeft (turn .totals) (turn .more) < turnsLeft t more
+pub turns-less : {t : Totals} {read : SheetRead} {said image : List ℕ} {turn : Turn} {more : Bool} → more ≡ true → OfSheets t → Turned t read said image turn → turnsLeft (turn .totals) (turn .more) < turnsLeft t more
 turns-less {turn = turn} m v s =
     rw m (split (turn .more)
-    (λ e. rw e (omega (arith, one-image v s e, images-few (turned-pieces v s))))
+    (λ e. rw e (omega (arith, one-image v s e, images-few (turned-sheets v s))))
     (λ e. rw e (omega arith)))
 
-pub ruleset rules = (needs, good-fits, rows-fit, classes-fit, counted-bad, counted-good, step-total, step-past, step-few, step-line, filling-begin, front, stop-failed, stop-ended, filled-short, filled-whole, buffers-kept, size-long, piece-read, said-long, failed-either, of-piece, spelled, text-begin, text-more, text-all, text-full, text-none, number-added, three-added, line-bad, line-good, text-image, text-total, text-past, tells-nothing, tells-it, turned-unread, turned-read, turned-pieces, turned-last, no-lines, report-begin, last-said, turns-less)
+pub ruleset rules = (needs, good-fits, rows-fit, classes-fit, counted-bad, counted-good, step-total, step-past, step-few, step-line, filling-begin, front, stop-failed, stop-ended, filled-short, filled-whole, buffers-kept, size-long, sheet-read, said-long, failed-either, of-sheet, spelled, text-begin, text-more, text-all, text-full, text-none, number-added, three-added, line-bad, line-good, text-image, text-total, text-past, tells-nothing, tells-it, turned-unread, turned-read, turned-sheets, turned-last, no-lines, report-begin, last-said, turns-less)

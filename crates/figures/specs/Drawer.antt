@@ -18,35 +18,35 @@ use Rattle.figures.specs.declared.Output.the-variants.{Image, Total, Too
 use Rattle.figures.specs.declared.Stop.{Stop}
 use Rattle.figures.specs.declared.Stop.the-variants.{Full, Ended, Failed}
 use Rattle.figures.specs.declared.Filled.{Filled}
-use Rattle.figures.specs.declared.PieceRead.{PieceRead}
+use Rattle.figures.specs.declared.SheetRead.{SheetRead}
 use Rattle.figures.specs.declared.Told.{Told}
 use Rattle.figures.specs.declared.Told.the-variants.{Nothing, Printed, Unread, Unwritten}
 
--- ---- a drawer's pieces: of a length, and of the image after it, the bytes that are there
-pub record Piece : Type 0 where
+-- ---- a drawer's sheets: of a length, and of the image after it, the bytes that are there
+pub record Sheet : Type 0 where
   pub said : List ℕ
   pub image : List ℕ
 
--- the piece at the start of bytes, and what comes after it: a length is believed, so after a cut-off image nothing comes
-unfoldable pub firstPiece : List ℕ → Piece
-firstPiece b = record { said = take lengthSize b; image = take (sizeSaid (take lengthSize b)) (drop lengthSize b) }
+-- the sheet at the start of bytes, and what comes after it: a length is believed, so after a cut-off image nothing comes
+unfoldable pub firstSheet : List ℕ → Sheet
+firstSheet b = record { said = take lengthSize b; image = take (sizeSaid (take lengthSize b)) (drop lengthSize b) }
 
-unfoldable pub afterPiece : List ℕ → List ℕ
-afterPiece b = drop (lengthSize + sizeSaid (take lengthSize b)) b
+unfoldable pub afterSheet : List ℕ → List ℕ
+afterSheet b = drop (lengthSize + sizeSaid (take lengthSize b)) b
 
--- the most that 2 bytes say: a buffer of so many bytes holds the image of any piece
+-- the most that 2 bytes say: a buffer of so many bytes holds the image of any sheet
 abbrev pub longestSaid : ℕ
 longestSaid = 65535
 
--- the first n pieces
-unfoldable pub firstPieces : ℕ → List ℕ → List Piece
-firstPieces zero b = []
-firstPieces (suc n) [] = []
-firstPieces (suc n) (x ∷ b) = firstPiece (x ∷ b) ∷ firstPieces n (afterPiece (x ∷ b))
+-- the first n sheets
+unfoldable pub firstSheets : ℕ → List ℕ → List Sheet
+firstSheets zero b = []
+firstSheets (suc n) [] = []
+firstSheets (suc n) (x ∷ b) = firstSheet (x ∷ b) ∷ firstSheets n (afterSheet (x ∷ b))
 
 -- ---- "For each it prints a line"
-unfoldable pub linesOf : List Piece → List Line
-linesOf l = map (λ (p : Piece). lineOf (p .said) (p .image)) l
+unfoldable pub linesOf : List Sheet → List Line
+linesOf l = map (λ (p : Sheet). lineOf (p .said) (p .image)) l
 
 -- ---- "The last line is `total` with the good images, rows and granted classes."
 unfoldable pub goodOnes : List Line → List Figures
@@ -71,12 +71,12 @@ abbrev pub mostImages : ℕ
 mostImages = 4096
 
 unfoldable pub isPast : List ℕ → Bool
-isPast b = ltb mostImages (length (firstPieces (suc mostImages) b))
+isPast b = ltb mostImages (length (firstSheets (suc mostImages) b))
 
 -- ---- what is printed of a drawer, line by line
 unfoldable pub printedOf : List ℕ → List Output
 printedOf b =
-    let lines : List Line = linesOf (firstPieces mostImages b) in
+    let lines : List Line = linesOf (firstSheets mostImages b) in
     map Image lines ++ (cond (isPast b) TooMany (Total (totalsOf lines)) ∷ [])
 
 -- ---- the program's step, after these lines: what comes of a length and an image of which these bytes are there
@@ -90,15 +90,15 @@ stepOf said image lines =
 pub record After {A : Type 0} (t : Totals) (f : List Line → A) (answer : A) : Type 0 where
   pub is : (lines : List Line) → t ≡ totalsOf lines → answer ≡ f lines
 
--- ---- what the program's totals are while it reads: those of some pieces, at most 4,096; and what a line is, that of a piece
-pub record OfPieces (t : Totals) : Type 0 where
-  pub read : List Piece
+-- ---- what the program's totals are while it reads: those of some sheets, at most 4,096; and what a line is, that of a sheet
+pub record OfSheets (t : Totals) : Type 0 where
+  pub read : List Sheet
   pub few : length read ≤ mostImages
   pub are : t ≡ totalsOf (linesOf read)
 
-pub record OfPiece (x : Line) : Type 0 where
-  pub piece : Piece
-  pub is : x ≡ lineOf (piece .said) (piece .image)
+pub record OfSheet (x : Line) : Type 0 where
+  pub sheet : Sheet
+  pub is : x ≡ lineOf (sheet .said) (sheet .image)
 
 -- ---- what is read: a part of a buffer is filled until it is full, the input ends or a read fails; `read` answers a negative number where it fails
 unfoldable pub stopOf : ℤ → Stop
@@ -119,17 +119,17 @@ pub record Buffers (said image : List ℕ) : Type 0 where
   pub for-length : length said ≡ lengthSize
   pub for-image : longestSaid ≤ length image
 
--- of a piece, the bytes that were read are what its buffers begin with: a length, and then as many as that says
-unfoldable pub pieceIn : PieceRead → List ℕ → List ℕ → Piece
-pieceIn piece said image = record { said = take (piece .said .count) said; image = take (piece .image .count) image }
+-- of a sheet, the bytes that were read are what its buffers begin with: a length, and then as many as that says
+unfoldable pub sheetIn : SheetRead → List ℕ → List ℕ → Sheet
+sheetIn sheet said image = record { said = take (sheet .said .count) said; image = take (sheet .image .count) image }
 
-pub record PieceIn (said image : List ℕ) (piece : PieceRead) : Type 0 where
-  pub said-there : FilledTo lengthSize (piece .said)
-  pub image-there : FilledTo (sizeSaid (take (piece .said .count) said)) (piece .image)
-  pub image-fits : piece .image .count ≤ length image
+pub record SheetIn (said image : List ℕ) (sheet : SheetRead) : Type 0 where
+  pub said-there : FilledTo lengthSize (sheet .said)
+  pub image-there : FilledTo (sizeSaid (take (sheet .said .count) said)) (sheet .image)
+  pub image-fits : sheet .image .count ≤ length image
 
-unfoldable pub hasFailed : PieceRead → Bool
-hasFailed piece = isFailure (piece .said .stop) || isFailure (piece .image .stop)
+unfoldable pub hasFailed : SheetRead → Bool
+hasFailed sheet = isFailure (sheet .said .stop) || isFailure (sheet .image .stop)
 
 -- ---- what is said in a turn
 abbrev pub isPrinted : Told → Bool
@@ -157,12 +157,12 @@ pub record Tells (output : Output) (told : Told) : Type 0 where
 
 -- ---- a turn of its loop, after these lines: where a read failed it ends; else the step of exactly the bytes that were read is printed, and the loop
 -- goes on where the step does and could be written
-unfoldable pub turnOf : PieceRead → Piece → Bool → List Line → Turn
-turnOf read piece written lines =
-    let step : Step = stepOf (piece .said) (piece .image) lines in
+unfoldable pub turnOf : SheetRead → Sheet → Bool → List Line → Turn
+turnOf read sheet written lines =
+    let step : Step = stepOf (sheet .said) (sheet .image) lines in
     cond (hasFailed read) (record { totals = totalsOf lines; told = Unread; more = false })
     (record { totals = step .totals; told = toldOf written (step .output); more = written && step .more })
 
-pub record Turned (t : Totals) (piece : PieceRead) (said image : List ℕ) (turn : Turn) : Type 0 where
+pub record Turned (t : Totals) (sheet : SheetRead) (said image : List ℕ) (turn : Turn) : Type 0 where
   pub written : Bool
-  pub is : After t (turnOf piece (pieceIn piece said image) written) turn
+  pub is : After t (turnOf sheet (sheetIn sheet said image) written) turn

@@ -8,7 +8,7 @@ ghost use mathlib.Core.List.{[]};
 ghost use Prim.Native.Nat.{_<_};
 ghost use lib.ListN.{length};
 ghost use Rattle.io.specs.Counts.{Counts};
-ghost use Rattle.figures.specs.Drawer.{totalsOf, totalsWith, mostImages, stepOf, After, OfPieces, OfPiece, stopOf, FilledTo, Buffers, PieceIn, isFailure, hasFailed, Tells, isPrinted, isLast, Turned};
+ghost use Rattle.figures.specs.Drawer.{totalsOf, totalsWith, mostImages, stepOf, After, OfSheets, OfSheet, stopOf, FilledTo, Buffers, SheetIn, isFailure, hasFailed, Tells, isPrinted, isLast, Turned};
 ghost use Rattle.figures.specs.Text.{numberThen, threeText, lineText, textOf, Holds, Added, Spells};
 use image_figures::LENGTH_SIZE;
 use image_figures::Line;
@@ -41,9 +41,9 @@ struct Step {
 }
 
 fn counted(totals: Totals, line: Line) -> Totals
-    requires { ⌜ OfPieces totals ⌝ }
+    requires { ⌜ OfSheets totals ⌝ }
     requires { ⌜ totals .images < mostImages ⌝ }
-    requires { ⌜ OfPiece line ⌝ }
+    requires { ⌜ OfSheet line ⌝ }
     ensures { λ r. ⌜ After totals (totalsWith line) r ⌝ }
 {
     let images = totals.images + 1;
@@ -65,7 +65,7 @@ fn counted(totals: Totals, line: Line) -> Totals
 
 // What comes of the bytes of a length, as many as there are, and of those after it.
 fn next_step(totals: Totals, said: &[u8], image: &[u8]) -> Step
-    requires { ⌜ OfPieces totals ⌝ }
+    requires { ⌜ OfSheets totals ⌝ }
     ensures { λ r. ⌜ After totals (stepOf (now (said .entry)) (now (image .entry))) r ⌝ }
 {
     if said.len() == 0 {
@@ -137,20 +137,20 @@ fn fill(part: &mut [u8]) -> Filled
 }
 
 // Of a length, and of the image after it, how many bytes were there.
-struct PieceRead {
+struct SheetRead {
     said: Filled,
     image: Filled,
 }
 
-fn read_piece(said: &mut [u8], image: &mut [u8]) -> PieceRead
+fn read_sheet(said: &mut [u8], image: &mut [u8]) -> SheetRead
     requires { ⌜ Buffers (now said) (now image) ⌝ }
-    ensures { λ r. ⌜ PieceIn (now (said .exit)) (now (image .exit)) r ⌝ }
+    ensures { λ r. ⌜ SheetIn (now (said .exit)) (now (image .exit)) r ⌝ }
 {
     let head = fill(said);
     let there = head.count;
     let size = image_figures::size_said(&said[..there]) as usize;
     let rest = fill(&mut image[..size]);
-    PieceRead {
+    SheetRead {
         said: head,
         image: rest,
     }
@@ -167,11 +167,11 @@ fn is_failed(filled: Filled) -> bool
     }
 }
 
-fn has_failed(piece: PieceRead) -> bool
-    ensures { λ r. ⌜ r ≡ hasFailed piece ⌝ }
+fn has_failed(sheet: SheetRead) -> bool
+    ensures { λ r. ⌜ r ≡ hasFailed sheet ⌝ }
 {
-    let head = piece.said;
-    let rest = piece.image;
+    let head = sheet.said;
+    let rest = sheet.image;
     is_failed(head) | is_failed(rest)
 }
 
@@ -300,14 +300,14 @@ struct Turn {
     more: bool,
 }
 
-// What comes of a piece that was read is printed.
-fn take_turn(totals: Totals, piece: PieceRead, said: &[u8], image: &[u8]) -> Turn
-    requires { ⌜ OfPieces totals ⌝ }
+// What comes of a sheet that was read is printed.
+fn take_turn(totals: Totals, sheet: SheetRead, said: &[u8], image: &[u8]) -> Turn
+    requires { ⌜ OfSheets totals ⌝ }
     requires { ⌜ Buffers (now said) (now image) ⌝ }
-    requires { ⌜ PieceIn (now said) (now image) piece ⌝ }
-    ensures { λ r. ⌜ Turned totals piece (now (said .entry)) (now (image .entry)) r ⌝ }
+    requires { ⌜ SheetIn (now said) (now image) sheet ⌝ }
+    ensures { λ r. ⌜ Turned totals sheet (now (said .entry)) (now (image .entry)) r ⌝ }
 {
-    if has_failed(piece) {
+    if has_failed(sheet) {
         os::fail(b"standard input");
         return Turn {
             totals: totals,
@@ -315,8 +315,8 @@ fn take_turn(totals: Totals, piece: PieceRead, said: &[u8], image: &[u8]) -> Tur
             more: false,
         };
     }
-    let there = piece.said.count;
-    let long = piece.image.count;
+    let there = sheet.said.count;
+    let long = sheet.image.count;
     let step = next_step(totals, &said[..there], &image[..long]);
     let output = step.output;
     let told = print(output);
@@ -348,8 +348,8 @@ fn report(said: &mut [u8], image: &mut [u8]) -> Told
     let mut told = Told::Nothing;
     let mut more = true;
     while more {
-        let piece = read_piece(said, image);
-        let turn = take_turn(totals, piece, said, image);
+        let sheet = read_sheet(said, image);
+        let turn = take_turn(totals, sheet, said, image);
         totals = turn.totals;
         told = turn.told;
         more = turn.more;

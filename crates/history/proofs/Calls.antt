@@ -24,7 +24,7 @@ use Rattle.calls.specs.Calls.{Call, Open, Close, Drop, Select, Start, Continue,
 use Rattle.calls.specs.Run.{step, run}
 use Rattle.calls.proofs.Laws.{answer-number}
 use Rattle.module_rules.specs.Facts.{processes, Rules}
-use Rattle.history.specs.Lives.{Life, Gone, Live, Raised, Kept, isGone, passed, count, isUserOf, sameSession, tellsPassed}
+use Rattle.history.specs.Lives.{Life, Gone, Live, Raised, SavedBy, isGone, passed, count, isUserOf, sameSession, tellsPassed}
 use Rattle.history.specs.History.{ends, shuts, drops, resumes, after, event, history}
 use Rattle.history.specs.Demand.{look}
 use Rattle.history.specs.Steps.{onto, Step, Steps, none, then}
@@ -45,21 +45,21 @@ module _ (s : Session) where
   shuts-keeps Gone h = refl
   shuts-keeps (Live t d ns) h = split (sameSession s t) (λ e. absurd (h (rw e))) (λ e. rw e)
   shuts-keeps (Raised t d) h = split (sameSession s t) (λ e. absurd (h (rw e))) (λ e. rw e)
-  shuts-keeps (Kept d ns) h = refl
+  shuts-keeps (SavedBy d ns) h = refl
 
   drops-keeps : (life : Life) → Keeps (drops s) life
   unfolding drops passed
   drops-keeps Gone h = refl
   drops-keeps (Live t d ns) h = refl
   drops-keeps (Raised t d) h = split (sameSession s t) (λ e. absurd (h (rw e))) (λ e. rw e)
-  drops-keeps (Kept d ns) h = refl
+  drops-keeps (SavedBy d ns) h = refl
 
   resumes-keeps : (life : Life) → count (resumes s life) ≡ count life
   unfolding resumes passed
   resumes-keeps Gone = refl
   resumes-keeps (Live t d ns) = refl
   resumes-keeps (Raised t d) = refl
-  resumes-keeps (Kept d ns) = refl
+  resumes-keeps (SavedBy d ns) = refl
 
   ends-keeps : (c : Credential) (keep : Bool) (life : Life) → Keeps (ends s c keep) life
   unfolding ends passed
@@ -67,7 +67,7 @@ module _ (s : Session) where
   ends-keeps c true (Live t d ns) h = split (isUserOf s c t d) (λ e. rw e) (λ e. rw e)
   ends-keeps c false (Live t d ns) h = split (isUserOf s c t d) (λ e. absurd (h (rw e))) (λ e. rw e)
   ends-keeps c keep (Raised t d) h = refl
-  ends-keeps c keep (Kept d ns) h = refl
+  ends-keeps c keep (SavedBy d ns) h = refl
 
 -- the name that is given to a new process was nobody's
 unused-gone : (st : State) (which : Active) (s : Session) (c : Credential) (name n : Name) → Added st which s c name → sameName name n ≡ true → look n (processes st) ≡ Gone
@@ -103,28 +103,28 @@ module _ (old : List ℕ) where
   ends-onto s c true (Live t d ns) = split (isUserOf s c t d) (λ e. rw e) (λ e. rw e)
   ends-onto s c false (Live t d ns) = split (isUserOf s c t d) (λ e. rw e) (λ e. rw e)
   ends-onto s c keep (Raised t d) = refl
-  ends-onto s c keep (Kept d ns) = refl
+  ends-onto s c keep (SavedBy d ns) = refl
 
   shuts-onto : (s : Session) (life : Life) → shuts s (onto old life) ≡ onto old (shuts s life)
   unfolding shuts
   shuts-onto s Gone = refl
   shuts-onto s (Live t d ns) = split (sameSession s t) (λ e. rw e) (λ e. rw e)
   shuts-onto s (Raised t d) = split (sameSession s t) (λ e. rw e) (λ e. rw e)
-  shuts-onto s (Kept d ns) = refl
+  shuts-onto s (SavedBy d ns) = refl
 
   drops-onto : (s : Session) (life : Life) → drops s (onto old life) ≡ onto old (drops s life)
   unfolding drops
   drops-onto s Gone = refl
   drops-onto s (Live t d ns) = refl
   drops-onto s (Raised t d) = split (sameSession s t) (λ e. rw e) (λ e. rw e)
-  drops-onto s (Kept d ns) = refl
+  drops-onto s (SavedBy d ns) = refl
 
   resumes-onto : (s : Session) (life : Life) → resumes s (onto old life) ≡ onto old (resumes s life)
   unfolding resumes
   resumes-onto s Gone = refl
   resumes-onto s (Live t d ns) = refl
   resumes-onto s (Raised t d) = refl
-  resumes-onto s (Kept d ns) = refl
+  resumes-onto s (SavedBy d ns) = refl
 
   after-onto : (n : Name) (call : Call) → isGone (after call n Gone) ≡ true → (life : Life) → after call n (onto old life) ≡ onto old (after call n life)
   unfolding after

@@ -15,7 +15,7 @@ use Rattle.calls.specs.Run.{run}
 use Rattle.calls.specs.declared.Wanted.the-variants.{Every}
 use Rattle.calls.proofs.Orders.{twelve}
 use Rattle.calls.proofs.Sequences.{name, session, credential, class, userYes, yes′, no′, computed}
-use Rattle.history.specs.Lives.{Life, Gone, Live, Raised, Kept, passed, counts, charges, tellsPassed, Event, withClaim, onward, follow, told, nobody}
+use Rattle.history.specs.Lives.{Life, Gone, Live, Raised, SavedBy, passed, counts, charges, tellsPassed, Event, withClaim, onward, follow, told, nobody}
 use Rattle.history.specs.History.{ends, shuts, drops, resumes, after, eventOf, history}
 use Rattle.history.specs.Demand.{IsPassedOf, TwoPassed}
 use Rattle.history.proofs.Told.{live-not-gone}
@@ -103,7 +103,7 @@ pub record Told (calls : List Call) (p q : Life) : Type 0 where
 pub record Examples : Type 0 where
   pub numbers-are : map (λ (e : Event). e .answered) (history (fresh grants) killed) ≡ 0 ∷ 0 ∷ 0 ∷ 0 ∷ 0 ∷ 9 ∷ 0 ∷ 0 ∷ 0 ∷ 0 ∷ 0 ∷ 0 ∷ 0 ∷ 0 ∷ 6 ∷ []
   pub after-start : Told started (Live (session 0) (credential 0) (1 ∷ 0 ∷ [])) Gone
-  pub after-save : Told saved (Kept (credential 0) (2 ∷ 1 ∷ 0 ∷ [])) Gone
+  pub after-save : Told saved (SavedBy (credential 0) (2 ∷ 1 ∷ 0 ∷ [])) Gone
   pub after-continue : Told continued (Live (session 1) (credential 0) (3 ∷ 2 ∷ 1 ∷ 0 ∷ [])) Gone
   pub after-kill : Told killed Gone (Live (session 1) (credential 1) (1 ∷ 0 ∷ []))
   pub after-again : Told again (Live (session 1) (credential 0) (0 ∷ [])) (Live (session 1) (credential 1) (1 ∷ 0 ∷ []))

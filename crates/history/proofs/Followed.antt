@@ -35,7 +35,7 @@ use Rattle.calls.specs.Run.{step}
 use Rattle.calls.proofs.Cut.{passed-claim, number-done, left-stopped, left-passed}
 use Rattle.calls.proofs.Laws.{answer-number}
 use Rattle.lists.specs.Each.{Each}
-use Rattle.history.specs.Lives.{Life, Gone, Live, Kept, counts, charges, tellsPassed, withClaim, onward, down}
+use Rattle.history.specs.Lives.{Life, Gone, Live, SavedBy, counts, charges, tellsPassed, withClaim, onward, down}
 use Rattle.history.specs.History.{ends, shuts, drops, resumes, after, eventOf, event}
 use Rattle.history.specs.Demand.{life, lifeOf, look}
 use Rattle.module_rules.specs.Facts.{processes, Rules}
@@ -62,13 +62,13 @@ module _ (s : Session) (u : UserClaim) (t : Session) (d : Credential) (i : ℕ) 
 module _ (s : Session) (c : Credential) (keep : Bool) (t : Session) (d : Credential) (i : ℕ) where
   ends-other : (k : Kind) → isUser k && eqb (t .0) (s .0) && eqb (d .0) (c .0) ≡ false → ends s c keep (life k t d i) ≡ life k t d i
   unfolding ends
-  ends-other User h = ap (λ b. cond b (cond keep (Kept d (down i)) Gone) (Live t d (down i))) h
+  ends-other User h = ap (λ b. cond b (cond keep (SavedBy d (down i)) Gone) (Live t d (down i))) h
   ends-other Elevation h = refl
   ends-other Saved h = refl
 
-  ends-own : (k : Kind) → isUser k && eqb (t .0) (s .0) && eqb (d .0) (c .0) ≡ true → ends s c keep (life k t d i) ≡ cond keep (Kept d (down i)) Gone
+  ends-own : (k : Kind) → isUser k && eqb (t .0) (s .0) && eqb (d .0) (c .0) ≡ true → ends s c keep (life k t d i) ≡ cond keep (SavedBy d (down i)) Gone
   unfolding ends
-  ends-own User h = ap (λ b. cond b (cond keep (Kept d (down i)) Gone) (Live t d (down i))) h
+  ends-own User h = ap (λ b. cond b (cond keep (SavedBy d (down i)) Gone) (Live t d (down i))) h
   ends-own Elevation h = clash h refl
   ends-own Saved h = clash h refl
 

@@ -13,7 +13,7 @@ use Rattle.module_state.specs.declared.Claim.{Claim}
 use Rattle.module_state.specs.declared.Claim.the-variants.{Elevated, ByUser}
 use Rattle.module_state.specs.declared.UserClaim.{UserClaim}
 use Rattle.calls.specs.Calls.{Protection, Free, Under}
-use Rattle.history.specs.Lives.{Life, Gone, Live, Raised, Kept, isGone, passed, count, isUserOf, counts, charges, tellsPassed, Event, withClaim}
+use Rattle.history.specs.Lives.{Life, Gone, Live, Raised, SavedBy, isGone, passed, count, isUserOf, counts, charges, tellsPassed, Event, withClaim}
 use Rattle.history.specs.Demand.{IsPassedOf}
 use Rattle.history.specs.Steps.{onto}
 use Rattle.history.specs.Since.{bare}
@@ -22,7 +22,7 @@ pub is-gone : (life : Life) → isGone life ≡ true → life ≡ Gone
 is-gone Gone h = refl
 is-gone (Live s c ns) h = clash h refl
 is-gone (Raised s c) h = clash h refl
-is-gone (Kept c ns) h = clash h refl
+is-gone (SavedBy c ns) h = clash h refl
 
 -- ---- a claim adds to the count
 counts-grow : (s : Session) (claim : Claim) (life : Life) → count life ≤ count (counts s claim life)
@@ -31,7 +31,7 @@ counts-grow s Elevated life = omega arith
 counts-grow s (ByUser u) Gone = omega arith
 counts-grow s (ByUser u) (Live t d ns) = split (isUserOf s (u .credential) t d) (λ e. rw e (omega arith)) (λ e. rw e (omega arith))
 counts-grow s (ByUser u) (Raised t d) = omega arith
-counts-grow s (ByUser u) (Kept d ns) = omega arith
+counts-grow s (ByUser u) (SavedBy d ns) = omega arith
 
 charges-grow : (w : Protection) (life : Life) → count life ≤ count (charges w life)
 unfolding charges
@@ -57,21 +57,21 @@ unfolding passed
 onto-bare Gone = refl
 onto-bare (Live s c ns) = refl
 onto-bare (Raised s c) = refl
-onto-bare (Kept c ns) = refl
+onto-bare (SavedBy c ns) = refl
 
 -- a user process's life, active or saved
 abbrev pub isUsers : Life → Bool
 isUsers Gone = false
 isUsers (Live s c ns) = true
 isUsers (Raised s c) = false
-isUsers (Kept c ns) = true
+isUsers (SavedBy c ns) = true
 
 pub count-onto : (old : List ℕ) (life : Life) → isUsers (onto old life) ≡ true → count (onto old life) ≡ length old + count life
 unfolding passed
 count-onto old Gone h = clash h refl
 count-onto old (Live s c ns) h = simp length-append (omega arith)
 count-onto old (Raised s c) h = clash h refl
-count-onto old (Kept c ns) h = simp length-append (omega arith)
+count-onto old (SavedBy c ns) h = simp length-append (omega arith)
 
 counts-onto : (old : List ℕ) (s : Session) (claim : Claim) (life : Life) → counts s claim (onto old life) ≡ onto old (counts s claim life)
 unfolding counts
@@ -79,7 +79,7 @@ counts-onto old s Elevated life = refl
 counts-onto old s (ByUser u) Gone = refl
 counts-onto old s (ByUser u) (Live t d ns) = split (isUserOf s (u .credential) t d) (λ e. rw e) (λ e. rw e)
 counts-onto old s (ByUser u) (Raised t d) = refl
-counts-onto old s (ByUser u) (Kept d ns) = refl
+counts-onto old s (ByUser u) (SavedBy d ns) = refl
 
 charges-onto : (old : List ℕ) (w : Protection) (life : Life) → charges w (onto old life) ≡ onto old (charges w life)
 unfolding charges

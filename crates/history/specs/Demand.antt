@@ -21,7 +21,7 @@ use Rattle.module_state.specs.declared.UserClaim.{UserClaim}
 use Rattle.calls.specs.Calls.{Under, listed}
 use Rattle.calls.specs.declared.Wanted.{Wanted}
 use Rattle.module_rules.specs.Facts.{processes, Rules, IsTaken, at, RulesByPlaces}
-use Rattle.history.specs.Lives.{Life, Gone, Live, Raised, Kept, count, tellsPassed, Event, onward, told, down}
+use Rattle.history.specs.Lives.{Life, Gone, Live, Raised, SavedBy, count, tellsPassed, Event, onward, told, down}
 
 -- ---- claims that passed
 
@@ -83,7 +83,7 @@ pub record ByPlaces (tell : Name → Life) (events : List Event) (st : State) : 
 abbrev pub life : Kind → Session → Credential → ℕ → Life
 life User s c next = Live s c (down next)
 life Elevation s c next = Raised s c
-life Saved s c next = Kept c (down next)
+life Saved s c next = SavedBy c (down next)
 
 abbrev pub lifeOf : Process → Life
 lifeOf p = life (p .kind) (p .session) (p .credential) (p .next)

@@ -12,37 +12,37 @@ use Rattle.module_state.specs.Module.{provisioned}
 use Rattle.module_state.specs.declared.State.{State}
 use Rattle.calls.specs.Calls.{Call, Open, Close, Drop, Select, Start, Continue, Elevate, End, Record, ListProcesses, Kill, SetWord, protection, answerNumber, outcome}
 use Rattle.calls.specs.Run.{step}
-use Rattle.history.specs.Lives.{Life, Gone, Live, Raised, Kept, sameSession, isUserOf, Event}
+use Rattle.history.specs.Lives.{Life, Gone, Live, Raised, SavedBy, sameSession, isUserOf, Event}
 
 -- ---- what becomes of the process of a name by an accepted call, its claim counted. An active one stands in session t and is credential d's
 
 -- an end: "then the process is saved, or removed when not kept"
 unfoldable pub ends : Session → Credential → Bool → Life → Life
 ends s c keep Gone = Gone
-ends s c keep (Live t d ns) = cond (isUserOf s c t d) (cond keep (Kept d ns) Gone) (Live t d ns)
+ends s c keep (Live t d ns) = cond (isUserOf s c t d) (cond keep (SavedBy d ns) Gone) (Live t d ns)
 ends s c keep (Raised t d) = Raised t d
-ends s c keep (Kept d ns) = Kept d ns
+ends s c keep (SavedBy d ns) = SavedBy d ns
 
 -- a close: "the session's active processes are removed; saved ones stay"
 unfoldable pub shuts : Session → Life → Life
 shuts s Gone = Gone
 shuts s (Live t d ns) = cond (sameSession s t) Gone (Live t d ns)
 shuts s (Raised t d) = cond (sameSession s t) Gone (Raised t d)
-shuts s (Kept d ns) = Kept d ns
+shuts s (SavedBy d ns) = SavedBy d ns
 
 -- a drop: "removes the elevation"
 unfoldable pub drops : Session → Life → Life
 drops s Gone = Gone
 drops s (Live t d ns) = Live t d ns
 drops s (Raised t d) = cond (sameSession s t) Gone (Raised t d)
-drops s (Kept d ns) = Kept d ns
+drops s (SavedBy d ns) = SavedBy d ns
 
 -- a continue: "The process becomes active in that session, .. with its old next number."
 unfoldable pub resumes : Session → Life → Life
 resumes s Gone = Gone
 resumes s (Live t d ns) = Live t d ns
 resumes s (Raised t d) = Raised t d
-resumes s (Kept d ns) = Live s d ns
+resumes s (SavedBy d ns) = Live s d ns
 
 unfoldable pub after : Call → Name → Life → Life
 after (Open s) name life = life

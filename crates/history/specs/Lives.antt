@@ -19,20 +19,20 @@ pub data Life : Type 0 where
   Gone : Life
   Live : Session → Credential → List ℕ → Life
   Raised : Session → Credential → Life
-  Kept : Credential → List ℕ → Life
+  SavedBy : Credential → List ℕ → Life
 
 abbrev pub isGone : Life → Bool
 isGone Gone = true
 isGone (Live s c ns) = false
 isGone (Raised s c) = false
-isGone (Kept c ns) = false
+isGone (SavedBy c ns) = false
 
 -- the numbers that passed since the start, the last first, and how many they are
 unfoldable pub passed : Life → List ℕ
 passed Gone = []
 passed (Live s c ns) = ns
 passed (Raised s c) = []
-passed (Kept c ns) = ns
+passed (SavedBy c ns) = ns
 
 abbrev pub count : Life → ℕ
 count life = length (passed life)
@@ -52,7 +52,7 @@ counts s Elevated life = life
 counts s (ByUser u) Gone = Gone
 counts s (ByUser u) (Live t d ns) = Live t d (cond (isUserOf s (u .credential) t d) (u .number ∷ ns) ns)
 counts s (ByUser u) (Raised t d) = Raised t d
-counts s (ByUser u) (Kept d ns) = Kept d ns
+counts s (ByUser u) (SavedBy d ns) = SavedBy d ns
 
 unfoldable pub charges : Protection → Life → Life
 charges Free life = life

@@ -15,7 +15,7 @@ use Rattle.module_state.specs.Numbers as No
 use Rattle.module_state.specs.declared.State.{State}
 use Rattle.module_state.specs.declared.UserClaim.{UserClaim}
 use Rattle.module_rules.specs.Facts.{processes}
-use Rattle.history.specs.Lives.{Life, Gone, Live, Raised, Kept, isGone, passed, count, Event, told}
+use Rattle.history.specs.Lives.{Life, Gone, Live, Raised, SavedBy, isGone, passed, count, Event, told}
 use Rattle.history.specs.Demand.{IsPassedOf, IsClaimOf, Demand3}
 
 -- a life without the numbers that passed before
@@ -23,7 +23,7 @@ abbrev pub bare : Life → Life
 bare Gone = Gone
 bare (Live s c ns) = Live s c []
 bare (Raised s c) = Raised s c
-bare (Kept c ns) = Kept c []
+bare (SavedBy c ns) = SavedBy c []
 
 -- what is told of each name where only the events count: the numbers that passed since
 abbrev pub toldSince : (Name → Life) → List Event → Name → Life

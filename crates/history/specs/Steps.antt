@@ -15,7 +15,7 @@ use Rattle.module_state.specs.declared.Claim.the-variants.{ByUser}
 use Rattle.module_state.specs.declared.State.{State}
 use Rattle.module_state.specs.declared.UserClaim.{UserClaim}
 use Rattle.module_rules.specs.Facts.{processes, Rules}
-use Rattle.history.specs.Lives.{Life, Gone, Live, Raised, Kept, isGone, count, tellsPassed, Event, withClaim, onward}
+use Rattle.history.specs.Lives.{Life, Gone, Live, Raised, SavedBy, isGone, count, tellsPassed, Event, withClaim, onward}
 use Rattle.history.specs.Demand.{Carries, look}
 
 -- a life after one that had these numbers
@@ -23,7 +23,7 @@ abbrev pub onto : List ℕ → Life → Life
 onto old Gone = Gone
 onto old (Live s c ns) = Live s c (ns ++ old)
 onto old (Raised s c) = Raised s c
-onto old (Kept c ns) = Kept c (ns ++ old)
+onto old (SavedBy c ns) = SavedBy c (ns ++ old)
 
 pub record Step (before : State) (e : Event) (next : State) : Type 0 where
   -- demand 3's rules stay

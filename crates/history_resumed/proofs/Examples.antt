@@ -14,7 +14,7 @@ use Rattle.module_state.specs.declared.State.{State}
 use Rattle.calls.specs.Calls.{Call, Open, Close, Drop, Select, Start, Continue, Elevate, End, Record, Kill, number, fresh}
 use Rattle.calls.specs.Run.{step, run}
 use Rattle.calls.proofs.Sequences.{P, Q, R, session, credential, class, userYes, yes′, Step, _⇒_, callsOf, Answered, after}
-use Rattle.history.specs.Lives.{Life, Gone, Live, Kept, count, Event, told}
+use Rattle.history.specs.Lives.{Life, Gone, Live, SavedBy, count, Event, told}
 use Rattle.history.specs.History.{history}
 use Rattle.history.specs.Since.{toldSince, isNew}
 use Rattle.history.proofs.Examples.{lives}
@@ -72,7 +72,7 @@ read calls = cond (isNew (history (restored image) calls) P) 0 (count (toldBy im
 
 pub record Examples : Type 0 where
   pub accepted-is : isImage image ≡ true
-  pub told-first : toldBy image P ≡ Kept (credential 0) (2 ∷ 1 ∷ 0 ∷ [])
+  pub told-first : toldBy image P ≡ SavedBy (credential 0) (2 ∷ 1 ∷ 0 ∷ [])
   pub told-other : toldBy image Q ≡ Gone
   pub numbers-are : map (λ (e : Event). e .answered) (history (restored image) again) ≡ 0 ∷ 0 ∷ 0 ∷ 9 ∷ 0 ∷ 9 ∷ 0 ∷ 0 ∷ 9 ∷ 0 ∷ []
   pub after-continue : Told continued (Live (session 0) (credential 0) (3 ∷ 2 ∷ 1 ∷ 0 ∷ [])) (Live (session 0) (credential 0) (3 ∷ [])) false
@@ -102,9 +102,9 @@ abbrev kept : List Call
 kept = continued ++ (End (session 0) (userYes 0 4) true ∷ Start (session 0) (credential 0) Q ∷ recorded 0 ∷ [])
 
 pub record Cycled : Type 0 where
-  pub of-P : told (toldBy image) (history (restored image) kept) P ≡ Kept (credential 0) (4 ∷ 3 ∷ 2 ∷ 1 ∷ 0 ∷ [])
+  pub of-P : told (toldBy image) (history (restored image) kept) P ≡ SavedBy (credential 0) (4 ∷ 3 ∷ 2 ∷ 1 ∷ 0 ∷ [])
   pub of-Q : told (toldBy image) (history (restored image) kept) Q ≡ Live (session 0) (credential 0) (0 ∷ [])
-  pub then-P : toldBy (stateImage (run (restored image) kept)) P ≡ Kept (credential 0) (4 ∷ 3 ∷ 2 ∷ 1 ∷ 0 ∷ [])
+  pub then-P : toldBy (stateImage (run (restored image) kept)) P ≡ SavedBy (credential 0) (4 ∷ 3 ∷ 2 ∷ 1 ∷ 0 ∷ [])
   pub then-Q : toldBy (stateImage (run (restored image) kept)) Q ≡ Gone
 
 pub cycled : Cycled

@@ -32,7 +32,7 @@ use Rattle.module_state.specs.declared.UserClaim.{UserClaim}
 use Rattle.calls.specs.Calls.{Call, fresh}
 use Rattle.calls.specs.Run.{run}
 use Rattle.module_rules.specs.Facts.{processes, isRunning, Owned, Rules, IsState}
-use Rattle.history.specs.Lives.{Life, Gone, Live, Raised, Kept, passed, count, follow, told, nobody, down}
+use Rattle.history.specs.Lives.{Life, Gone, Live, Raised, SavedBy, passed, count, follow, told, nobody, down}
 use Rattle.history.specs.History.{history}
 use Rattle.history.specs.Demand.{life, lifeOf, look, Tells}
 use Rattle.history.specs.Since.{isNew, Demand3From, IsClaimFrom}
@@ -68,7 +68,7 @@ module _ (b : List ℕ) (g : Bytes b) (e : isImage b ≡ true) where
   pub image-tells : Tells (toldBy b) (restored b)
   image-tells = tells-by b (image-state b g e .rules)
 
-  rows-tell : Each (λ r. toldBy b (r .name) ≡ Kept (r .owner) (down (r .next))) (savedIn b)
+  rows-tell : Each (λ r. toldBy b (r .name) ≡ SavedBy (r .owner) (down (r .next))) (savedIn b)
   unfolding savedProcess
   rows-tell = each-unmap savedProcess (savedIn b) (subst (λ l. Each (λ p. toldBy b (p .name) ≡ lifeOf p) l) (stands-is b) (image-tells .stands))
 
@@ -167,9 +167,9 @@ module _ (first : State) (v : IsState first) (tell : Name → Life) (tells : Tel
       above Gone is turn = each-nil
       above (Live t d ns) is turn = absurd (not-gone (rw is))
       above (Raised t d) is turn = each-nil
-      above (Kept d ns) is turn =
+      above (SavedBy d ns) is turn =
           let low : count (toldBy image name) ≤ u .number = after .not-below old in
-          let kept : toldBy image name ≡ Kept d ns = told-through name ∙ rw is in
+          let kept : toldBy image name ≡ SavedBy d ns = told-through name ∙ rw is in
           subst (λ (l : List ℕ). Each (λ n. n < u .number) l) (sym turn) (down-below (length ns) (u .number) (rw kept at low))
 
       -- so of a process that was saved then, no number that passed before passes after

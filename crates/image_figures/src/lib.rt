@@ -1,4 +1,4 @@
-// What an image holds, in figures, and the line that a piece of a drawer gets: document 02, order 6. docs/FIGURES.md tells how the desk uses it.
+// What an image holds, in figures, and the line that a sheet of a drawer gets: document 02, order 6. docs/FIGURES.md tells how the desk uses it.
 ghost use mathlib.Core.Path.{_≡_};
 ghost use mathlib.Core.Bool.{true};
 ghost use Rattle.image.specs.Image.{savedAmong, isImage, imageTest, SavedLie};
@@ -79,7 +79,7 @@ fn figures_in(b: &[u8], tested: ImageTest) -> Figures
     }
 }
 
-// ---- a piece of a drawer: of a length, and of the image after it, the bytes that are there
+// ---- a sheet of a drawer: of a length, and of the image after it, the bytes that are there
 
 // How many bytes are to follow; none where the length is not whole.
 pub fn size_said(said: &[u8]) -> u16

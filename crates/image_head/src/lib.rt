@@ -14,6 +14,7 @@ use image::WORD_SIZE;
 use image::WORDS_AT;
 use module_state::CREDENTIALS;
 use module_state::Grants;
+use module_state::UNPROVISIONED;
 use table::PLACES;
 
 // ---- the numbers
@@ -66,11 +67,7 @@ fn read_words(b: &[u8]) -> [u32; CREDENTIALS]
 fn grants_said(mask: u16, words: [u32; CREDENTIALS]) -> [Grants; CREDENTIALS]
     ensures { λ r. ⌜ r ≡ grantsSaid mask words ⌝ }
 {
-    let none = Grants {
-        provisioned: false,
-        word: 0,
-    };
-    let mut grants = [none; CREDENTIALS];
+    let mut grants = [UNPROVISIONED; CREDENTIALS];
     let mut left = mask;
     let mut i: usize = 0;
     while i < CREDENTIALS {

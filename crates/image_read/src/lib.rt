@@ -16,6 +16,7 @@ use module_state::Phase;
 use module_state::SESSIONS;
 use module_state::SessionState;
 use module_state::State;
+use module_state::UNPROVISIONED;
 use names::Credential;
 use names::Kind;
 use names::Session;
@@ -93,14 +94,10 @@ pub fn read_image(b: &[u8]) -> ImageRead
 {
     let tested = image_test::test_image(b);
     if !tested.fits {
-        let none = Grants {
-            provisioned: false,
-            word: 0,
-        };
         let empty = table::empty();
         return ImageRead {
             fits: false,
-            state: module_of([none; CREDENTIALS], empty),
+            state: module_of([UNPROVISIONED; CREDENTIALS], empty),
         };
     }
     let head = tested.head;

@@ -51,6 +51,10 @@ message = 14
 abbrev pub room : ℕ
 room = 15
 
+-- the last of them
+abbrev pub last : ℕ
+last = room
+
 -- "Each is given exactly on its condition, at its place in the order."
 infix 25 _when_
 infix 25 _unless_

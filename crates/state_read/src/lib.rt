@@ -12,6 +12,7 @@ use module_state::Phase;
 use module_state::SESSIONS;
 use module_state::SessionState;
 use module_state::State;
+use module_state::UNPROVISIONED;
 use names::Credential;
 use names::ELEVATION_TYPE;
 use names::Kind;
@@ -79,10 +80,7 @@ fn read_sessions(s: &[u8]) -> [SessionState; SESSIONS]
 fn unprovisioned() -> Grants
     ensures { λ r. ⌜ r ≡ unprovisioned ⌝ }
 {
-    Grants {
-        provisioned: false,
-        word: 0,
-    }
+    UNPROVISIONED
 }
 
 fn grants_of(row: &[u8]) -> Grants

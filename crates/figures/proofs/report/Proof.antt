@@ -15,8 +15,8 @@ no-totals-requires c κs = search rules
 loop-holds : tie.Need-loop-holds Inv-loop μ-loop
 loop-holds c = search rules
 
-read-piece-requires : tie.Need-read-piece-requires Inv-loop μ-loop
-read-piece-requires c κs = search rules
+read-sheet-requires : tie.Need-read-sheet-requires Inv-loop μ-loop
+read-sheet-requires c κs = search rules
 
 take-turn-requires : tie.Need-take-turn-requires Inv-loop μ-loop
 take-turn-requires c κs = search rules
@@ -44,7 +44,7 @@ report-spec =
     μ-loop
     no-totals-requires
     loop-holds
-    read-piece-requires
+    read-sheet-requires
     take-turn-requires
     loop-less
     loop-again

@@ -1,7 +1,7 @@
 -- written by tools/scaffold, which keeps the answers that are not a plain search
 use Rattle.figures.proofs.Rules.{rules}
-use Rattle.figures.proofs.read_piece.Statement.{statement}
-use Rattle.figures.proofs.read_piece.Tie as tie
+use Rattle.figures.proofs.read_sheet.Statement.{statement}
+use Rattle.figures.proofs.read_sheet.Tie as tie
 
 fill-requires : tie.Need-fill-requires
 fill-requires c κs = search rules
@@ -36,8 +36,8 @@ same-length-2 c = search rules
 returns : tie.Need-returns
 returns c = search rules
 
-pub read-piece-spec : {M : Type 1} → statement M
-read-piece-spec =
+pub read-sheet-spec : {M : Type 1} → statement M
+read-sheet-spec =
     tie.close
     (tie.spec
     fill-requires
