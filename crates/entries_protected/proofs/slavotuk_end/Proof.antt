@@ -30,8 +30,8 @@ user-claim-of-requires c κs = search rules
 end-requires : tie.Need-end-requires
 end-requires c κs = search rules
 
-store-requires : tie.Need-store-requires
-store-requires c κs = search rules
+put-back-requires : tie.Need-put-back-requires
+put-back-requires c κs = search rules
 
 same-length-2 : tie.Need-same-length-2
 same-length-2 c = search rules
@@ -52,6 +52,6 @@ slavotuk-end-spec =
     session-of-requires
     user-claim-of-requires
     end-requires
-    store-requires
+    put-back-requires
     same-length-2
     returns-2)

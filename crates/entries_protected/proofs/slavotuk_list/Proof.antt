@@ -33,8 +33,8 @@ wanted-of-requires c κs = search rules
 list-requires : tie.Need-list-requires
 list-requires c κs = search rules
 
-store-requires : tie.Need-store-requires
-store-requires c κs = search rules
+put-back-requires : tie.Need-put-back-requires
+put-back-requires c κs = search rules
 
 same-length-2 : tie.Need-same-length-2
 same-length-2 c = search rules
@@ -59,7 +59,7 @@ slavotuk-list-spec =
     claim-of-requires
     wanted-of-requires
     list-requires
-    store-requires
+    put-back-requires
     same-length-2
     same-length-3
     returns-2)

@@ -33,8 +33,8 @@ credential-of-requires c κs = search rules
 set-word-requires : tie.Need-set-word-requires
 set-word-requires c κs = search rules
 
-store-requires : tie.Need-store-requires
-store-requires c κs = search rules
+put-back-requires : tie.Need-put-back-requires
+put-back-requires c κs = search rules
 
 same-length-2 : tie.Need-same-length-2
 same-length-2 c = search rules
@@ -56,6 +56,6 @@ slavotuk-set-word-spec =
     claim-of-requires
     credential-of-requires
     set-word-requires
-    store-requires
+    put-back-requires
     same-length-2
     returns-2)

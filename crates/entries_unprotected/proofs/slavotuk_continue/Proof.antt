@@ -30,8 +30,8 @@ credential-of-requires c κs = search rules
 continue-saved-requires : tie.Need-continue-saved-requires
 continue-saved-requires c κs = search rules
 
-store-requires : tie.Need-store-requires
-store-requires c κs = search rules
+put-back-requires : tie.Need-put-back-requires
+put-back-requires c κs = search rules
 
 same-length-2 : tie.Need-same-length-2
 same-length-2 c = search rules
@@ -52,6 +52,6 @@ slavotuk-continue-spec =
     session-of-requires
     credential-of-requires
     continue-saved-requires
-    store-requires
+    put-back-requires
     same-length-2
     returns-2)

@@ -24,8 +24,8 @@ session-of-requires c κs = search rules
 drop-elevation-requires : tie.Need-drop-elevation-requires
 drop-elevation-requires c κs = search rules
 
-store-requires : tie.Need-store-requires
-store-requires c κs = search rules
+put-back-requires : tie.Need-put-back-requires
+put-back-requires c κs = search rules
 
 same-length-2 : tie.Need-same-length-2
 same-length-2 c = search rules
@@ -44,6 +44,6 @@ slavotuk-drop-spec =
     read-requires
     session-of-requires
     drop-elevation-requires
-    store-requires
+    put-back-requires
     same-length-2
     returns-2)

@@ -27,8 +27,8 @@ byte-of-requires c κs = search rules
 select-version-requires : tie.Need-select-version-requires
 select-version-requires c κs = search rules
 
-store-requires : tie.Need-store-requires
-store-requires c κs = search rules
+put-back-requires : tie.Need-put-back-requires
+put-back-requires c κs = search rules
 
 same-length-2 : tie.Need-same-length-2
 same-length-2 c = search rules
@@ -48,6 +48,6 @@ slavotuk-select-spec =
     session-of-requires
     byte-of-requires
     select-version-requires
-    store-requires
+    put-back-requires
     same-length-2
     returns-2)

@@ -30,8 +30,8 @@ credential-of-requires c κs = search rules
 start-requires : tie.Need-start-requires
 start-requires c κs = search rules
 
-store-requires : tie.Need-store-requires
-store-requires c κs = search rules
+put-back-requires : tie.Need-put-back-requires
+put-back-requires c κs = search rules
 
 same-length-2 : tie.Need-same-length-2
 same-length-2 c = search rules
@@ -52,6 +52,6 @@ slavotuk-start-spec =
     session-of-requires
     credential-of-requires
     start-requires
-    store-requires
+    put-back-requires
     same-length-2
     returns-2)
