@@ -7,9 +7,9 @@ use Rattle.module_state.specs.Numbers as No
 use Rattle.calls.specs.Calls.{Call}
 use Rattle.calls.proofs.Facts.{small-unless, small-then, number-small}
 use Rattle.state_layout.specs.Layout.{stateOf}
-use Rattle.entries_call.specs.Called.{holdsNumber, entryNumber, Called}
+use Rattle.entries_call.specs.CallEntry.{holdsNumber, entryNumber, CallEntry}
 
-pub entry-small : {fine : Bool} {before after : List ℕ} {call : Call} {answer : ℕ} → Called fine before call answer after → answer ≤ No.last
+pub entry-small : {fine : Bool} {before after : List ℕ} {call : Call} {answer : ℕ} → CallEntry fine before call answer after → answer ≤ No.last
 unfolding entryNumber
 entry-small {before = before} {call = call} e = rw (e .number-is) (small-then _ _ (small-unless 1 _ tt) (number-small (stateOf before) call))
 

@@ -16,17 +16,17 @@ use Rattle.calls.proofs.Cut.{left-free}
 use Rattle.calls.proofs.Laws.{outcome-done, outcome-refused, refusal-leaves, answer-number}
 use Rattle.state_layout.specs.Layout.{stateOf, stateBytes, holdsState, stateWritten}
 use Rattle.state_layout.proofs.Laws.{holds-shape, one-form, state-written}
-use Rattle.entries_call.specs.Called.{isMade, Ready, entryNumber, entryBytes, Called}
+use Rattle.entries_call.specs.CallEntry.{isMade, Ready, entryNumber, entryBytes, CallEntry}
 use Rattle.entries_call.specs.PutBack.{mayChange, bytesPutBack, PutBack}
 
 -- ---- a call on a slice
 module _ (fine : Bool) (before : List ℕ) (call : Call) where
-  pub entry-none : isMade fine before ≡ false → Called fine before call 1 before
+  pub entry-none : isMade fine before ≡ false → CallEntry fine before call 1 before
   unfolding entryNumber entryBytes _unless_ _▸_
   entry-none z = record { number-is = rw z; bytes-are = rw z }
 
   pub entry-made : isMade fine before ≡ true → {answer : ℕ} {after : List ℕ} → answer ≡ number (stateOf before) call
-      → after ≡ stateBytes (outcome (stateOf before) call .state) → Called fine before call answer after
+      → after ≡ stateBytes (outcome (stateOf before) call .state) → CallEntry fine before call answer after
   unfolding entryNumber entryBytes _unless_ _▸_
   entry-made z e w = record { number-is = e ∙ rw z; bytes-are = w ∙ rw z }
 
@@ -61,11 +61,11 @@ module _ {tested h : Bool} {before : List ℕ} (e : Ready tested before h) (n : 
 
 -- ---- an entry: refused for its arguments or for the slice, or as the call answers
 module _ {tested : Bool} (fine : Bool) (f : tested ≡ fine) (before : List ℕ) (call : Call) {h : Bool} (e : Ready tested before h) where
-  pub call-none : not h ≡ true → Called fine before call 1 before
+  pub call-none : not h ≡ true → CallEntry fine before call 1 before
   call-none n = entry-none fine before call (rw (← f) (sym (e .is) ∙ not-true h n))
 
   pub call-made : {st : State} {other : Call} {o : Outcome} {r : ℕ} {after : List ℕ}
-      → not h ≡ false → st ≡ stateOf before → o ≡ outcome st other → other ≡ call → PutBack before o r after → Called fine before call r after
+      → not h ≡ false → st ≡ stateOf before → o ≡ outcome st other → other ≡ call → PutBack before o r after → CallEntry fine before call r after
   call-made {st} {other} {o} {r} {after} n s q w v =
       let a : o ≡ outcome (stateOf before) call = rw (← s, ← w) q in
       entry-made fine before call (rw (← f) (sym (e .is) ∙ not-false h n))

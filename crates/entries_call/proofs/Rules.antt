@@ -13,7 +13,7 @@ use Rattle.calls.specs.declared.Answer.{Answer}
 use Rattle.calls.specs.declared.Answer.the-variants.{Done, Refused, RefusedClaim}
 use Rattle.calls.specs.declared.Outcome.{Outcome}
 use Rattle.state_layout.specs.Layout.{holdsState, stateWritten}
-use Rattle.entries_call.specs.Called.{isMade, Ready}
+use Rattle.entries_call.specs.CallEntry.{isMade, Ready}
 use Rattle.entries_call.specs.PutBack.{mayChange, bytesPutBack, PutBack}
 
 -- ---- whether a call is made

@@ -1,2 +1,2 @@
-pub mod Called
+pub mod CallEntry
 pub mod PutBack

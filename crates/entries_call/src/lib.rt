@@ -1,6 +1,6 @@
 // What every entry begins and ends with: whether its call is made on a slice; and what the call made of the state, put back into the slice that it was read from.
 ghost use mathlib.Core.Path.{_≡_};
-ghost use Rattle.entries_call.specs.Called.{Ready};
+ghost use Rattle.entries_call.specs.CallEntry.{Ready};
 ghost use Rattle.entries_call.specs.PutBack.{mayChange, PutBack};
 use calls::Answer;
 use calls::Outcome;

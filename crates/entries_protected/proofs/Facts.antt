@@ -26,7 +26,7 @@ use Rattle.state_layout.specs.Layout.{stateOf, holdsState}
 use Rattle.state_layout.proofs.Laws.{holds-is}
 use Rattle.listing_call.proofs.Laws.{rows-fit, rows-of}
 use Rattle.listing_call.proofs.Back.{ReadsAs, listed-back}
-use Rattle.entries_call.specs.Called.{isMade, entryNumber}
+use Rattle.entries_call.specs.CallEntry.{isMade, entryNumber}
 use Rattle.entries_protected.specs.Listing.{entryResponse, entryLength, ListEntry}
 
 module _ {fine : Bool} {before old after new : List ℕ} {s : Session} {claim : Claim} {wanted : Wanted} {long : ℕ} (bytes : Bytes before) (e : ListEntry fine before s claim wanted old 0 after new long) where

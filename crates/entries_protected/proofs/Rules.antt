@@ -19,7 +19,7 @@ use Rattle.calls.specs.declared.Listed.{Listed}
 use Rattle.calls.specs.declared.Wanted.{Wanted}
 use Rattle.state_layout.specs.Layout.{stateOf}
 use Rattle.listing_messages.specs.Wire.{listedBytes}
-use Rattle.entries_call.specs.Called.{isMade, Ready, Called}
+use Rattle.entries_call.specs.CallEntry.{isMade, Ready, CallEntry}
 use Rattle.entries_call.proofs.Laws.{entry-none}
 use Rattle.entries_call.specs.PutBack.{PutBack}
 use Rattle.entries_call.proofs.Laws.{call-none, call-made}
@@ -28,13 +28,13 @@ use Rattle.entries_protected.specs.Listing.{entryResponse, entryLength, 
 
 -- ---- a record, which tests the slice itself
 module _ {tested : Bool} (fine : Bool) (f : tested ≡ fine) (before : List ℕ) where
-  pub record-unclaimed : (call : Call) → not tested ≡ true → Called fine before call 1 before
+  pub record-unclaimed : (call : Call) → not tested ≡ true → CallEntry fine before call 1 before
   unfolding isMade
   record-unclaimed call n = entry-none fine before call (rw (← f, not-true tested n))
 
   pub record-claimed : (s : Session) (claim : Claim) (class : Class) {s₁ : Session} {claim₁ : Claim} {class₁ : Class} {r : ℕ} {after : List ℕ}
-      → not tested ≡ false → s₁ ≡ s → claim₁ ≡ claim → class₁ ≡ class → Called true before (Record s₁ claim₁ class₁) r after
-      → Called fine before (Record s claim class) r after
+      → not tested ≡ false → s₁ ≡ s → claim₁ ≡ claim → class₁ ≡ class → CallEntry true before (Record s₁ claim₁ class₁) r after
+      → CallEntry fine before (Record s claim class) r after
   record-claimed s claim class n a b c v = rw (← f, not-false tested n, ← a, ← b, ← c) v
 
 -- ---- the listing

@@ -2,7 +2,7 @@
 ghost use mathlib.Core.Bool.{_&&_};
 ghost use Rattle.names.specs.Names.{readName};
 ghost use Rattle.calls.specs.Calls.{End, Record, Kill, SetWord};
-ghost use Rattle.entries_call.specs.Called.{Called};
+ghost use Rattle.entries_call.specs.CallEntry.{CallEntry};
 ghost use Rattle.entries_arguments.specs.Arguments.{sessionOf, classOf, credentialOf, wantedOf, isFlag, flagOf, userClaimOf, claimOf, isClaimed};
 ghost use Rattle.entries_protected.specs.Listing.{ListEntry};
 use module_state::ARGUMENT;
@@ -16,7 +16,7 @@ pub extern "C" fn slavotuk_end(
     verdict: u32,
     keep: u32,
 ) -> u32
-    ensures { λ r. ⌜ Called (isFlag verdict && isFlag keep) (now (state .entry)) (End (sessionOf session) (userClaimOf credential number verdict) (flagOf keep)) r (now (state .exit)) ⌝ }
+    ensures { λ r. ⌜ CallEntry (isFlag verdict && isFlag keep) (now (state .entry)) (End (sessionOf session) (userClaimOf credential number verdict) (flagOf keep)) r (now (state .exit)) ⌝ }
 {
     if !entries_call::is_ready(entries_arguments::are_flags(verdict, keep), state) {
         return ARGUMENT as u32;
@@ -43,7 +43,7 @@ pub extern "C" fn slavotuk_record(
     verdict: u32,
     class: u32,
 ) -> u32
-    ensures { λ r. ⌜ Called (isClaimed kind verdict) (now (state .entry)) (Record (sessionOf session) (claimOf kind credential number verdict) (classOf class)) r (now (state .exit)) ⌝ }
+    ensures { λ r. ⌜ CallEntry (isClaimed kind verdict) (now (state .entry)) (Record (sessionOf session) (claimOf kind credential number verdict) (classOf class)) r (now (state .exit)) ⌝ }
 {
     if !entries_arguments::is_claimed(kind, verdict) {
         return ARGUMENT as u32;
@@ -97,7 +97,7 @@ pub extern "C" fn slavotuk_kill(
     verdict: u32,
     name: &[u8],
 ) -> u32
-    ensures { λ r. ⌜ Called (readName (now (name .entry)) .fits && isClaimed kind verdict) (now (state .entry)) (Kill (sessionOf session) (claimOf kind credential number verdict) (readName (now (name .entry)) .name)) r (now (state .exit)) ⌝ }
+    ensures { λ r. ⌜ CallEntry (readName (now (name .entry)) .fits && isClaimed kind verdict) (now (state .entry)) (Kill (sessionOf session) (claimOf kind credential number verdict) (readName (now (name .entry)) .name)) r (now (state .exit)) ⌝ }
 {
     let read = names::read_name(name);
     if !entries_call::is_ready(
@@ -129,7 +129,7 @@ pub extern "C" fn slavotuk_set_word(
     target: u32,
     word: u32,
 ) -> u32
-    ensures { λ r. ⌜ Called (isClaimed kind verdict) (now (state .entry)) (SetWord (sessionOf session) (claimOf kind credential number verdict) (credentialOf target) word) r (now (state .exit)) ⌝ }
+    ensures { λ r. ⌜ CallEntry (isClaimed kind verdict) (now (state .entry)) (SetWord (sessionOf session) (claimOf kind credential number verdict) (credentialOf target) word) r (now (state .exit)) ⌝ }
 {
     if !entries_call::is_ready(entries_arguments::is_claimed(kind, verdict), state) {
         return ARGUMENT as u32;

@@ -25,7 +25,7 @@ use Rattle.calls.proofs.Cut.{outcome-stopped}
 use Rattle.state_layout.specs.Layout.{stateOf, stateBytes, holdsState}
 use Rattle.state_layout.proofs.InPlace.{next-held}
 use Rattle.state_layout.proofs.Laws.{one-form}
-use Rattle.entries_call.specs.Called.{Ready}
+use Rattle.entries_call.specs.CallEntry.{Ready}
 use Rattle.entries_call.proofs.Laws.{made-holds}
 use Rattle.entries_record.specs.Recorded.{countedIn}
 

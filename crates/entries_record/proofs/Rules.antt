@@ -23,7 +23,7 @@ use Rattle.calls.specs.Calls.{Record, protection, recordTests, asked, number, e
 use Rattle.calls.proofs.Cut.{only-counted, passed-by}
 use Rattle.calls.proofs.Rules.{claim-place, next-fits, record-number, rules as call-rules}
 use Rattle.state_layout.specs.Layout.{stateOf, stateBytes, nextWritten}
-use Rattle.entries_call.specs.Called.{Ready, Called}
+use Rattle.entries_call.specs.CallEntry.{Ready, CallEntry}
 use Rattle.entries_call.proofs.Laws.{entry-none, entry-made, made-holds}
 use Rattle.entries_record.specs.Recorded.{countedIn}
 use Rattle.entries_record.proofs.Laws.{stopped-bytes, counted-held}
@@ -55,7 +55,7 @@ module _ (b : List ℕ) (s : Session) {claim : Claim} where
 
 -- ---- the record
 module _ (b : List ℕ) (s : Session) (claim : Claim) (class : Class) {h : Bool} (e : Ready true b h) where
-  pub record-none : not h ≡ true → Called true b (Record s claim class) 1 b
+  pub record-none : not h ≡ true → CallEntry true b (Record s claim class) 1 b
   record-none k = entry-none true b (Record s claim class) (sym (e .is) ∙ not-true h k)
 
   module _ (k : not h ≡ false) {by : Checked} (a : by ≡ checked (stateOf b) s claim) {n : ℕ} (c : n ≡ asked (recordTests class) by) where
@@ -68,10 +68,10 @@ module _ (b : List ℕ) (s : Session) (claim : Claim) (class : Class) {h : Bool}
       unfolding protection
       passed = y ∙ ap (passedBy by) q ∙ passed-by (stateOf b) (Record s claim class) refl a
 
-      pub record-stopped : p ≡ false → Called true b (Record s claim class) n b
+      pub record-stopped : p ≡ false → CallEntry true b (Record s claim class) n b
       record-stopped z = entry-made true b (Record s claim class) (sym (e .is) ∙ not-false h k) q (sym (stopped-bytes e k (Record s claim class) (sym passed ∙ z)))
 
-      pub record-passed : {after : List ℕ} → p ≡ true → after ≡ countedIn b s claim → Called true b (Record s claim class) n after
+      pub record-passed : {after : List ℕ} → p ≡ true → after ≡ countedIn b s claim → CallEntry true b (Record s claim class) n after
       unfolding protection effect
       record-passed z w =
           entry-made true b (Record s claim class) (sym (e .is) ∙ not-false h k) q

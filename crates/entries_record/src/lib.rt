@@ -4,7 +4,7 @@ ghost use mathlib.Core.Bool.{true};
 ghost use Rattle.module_state.specs.Claim.{checked};
 ghost use Rattle.calls.specs.Calls.{Record};
 ghost use Rattle.state_layout.specs.Layout.{stateOf};
-ghost use Rattle.entries_call.specs.Called.{Called};
+ghost use Rattle.entries_call.specs.CallEntry.{CallEntry};
 ghost use Rattle.entries_record.specs.Recorded.{countedIn};
 use module_state::ARGUMENT;
 use module_state::Checked;
@@ -40,7 +40,7 @@ fn check(state: &[u8], s: Session, claim: Claim) -> Checked
 // The number of a record. Where its claim passed, refused afterwards or not, and is a user's, its process's next number is one more. A slice that holds no state
 // is refused.
 pub fn record(state: &mut [u8], s: Session, claim: Claim, class: Class) -> u8
-    ensures { λ r. ⌜ Called true (now (state .entry)) (Record s claim class) r (now (state .exit)) ⌝ }
+    ensures { λ r. ⌜ CallEntry true (now (state .entry)) (Record s claim class) r (now (state .exit)) ⌝ }
 {
     if !entries_call::is_ready(true, state) {
         return ARGUMENT;

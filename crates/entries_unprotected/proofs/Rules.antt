@@ -21,7 +21,7 @@ use Rattle.module_state.specs.declared.State.{State}
 use Rattle.calls.specs.Calls.{Open, Close, Select, Start, Continue, Elevate, Drop, fresh}
 use Rattle.state_layout.specs.Layout.{stateLength, stateWritten, holdsState}
 use Rattle.state_layout.proofs.Laws.{state-written}
-use Rattle.entries_call.specs.Called.{holdsNumber}
+use Rattle.entries_call.specs.CallEntry.{holdsNumber}
 use Rattle.entries_call.proofs.Laws.{call-none, call-made}
 use Rattle.entries_arguments.specs.Arguments.{pairsOf, arePairs}
 use Rattle.entries_arguments.proofs.Rules.{fine-fits, fine-both}

@@ -7,7 +7,7 @@ ghost use Rattle.rows.specs.Bytes.{byteOf};
 ghost use Rattle.names.specs.Names.{readName};
 ghost use Rattle.module_state.specs.Module.{credentialCount};
 ghost use Rattle.calls.specs.Calls.{Open, Close, Select, Start, Continue, Elevate, Drop};
-ghost use Rattle.entries_call.specs.Called.{holdsNumber, Called};
+ghost use Rattle.entries_call.specs.CallEntry.{holdsNumber, CallEntry};
 ghost use Rattle.entries_arguments.specs.Arguments.{sessionOf, credentialOf, isFlag, flagOf, pairsOf};
 ghost use Rattle.entries_unprotected.specs.Fresh.{FreshEntry};
 ghost use Rattle.entries_unprotected.specs.Version.{libraryVersion};
@@ -22,7 +22,7 @@ use state_layout::STATE_LENGTH;
 
 #[no_mangle]
 pub extern "C" fn slavotuk_open(state: &mut [u8], session: u32) -> u32
-    ensures { λ r. ⌜ Called true (now (state .entry)) (Open (sessionOf session)) r (now (state .exit)) ⌝ }
+    ensures { λ r. ⌜ CallEntry true (now (state .entry)) (Open (sessionOf session)) r (now (state .exit)) ⌝ }
 {
     if !entries_call::is_ready(true, state) {
         return ARGUMENT as u32;
@@ -36,7 +36,7 @@ pub extern "C" fn slavotuk_open(state: &mut [u8], session: u32) -> u32
 
 #[no_mangle]
 pub extern "C" fn slavotuk_close(state: &mut [u8], session: u32) -> u32
-    ensures { λ r. ⌜ Called true (now (state .entry)) (Close (sessionOf session)) r (now (state .exit)) ⌝ }
+    ensures { λ r. ⌜ CallEntry true (now (state .entry)) (Close (sessionOf session)) r (now (state .exit)) ⌝ }
 {
     if !entries_call::is_ready(true, state) {
         return ARGUMENT as u32;
@@ -50,7 +50,7 @@ pub extern "C" fn slavotuk_close(state: &mut [u8], session: u32) -> u32
 
 #[no_mangle]
 pub extern "C" fn slavotuk_select(state: &mut [u8], session: u32, version: u32) -> u32
-    ensures { λ r. ⌜ Called true (now (state .entry)) (Select (sessionOf session) (byteOf version)) r (now (state .exit)) ⌝ }
+    ensures { λ r. ⌜ CallEntry true (now (state .entry)) (Select (sessionOf session) (byteOf version)) r (now (state .exit)) ⌝ }
 {
     if !entries_call::is_ready(true, state) {
         return ARGUMENT as u32;
@@ -73,7 +73,7 @@ pub extern "C" fn slavotuk_start(
     credential: u32,
     name: &[u8],
 ) -> u32
-    ensures { λ r. ⌜ Called (readName (now (name .entry)) .fits) (now (state .entry)) (Start (sessionOf session) (credentialOf credential) (readName (now (name .entry)) .name)) r (now (state .exit)) ⌝ }
+    ensures { λ r. ⌜ CallEntry (readName (now (name .entry)) .fits) (now (state .entry)) (Start (sessionOf session) (credentialOf credential) (readName (now (name .entry)) .name)) r (now (state .exit)) ⌝ }
 {
     let read = names::read_name(name);
     if !entries_call::is_ready(read.fits, state) {
@@ -98,7 +98,7 @@ pub extern "C" fn slavotuk_continue(
     credential: u32,
     name: &[u8],
 ) -> u32
-    ensures { λ r. ⌜ Called (readName (now (name .entry)) .fits) (now (state .entry)) (Continue (sessionOf session) (credentialOf credential) (readName (now (name .entry)) .name)) r (now (state .exit)) ⌝ }
+    ensures { λ r. ⌜ CallEntry (readName (now (name .entry)) .fits) (now (state .entry)) (Continue (sessionOf session) (credentialOf credential) (readName (now (name .entry)) .name)) r (now (state .exit)) ⌝ }
 {
     let read = names::read_name(name);
     if !entries_call::is_ready(read.fits, state) {
@@ -124,7 +124,7 @@ pub extern "C" fn slavotuk_elevate(
     name: &[u8],
     verdict: u32,
 ) -> u32
-    ensures { λ r. ⌜ Called (readName (now (name .entry)) .fits && isFlag verdict) (now (state .entry)) (Elevate (sessionOf session) (credentialOf credential) (readName (now (name .entry)) .name) (flagOf verdict)) r (now (state .exit)) ⌝ }
+    ensures { λ r. ⌜ CallEntry (readName (now (name .entry)) .fits && isFlag verdict) (now (state .entry)) (Elevate (sessionOf session) (credentialOf credential) (readName (now (name .entry)) .name) (flagOf verdict)) r (now (state .exit)) ⌝ }
 {
     let read = names::read_name(name);
     if !entries_call::is_ready(
@@ -148,7 +148,7 @@ pub extern "C" fn slavotuk_elevate(
 
 #[no_mangle]
 pub extern "C" fn slavotuk_drop(state: &mut [u8], session: u32) -> u32
-    ensures { λ r. ⌜ Called true (now (state .entry)) (Drop (sessionOf session)) r (now (state .exit)) ⌝ }
+    ensures { λ r. ⌜ CallEntry true (now (state .entry)) (Drop (sessionOf session)) r (now (state .exit)) ⌝ }
 {
     if !entries_call::is_ready(true, state) {
         return ARGUMENT as u32;

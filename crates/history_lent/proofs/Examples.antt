@@ -25,7 +25,7 @@ use Rattle.calls.specs.declared.Wanted.the-variants.{Every}
 use Rattle.calls.proofs.Sequences.{P, Q, session, credential, Step, callsOf, Answered, after}
 use Rattle.module_rules.specs.Facts.{processes, IsState}
 use Rattle.state_layout.specs.Layout.{stateLength, stateBytes}
-use Rattle.entries_call.specs.Called.{entryNumber, entryBytes}
+use Rattle.entries_call.specs.CallEntry.{entryNumber, entryBytes}
 use Rattle.entries_arguments.specs.Arguments.{pairsOf}
 use Rattle.entries_unprotected.specs.Fresh.{canFresh}
 use Rattle.history.specs.Lives.{Life, Live, Gone, told, nobody}

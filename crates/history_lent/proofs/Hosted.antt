@@ -15,7 +15,7 @@ use Rattle.calls.specs.Calls.{Call, ListProcesses, fresh}
 use Rattle.calls.specs.Run.{step}
 use Rattle.state_layout.specs.Layout.{stateOf}
 use Rattle.state_layout.proofs.Laws.{state-back}
-use Rattle.entries_call.specs.Called.{Called}
+use Rattle.entries_call.specs.CallEntry.{CallEntry}
 use Rattle.entries_arguments.specs.Arguments.{pairsOf}
 use Rattle.entries_unprotected.specs.Fresh.{canFresh, FreshEntry}
 use Rattle.history.specs.Lives.{nobody}
@@ -34,7 +34,7 @@ use Rattle.history_lent.proofs.Theorems.{not-fine-bytes, Goes, goes-is,
 
 -- ---- an entry that is not on the list leaves the image
 module _ (w : Since) (b : Slices) (g : Goes w b) where
-  call-keeps : (fine : Bool) (call : Call) (n : ℕ) (after : List ℕ) → (fine ≡ true → Fits call) → Called fine (b .state) call n after → changesImage (stateOf (b .state)) call n ≡ false → stateImage (stateOf after) ≡ stateImage (stateOf (b .state))
+  call-keeps : (fine : Bool) (call : Call) (n : ℕ) (after : List ℕ) → (fine ≡ true → Fits call) → CallEntry fine (b .state) call n after → changesImage (stateOf (b .state)) call n ≡ false → stateImage (stateOf after) ≡ stateImage (stateOf (b .state))
   call-keeps true call n after fits e h =
       let st : State = reached w in
       let left : stateOf after ≡ step st call = ap stateOf (made-bytes w b g e) ∙ state-back (state-step st call (fits refl) (g .is) .formed) in

@@ -31,7 +31,7 @@ use Rattle.calls.proofs.Laws.{refusal-leaves}
 use Rattle.state_layout.specs.Layout.{stateLength, stateOf, stateBytes, holdsState, nextPlace, nextWritten}
 use Rattle.state_layout.proofs.Laws.{holds-shape, holds-is, one-form}
 use Rattle.listing_call.proofs.Laws.{list-refused}
-use Rattle.entries_call.specs.Called.{isMade, entryNumber, entryBytes, Called}
+use Rattle.entries_call.specs.CallEntry.{isMade, entryNumber, entryBytes, CallEntry}
 use Rattle.entries_record.specs.Recorded.{countedIn}
 use Rattle.entries_record.proofs.Laws.{inside, counted-held}
 use Rattle.entries_protected.specs.Listing.{entryResponse, entryLength, ListEntry}
@@ -93,7 +93,7 @@ module _ (b : List ℕ) (g : Bytes b) (h : holdsState b ≡ true) where
   spent-left call s u p r = rw (r, p) (one-more s u (rw p at (after-passed st call r)))
 
 -- ---- so of every entry
-module _ {fine : Bool} {before : List ℕ} {call : Call} {n : ℕ} {after : List ℕ} (g : Bytes before) (v : Called fine before call n after) (h : n ≢ 0) where
+module _ {fine : Bool} {before : List ℕ} {call : Call} {n : ℕ} {after : List ℕ} (g : Bytes before) (v : CallEntry fine before call n after) (h : n ≢ 0) where
   unmade : isMade fine before ≡ false → after ≡ before
   unfolding entryBytes
   unmade m = v .bytes-are ∙ rw m

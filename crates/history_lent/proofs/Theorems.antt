@@ -34,7 +34,7 @@ use Rattle.state_layout.proofs.Laws.{state-back, holds-written, holds-is, one-f
 use Rattle.listing_messages.specs.Wire.{rowsAmong, listedBytes}
 use Rattle.listing_messages.proofs.Laws.{length-listing}
 use Rattle.listing_call.proofs.Laws.{rows-fit}
-use Rattle.entries_call.specs.Called.{isMade, entryNumber, entryBytes, Called}
+use Rattle.entries_call.specs.CallEntry.{isMade, entryNumber, entryBytes, CallEntry}
 use Rattle.entries_arguments.specs.Arguments.{pairsOf, arePairs}
 use Rattle.entries_unprotected.specs.Fresh.{canFresh, FreshEntry}
 use Rattle.entries_protected.specs.Listing.{entryResponse, entryLength, ListEntry}
@@ -105,14 +105,14 @@ module _ (w : Since) (b : Slices) (g : Goes w b) where
   goes-state = subst IsState (sym goes-is) (g .is)
 
   -- what a call that is made answers and leaves
-  module _ {call : Call} {n : ℕ} {after : List ℕ} (e : Called true (b .state) call n after) where
+  module _ {call : Call} {n : ℕ} {after : List ℕ} (e : CallEntry true (b .state) call n after) where
     pub made-number : n ≡ number (reached w) call
     made-number = e .number-is ∙ ap (λ x. entryNumber true x call) (g .bytes) ∙ fine-number st (g .is) call
 
     pub made-bytes : after ≡ stateBytes (step (reached w) call)
     made-bytes = e .bytes-are ∙ ap (λ x. entryBytes true x call) (g .bytes) ∙ fine-bytes st (g .is) call
 
-  goes-called : (fine : Bool) (call : Call) (n : ℕ) (after : Slices) → (fine ≡ true → Fits call) → Called fine (b .state) call n (after .state) → Goes (noted fine call n w) after
+  goes-called : (fine : Bool) (call : Call) (n : ℕ) (after : Slices) → (fine ≡ true → Fits call) → CallEntry fine (b .state) call n (after .state) → Goes (noted fine call n w) after
   goes-called true call n after fits e =
       record {
         rules = g .rules;

@@ -17,7 +17,7 @@ use Rattle.calls.specs.Calls.{Call, ListProcesses, fresh}
 use Rattle.calls.specs.Run.{run}
 use Rattle.calls.specs.declared.Wanted.{Wanted}
 use Rattle.state_layout.specs.Layout.{stateOf, stateBytes, holdsState}
-use Rattle.entries_call.specs.Called.{Called}
+use Rattle.entries_call.specs.CallEntry.{CallEntry}
 use Rattle.entries_arguments.specs.Arguments.{pairsOf}
 use Rattle.entries_unprotected.specs.Fresh.{FreshEntry}
 use Rattle.entries_protected.specs.Listing.{ListEntry}
@@ -57,7 +57,7 @@ pub data Made : Type 0 where
 -- an entry on the slices, and the slices afterwards, by the entry's contract. Of a call's arguments their types are told: a name of 48 bytes, a word of 32 bits
 pub data Entered : Slices → Made → Slices → Type 0 where
   called : {fine : Bool} {call : Call} {n : ℕ} {before after : Slices}
-      → (fine ≡ true → Fits call) → Called fine (before .state) call n (after .state)
+      → (fine ≡ true → Fits call) → CallEntry fine (before .state) call n (after .state)
       → Entered before (Called fine call n) after
   list-called : {fine : Bool} {s : Session} {claim : Claim} {wanted : Wanted} {n : ℕ} {r : Response} {before after : Slices}
       → ListEntry fine (before .state) s claim wanted (r .old) n (after .state) (r .new) (r .length)

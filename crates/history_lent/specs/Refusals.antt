@@ -14,7 +14,7 @@ use Rattle.module_state.specs.declared.Claim.the-variants.{ByUser}
 use Rattle.module_state.specs.declared.UserClaim.{UserClaim}
 use Rattle.calls.specs.Calls.{Call, Under, protection, refusedAfter}
 use Rattle.state_layout.specs.Layout.{nextPlace, stateOf}
-use Rattle.entries_call.specs.Called.{isMade}
+use Rattle.entries_call.specs.CallEntry.{isMade}
 
 -- the two bytes of the next number at a place are one more, and every other byte of the slice is as it was
 pub record OneMoreIn (before after : List ℕ) (at : ℕ) : Type 0 where

@@ -32,6 +32,6 @@ entryNumber fine before call =
 unfoldable pub entryBytes : Bool → List ℕ → Call → List ℕ
 entryBytes fine before call = cond (isMade fine before) (stateBytes (outcome (stateOf before) call .state)) before
 
-pub record Called (fine : Bool) (before : List ℕ) (call : Call) (answer : ℕ) (after : List ℕ) : Type 0 where
+pub record CallEntry (fine : Bool) (before : List ℕ) (call : Call) (answer : ℕ) (after : List ℕ) : Type 0 where
   pub number-is : answer ≡ entryNumber fine before call
   pub bytes-are : after ≡ entryBytes fine before call
