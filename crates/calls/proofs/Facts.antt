@@ -20,7 +20,7 @@ use Rattle.table.specs.declared.Among.the-variants.{All, Of}
 use Rattle.table.specs.declared.Process.{Process}
 use Rattle.module_state.specs.Numbers as No
 use Rattle.module_state.specs.Numbers.{_when_, _unless_, _▸_}
-use Rattle.module_state.specs.Module.{isHandle, closedSession, phaseOf, isClosed, isChosen, grantsOf, provisioned, lookup, hasActive, activeProcess}
+use Rattle.module_state.specs.Module.{isHandle, closedSession, phaseOf, isClosed, isChosen, grantsOf, provisioned, lookup, hasActive, activeProcess, sessionCount}
 use Rattle.module_state.specs.Claim.{phaseNumber, entered, claimed, speaker, claimView, isSpent, turnNumber, claimNumber, checkNumber, checkOf, checked, admitted, lookupNumber, grantNumber}
 use Rattle.module_state.specs.declared.Checked.{Checked}
 use Rattle.module_state.specs.declared.Claim.{Claim}
@@ -273,7 +273,7 @@ module _ (st : State) where
   verdict-needs (SetWord s claim c word) e = needs s claim (accepted st (SetWord s claim c word) refl e .claim-passed)
 
 -- ---- a fresh module "has all sessions closed and no process"
-closed-at : (n : ℕ) → isClosed (getD (replicate 4 closedSession) n closedSession .phase) ≡ true
+closed-at : (n : ℕ) → isClosed (getD (replicate sessionCount closedSession) n closedSession .phase) ≡ true
 unfolding isClosed
 closed-at zero = refl
 closed-at (suc zero) = refl

@@ -27,7 +27,7 @@ use Rattle.table.specs.declared.Table.{Table}
 use Rattle.table.proofs.Laws.{count-few}
 use Rattle.table.proofs.Searched.{found-at, found-none, found-place}
 use Rattle.module_state.specs.Numbers.{_when_, _unless_, _▸_}
-use Rattle.module_state.specs.Module.{isCredential, closedSession, unprovisioned, hasActive, activePlace, activeProcess}
+use Rattle.module_state.specs.Module.{isCredential, closedSession, unprovisioned, hasActive, activePlace, activeProcess, sessionCount}
 use Rattle.module_state.specs.Claim.{isSpent, claimed, placed, checked, grantNumber}
 use Rattle.module_state.specs.declared.Checked.{Checked}
 use Rattle.module_state.specs.declared.Claim.{Claim}
@@ -300,7 +300,7 @@ pub take-on : {l₀ l : List Grants} {i : ℕ} {g : Grants} → Mapped taken l�
 take-on v h k e = rw e (mapped-more v unprovisioned (omega arith))
 
 pub fresh-is : {pairs l : List Grants} {i : ℕ} {t : Table} → Mapped taken pairs l i → length pairs ≡ 8 → 8 ≤ i → t ≡ tableOf []
-    → _≡_ {A = State} (record { sessions = replicate 4 closedSession; credentials = l; table = t }) (fresh pairs)
+    → _≡_ {A = State} (record { sessions = replicate sessionCount closedSession; credentials = l; table = t }) (fresh pairs)
 unfolding fresh
 fresh-is v h k e = rw (mapped-all v (omega arith), e)
 

@@ -3,7 +3,7 @@ use Prim.Native.Nat.{ℕ, _+_}
 use mathlib.Core.Bool.{Bool, true, false, cond, not, _&&_}
 use mathlib.Core.List.{List, [], _∷_, map}
 use lib.Dec.{eqb, ltb, leb}
-use lib.ListN.{length, set, replicate}
+use lib.ListN.{length, set}
 use Rattle.lists.specs.Lists.{any, firstIndex}
 use Rattle.names.specs.declared.Credential.{Credential}
 use Rattle.names.specs.declared.Kind.the-variants.{User, Elevation, Saved}
@@ -18,7 +18,7 @@ use Rattle.table.specs.declared.Process.{Process}
 use Rattle.table.specs.declared.Table.{Table}
 use Rattle.module_state.specs.Numbers as No
 use Rattle.module_state.specs.Numbers.{_when_, _unless_, _▸_}
-use Rattle.module_state.specs.Module.{isHandle, closedSession, phaseOf, isClosed, isCredential, provisioned, hasActive, activePlace, activeProcess}
+use Rattle.module_state.specs.Module.{isHandle, phaseOf, isClosed, isCredential, provisioned, closedModule, hasActive, activePlace, activeProcess}
 use Rattle.module_state.specs.Claim.{entered, checked, admitted, grantNumber}
 use Rattle.module_state.specs.declared.Checked.{Checked}
 use Rattle.module_state.specs.declared.Claim.{Claim}
@@ -351,4 +351,4 @@ unfoldable pub taken : Grants → Grants
 taken pair = record { provisioned = pair .provisioned; word = cond (pair .provisioned) (pair .word) 0 }
 
 unfoldable pub fresh : List Grants → State
-fresh pairs = record { sessions = replicate 4 closedSession; credentials = map taken pairs; table = tableOf [] }
+fresh pairs = closedModule (map taken pairs) (tableOf [])

@@ -21,7 +21,7 @@ use Rattle.table.specs.declared.Process.{Process}
 use Rattle.table.specs.declared.Table.{Table}
 use Rattle.table.proofs.Laws.{standing-of, whole-of, standing-appended, standing-replaced, standing-removed, standing-without-session}
 use Rattle.table.proofs.Searched.{user-of, named-among, saved-of}
-use Rattle.module_state.specs.Module.{closedSession, phaseOf, isChosen, activePlace, activeProcess}
+use Rattle.module_state.specs.Module.{closedSession, phaseOf, isChosen, activePlace, activeProcess, sessionCount}
 use Rattle.module_state.specs.Claim.{checked}
 use Rattle.module_state.specs.declared.Claim.{Claim}
 use Rattle.module_state.specs.declared.Claim.the-variants.{Elevated, ByUser}
@@ -260,7 +260,7 @@ state-fresh pairs v =
       rules = rules-fresh pairs;
       formed =
           record {
-            sessions = length-replicate 4 closedSession;
+            sessions = length-replicate sessionCount closedSession;
             credentials = length-map pairs taken ∙ v .many;
             places = whole-of [] (omega arith);
             words = words-taken (v .words);

@@ -15,7 +15,7 @@ use Rattle.names.specs.declared.Kind.the-variants.{Saved}
 use Rattle.table.specs.Table.{standing, tableOf, isSaved, places}
 use Rattle.table.specs.declared.Process.{Process}
 use Rattle.table.specs.declared.Table.{Table}
-use Rattle.module_state.specs.Module.{closedSession, unprovisioned, sessionCount, credentialCount}
+use Rattle.module_state.specs.Module.{unprovisioned, credentialCount, closedModule}
 use Rattle.module_state.specs.declared.Grants.{Grants}
 use Rattle.module_state.specs.declared.State.{State}
 use Rattle.image.specs.declared.ImageHead.{ImageHead}
@@ -183,9 +183,6 @@ imageTest b = record { fits = isImage b; head = headIn b; grants = grantsIn b }
 -- ---- the module that an image makes: a fresh one with these credentials, in which these processes stand. "Restored processes are saved ones."
 unfoldable pub savedProcess : SavedRow → Process
 savedProcess r = record { credential = r .owner; kind = Saved; session = record { 0 = 0 }; next = r .next; name = r .name }
-
-abbrev pub closedModule : List Grants → Table → State
-closedModule l t = record { sessions = replicate sessionCount closedSession; credentials = l; table = t }
 
 abbrev pub moduleOf : Image → State
 moduleOf i = closedModule (i .grants) (tableOf (map savedProcess (i .saved)))

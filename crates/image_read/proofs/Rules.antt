@@ -22,12 +22,12 @@ use Rattle.names.specs.declared.NameRead.{NameRead}
 use Rattle.table.specs.Table.{tableOf, places, freePlace}
 use Rattle.table.specs.declared.Process.{Process}
 use Rattle.table.specs.declared.Table.{Table}
-use Rattle.module_state.specs.Module.{unprovisioned, credentialCount}
+use Rattle.module_state.specs.Module.{unprovisioned, credentialCount, closedModule}
 use Rattle.module_state.specs.declared.State.{State}
 use Rattle.image.specs.declared.ImageRead.{ImageRead}
 use Rattle.image.specs.declared.ImageTest.{ImageTest}
 use Rattle.image.specs.declared.SavedRow.{SavedRow}
-use Rattle.image.specs.Image.{savedOwnerAt, savedNextAt, savedNameAt, savedSize, savedFrom, savedAmong, savedIn, imageIn, isImage, imageTest, savedProcess, closedModule, restored, readImage, SavedLie}
+use Rattle.image.specs.Image.{savedOwnerAt, savedNextAt, savedNameAt, savedSize, savedFrom, savedAmong, savedIn, imageIn, isImage, imageTest, savedProcess, restored, readImage, SavedLie}
 use Rattle.image.proofs.Rows.{saved-name}
 use Rattle.image.proofs.Laws.{image-lies, rowAt, saved-room, saved-part, saved-fits, saved-ends}
 

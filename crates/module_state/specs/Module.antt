@@ -3,7 +3,7 @@ use Prim.Native.Nat.{ℕ, _/_, _%_, _^_, _+_}
 use mathlib.Core.Bool.{Bool, true, false, cond, _&&_}
 use mathlib.Core.List.{List}
 use lib.Dec.{eqb, leb}
-use lib.ListN.{getD}
+use lib.ListN.{getD, replicate}
 use Rattle.lists.specs.Lists.{any, firstIndex}
 use Rattle.names.specs.declared.Credential.{Credential}
 use Rattle.names.specs.declared.Session.{Session}
@@ -72,6 +72,10 @@ wordGrants word class = leb (class .0) 31 && eqb (word / 2 ^ (class .0) % 2) 1
 -- what the grants of a credential answer for a class
 unfoldable pub lookup : Grants → Class → Lookup
 lookup grants class = cond (wordGrants (grants .word) class) Granted NotGranted
+
+-- ---- "all sessions closed": a module with these credentials and this table
+abbrev pub closedModule : List Grants → Table → State
+closedModule credentials t = record { sessions = replicate sessionCount closedSession; credentials = credentials; table = t }
 
 -- ---- the table's active processes: whether there is one; its place, and itself
 unfoldable pub hasActive : State → Active → Bool

@@ -14,7 +14,7 @@ use Rattle.names.specs.declared.Kind.the-variants.{User, Elevation, Saved}
 use Rattle.table.specs.Table.{standing, tableOf, processAt, replaced, isUser, isElevation, isActive, isActiveIn, places}
 use Rattle.table.specs.declared.Active.the-variants.{UserOf, ElevationIn}
 use Rattle.table.specs.declared.Process.{Process}
-use Rattle.module_state.specs.Module.{closedSession, phaseOf, isChosen, unprovisioned, provisioned, sessionCount, credentialCount, lastHandle, lastCredential}
+use Rattle.module_state.specs.Module.{phaseOf, isChosen, unprovisioned, provisioned, sessionCount, credentialCount, lastHandle, lastCredential, closedModule}
 use Rattle.module_state.specs.declared.Grants.{Grants}
 use Rattle.module_state.specs.declared.Phase.{Phase}
 use Rattle.module_state.specs.declared.Phase.the-variants.{Closed, Opened, Chosen}
@@ -183,7 +183,7 @@ stateIn b =
 
 -- what a slice of another length is read as: all sessions closed, no credential provisioned, no process
 abbrev pub nothingHeld : State
-nothingHeld = record { sessions = replicate sessionCount closedSession; credentials = replicate credentialCount unprovisioned; table = tableOf [] }
+nothingHeld = closedModule (replicate credentialCount unprovisioned) (tableOf [])
 
 unfoldable pub stateOf : List ℕ → State
 stateOf b = cond (eqb (length b) stateLength) (stateIn b) nothingHeld
