@@ -103,7 +103,7 @@ fn draw(tree: &Tree) -> String {
     let mut inside = String::new();
     let mut top = APART;
     for family in families.iter().rev() {
-        let rows = family.crates.len().div_ceil(BESIDE);
+        let rows = (family.crates.len() + BESIDE - 1) / BESIDE;
         inside.push_str(&svg::text(APART, top + 18.0, "name start", family.name));
         let words = match family.relies_on.is_empty() {
             true => String::new(),
