@@ -9,7 +9,7 @@ const WIDE: f64 = 172.0;
 const HIGH: f64 = 50.0;
 const APART: f64 = 14.0;
 /// what a family's own words take at the left
-const TITLE: f64 = 190.0;
+const TITLE: f64 = 250.0;
 /// how many crates stand beside each other
 const BESIDE: usize = 5;
 
