@@ -4,6 +4,7 @@ use crate::call::{Answer, Call, ENTRIES};
 use crate::images;
 use crate::random::Random;
 use slavotuk::entries::RawClaim;
+use slavotuk::layout::image as places;
 use slavotuk::layout::listing::{row_at, FULL_LENGTH, ROWS_AT};
 use slavotuk_model::layout::{self, STATE_LENGTH};
 use slavotuk_model::module::{Credential, Kind, Name, Process, Session, Wanted};
@@ -399,7 +400,14 @@ impl Generator {
 
     fn image(&mut self, module: &Module) -> Call {
         let exact = image::write(module).len();
-        let room = self.room_about(exact, &[0, 10, 41, 42, 93, 94, 665, 666, 667]);
+        let bounds = [
+            places::WORDS_AT,
+            places::row_at(0),
+            places::row_at(1),
+            places::FULL_LENGTH,
+        ];
+        let at = self.random.pick(&bounds);
+        let room = self.room_about(exact, &[0, at - 1, at, at + 1]);
         Call::Image {
             image: self.random.bytes(room).into(),
             length: self.random.next() as usize,

@@ -4,6 +4,7 @@
 use crate::call::Call;
 use crate::random::Random;
 use crate::report::{Report, Singles};
+use slavotuk::layout::listing::{NUMBER_AT, ROWS_AT};
 use slavotuk_model::messages::{AUTH_PROCESSES, GET_AUTH_PROCESSES, HEAD_LENGTH, ROW_LENGTH};
 use slavotuk_model::module::{NAME_LENGTH, PLACES};
 
@@ -140,7 +141,7 @@ impl Messages {
         for length in 0..=LONGEST {
             for count in 0..=15u16 {
                 let mut message = self.listing(PLACES + 2);
-                message[2..4].copy_from_slice(&count.to_le_bytes());
+                message[NUMBER_AT..ROWS_AT].copy_from_slice(&count.to_le_bytes());
                 message.truncate(length);
                 let fits = length == HEAD_LENGTH + ROW_LENGTH * usize::from(count);
                 let number = Some(if fits { 0 } else { 14 });
@@ -149,7 +150,7 @@ impl Messages {
                 if let Some(first) = drawn.first_mut() {
                     *first = AUTH_PROCESSES;
                 }
-                if let Some(counted) = drawn.get_mut(2..4) {
+                if let Some(counted) = drawn.get_mut(NUMBER_AT..ROWS_AT) {
                     counted.copy_from_slice(&count.to_le_bytes());
                 }
                 self.count_and_row(drawn, None)?;
@@ -161,7 +162,7 @@ impl Messages {
     fn counts(&mut self) -> Result<(), String> {
         for count in 0..=u16::MAX {
             let mut message = self.listing(usize::from(count % 4));
-            message[2..4].copy_from_slice(&count.to_le_bytes());
+            message[NUMBER_AT..ROWS_AT].copy_from_slice(&count.to_le_bytes());
             let number = Some(if count < 4 { 0 } else { 14 });
             self.count_and_row(message, number)?;
         }
@@ -193,7 +194,7 @@ impl Messages {
         // the lengths of counts that differ by 65,536 rows, where a count of 16 bits comes round
         for past in [0, 1, 2] {
             let mut message = self.listing(65_536 + past);
-            message[2..4].copy_from_slice(&(past as u16).to_le_bytes());
+            message[NUMBER_AT..ROWS_AT].copy_from_slice(&(past as u16).to_le_bytes());
             self.count_and_row(message, Some(14))?;
         }
         Ok(())
@@ -271,7 +272,7 @@ impl Messages {
     fn listing(&mut self, rows: usize) -> Vec<u8> {
         let mut message = self.random.bytes(HEAD_LENGTH + ROW_LENGTH * rows);
         message[0] = AUTH_PROCESSES;
-        message[2..4].copy_from_slice(&(rows as u16).to_le_bytes());
+        message[NUMBER_AT..ROWS_AT].copy_from_slice(&(rows as u16).to_le_bytes());
         for row in message[HEAD_LENGTH..].chunks_mut(ROW_LENGTH) {
             row[2] %= 3;
         }

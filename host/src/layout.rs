@@ -91,10 +91,12 @@ pub mod image {
 pub mod listing {
     use super::*;
 
-    /// How many bytes a request has.
-    pub const REQUEST_LENGTH: usize = 4;
+    /// The number: the credential of a request, the count of the rows.
+    pub const NUMBER_AT: usize = 2;
     /// The first row, and so the bytes of a listing that has none.
-    pub const ROWS_AT: usize = 4;
+    pub const ROWS_AT: usize = NUMBER_AT + 2;
+    /// How many bytes a request has.
+    pub const REQUEST_LENGTH: usize = ROWS_AT;
     /// The credential, in a row.
     pub const OWNER: usize = 0;
     /// The type, in a row.

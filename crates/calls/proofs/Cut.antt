@@ -2,19 +2,23 @@
 -- follows from whether the claim passed.
 -- Assumes nothing.
 use Prim.Native.Nat.{ℕ}
-use mathlib.Core.Path.{_≡_, refl, sym, ap, subst, _∙_}
+use mathlib.Core.Path.{_≡_, refl, sym, ap, _∙_}
 use mathlib.Core.Bool.{Bool, true, false, not}
+use mathlib.Core.List.{List, [], _∷_}
 use lib.Dec.{eqb}
-use borrow.Author.Tests.{eqb-true, eqb-false, eq-eqb, ne-eqb}
-use Rattle.lists.proofs.Tests.{split, and-left}
+use borrow.Author.Tests.{not-true, eqb-true, eqb-false, eq-eqb, ne-eqb}
+use Rattle.lists.specs.Lists.{any}
+use Rattle.lists.proofs.Tests.{split, clash, and-left, and-right}
+use Rattle.rows.specs.Rows.{every}
 use Rattle.names.specs.declared.Session.{Session}
-use Rattle.module_state.specs.Numbers.{_when_, _unless_, _▸_}
+use Rattle.module_state.specs.Numbers as No
+use Rattle.module_state.specs.Numbers.{_unless_, _▸_}
 use Rattle.module_state.specs.Claim.{checked, admitted, grantNumber, passedBy}
 use Rattle.module_state.specs.declared.Checked.{Checked}
 use Rattle.module_state.specs.declared.Claim.{Claim}
 use Rattle.module_state.specs.declared.Class.{Class}
 use Rattle.module_state.specs.declared.State.{State}
-use Rattle.module_state.proofs.Laws.{stop, pass, rows, by-when, by-unless, by-then, by-grant, clear-first, clear-rest, checked-number}
+use Rattle.module_state.proofs.Laws.{stop, pass, three-passed, three-stop, three-stopped, three-done, by-when, by-unless, by-then, by-grant, clear-first, clear-rest, checked-number}
 use Rattle.calls.specs.Calls.{Call, Open, Close, Drop, Select, Start, Continue, Elevate, End, Record, ListProcesses, Kill, SetWord, listOthers, saveOwn, setWords, Protection, Free, Under, protection, Tests, endTests, recordTests, listTests, killTests, setWordTests, tests, asked, numberUnder, number, counted, effect, aheadNumber, protectedNumber, passes, refusedAfter, charged, left, outcome}
 use Rattle.calls.specs.declared.Outcome.{Outcome}
 use Rattle.calls.proofs.Laws.{outcome-done, refusal-leaves}
@@ -47,25 +51,23 @@ module _ (st : State) (call : Call) where
   unfolding number aheadNumber
   in-three = cut st (protection call) (tests st call)
 
-  in-two : number st call ≡ upTo ▸ after
-  in-two = in-three ∙ sym (rows (aheadNumber st call) (protectedNumber st (protection call)) after)
-
   number-passed : passes st call ≡ true → number st call ≡ after
   unfolding passes
-  number-passed p = in-two ∙ pass after (eqb-true upTo 0 p)
+  number-passed p = in-three ∙ three-passed _ _ _ p
 
   pub number-stop : passes st call ≡ false → number st call ≡ upTo
   unfolding passes
-  number-stop p = in-two ∙ stop after (eqb-false upTo 0 p)
+  number-stop p = in-three ∙ three-stop _ _ _ p
 
   -- a call whose claim did not pass is refused, and leaves the state as it was
   pub number-stopped : passes st call ≡ false → number st call ≡ 0 → ⊥
   unfolding passes
-  number-stopped p z = eqb-false upTo 0 p (sym (number-stop p) ∙ z)
+  number-stopped p z = three-stopped _ _ after p (sym in-three ∙ z)
 
   -- and one that is accepted has passed
   pub number-done : number st call ≡ 0 → passes st call ≡ true
-  number-done z = split (passes st call) (λ p. p) (λ p. absurd (number-stopped p z))
+  unfolding passes
+  number-done z = three-done _ _ after (sym in-three ∙ z)
 
   pub left-stopped : passes st call ≡ false → left st call ≡ st
   unfolding left refusedAfter
@@ -142,33 +144,53 @@ module _ (st : State) where
   ahead-one (Kill s claim name) e h = absurd (h refl)
   ahead-one (SetWord s claim c word) e h = some-unless _ h
 
--- what holds of 0, 5, 6, 10 and 15 holds of the tests after a claim, so of the number of a call whose claim passed
-module _ (P : ℕ → Type 0) (none : P 0) (p5 : P 5) (p6 : P 6) (p10 : P 10) (p15 : P 15) (st : State) where
-  grant-by : (by : Checked) (class : Class) → P (grantNumber by class)
-  grant-by = by-grant P none p10
+-- ---- the numbers that tests after a claim give: "by 5 in set word, 6 in kill, 10, 15, or a refusal that a later order puts after the claim"
+abbrev pub afterClaim : List ℕ
+afterClaim = No.done ∷ No.credential ∷ No.noProcess ∷ No.notGranted ∷ No.room ∷ []
 
-  after-by : (call : Call) (by : Checked) → P (tests st call .after by)
-  unfolding tests endTests recordTests listTests killTests setWordTests
-  after-by (Open s) by = none
-  after-by (Close s) by = none
-  after-by (Drop s) by = none
-  after-by (Select s byte) by = none
-  after-by (Start s c name) by = none
-  after-by (Continue s c name) by = none
-  after-by (Elevate s c name verdict) by = none
-  after-by (End s u keep) by = by-when P none _ _ (grant-by by saveOwn)
-  after-by (Record s claim class) by = grant-by by class
-  after-by (ListProcesses s claim wanted room) by = by-then P _ _ (by-unless P none _ _ (grant-by by listOthers)) (by-when P none 15 _ p15)
-  after-by (Kill s claim name) by = by-unless P none 6 _ p6
-  after-by (SetWord s claim c word) by = by-then P _ _ (grant-by by setWords) (by-unless P none 5 _ p5)
+-- it is one of these
+abbrev IsAfter : ℕ → Type 0
+IsAfter n = any (eqb n) afterClaim ≡ true
 
-  rest-by : (w : Protection) (call : Call) → P (rest st w (tests st call))
-  unfolding rest
-  rest-by Free call = none
-  rest-by (Under s claim) call = after-by call (checked st s claim)
+-- what each of some numbers passes, one of them does
+one-passes : (f : ℕ → Bool) (n : ℕ) (l : List ℕ) → any (eqb n) l ≡ true → every f l ≡ true → f n ≡ true
+unfolding any every
+one-passes f n [] h e = clash h refl
+one-passes f n (x ∷ l) h e =
+    split (eqb n x) (λ q. ap f (eqb-true n x q) ∙ and-left (f x) (every f l) e) (λ q. one-passes f n l (rw q at h) (and-right (f x) (every f l) e))
 
-  pub passed-number-by : (call : Call) → passes st call ≡ true → P (number st call)
-  passed-number-by call p = subst P (sym (number-passed st call p)) (rest-by (protection call) call)
+module _ (st : State) where
+  is-grant : (by : Checked) (class : Class) → IsAfter (grantNumber by class)
+  unfolding any
+  is-grant = by-grant IsAfter refl refl
+
+  is-after : (call : Call) (by : Checked) → IsAfter (tests st call .after by)
+  unfolding any tests endTests recordTests listTests killTests setWordTests
+  is-after (Open s) by = refl
+  is-after (Close s) by = refl
+  is-after (Drop s) by = refl
+  is-after (Select s byte) by = refl
+  is-after (Start s c name) by = refl
+  is-after (Continue s c name) by = refl
+  is-after (Elevate s c name verdict) by = refl
+  is-after (End s u keep) by = by-when IsAfter refl _ _ (is-grant by saveOwn)
+  is-after (Record s claim class) by = is-grant by class
+  is-after (ListProcesses s claim wanted room) by = by-then IsAfter _ _ (by-unless IsAfter refl _ _ (is-grant by listOthers)) (by-when IsAfter refl No.room _ refl)
+  is-after (Kill s claim name) by = by-unless IsAfter refl No.noProcess _ refl
+  is-after (SetWord s claim c word) by = by-then IsAfter _ _ (is-grant by setWords) (by-unless IsAfter refl No.credential _ refl)
+
+  rest-after : (w : Protection) (call : Call) → IsAfter (rest st w (tests st call))
+  unfolding any rest
+  rest-after Free call = refl
+  rest-after (Under s claim) call = is-after call (checked st s claim)
+
+  -- so what each of them passes, the number of a call does whose claim passed
+  pub passed-number : (f : ℕ → Bool) → every f afterClaim ≡ true → (call : Call) → passes st call ≡ true → f (number st call) ≡ true
+  passed-number f e call p = ap f (number-passed st call p) ∙ one-passes f _ afterClaim (rest-after (protection call) call) e
+
+  passed-not-one : (call : Call) → passes st call ≡ true → eqb (number st call) 1 ≡ false
+  unfolding every
+  passed-not-one call p = not-true (eqb (number st call) 1) (passed-number (λ n. not (eqb n 1)) refl call p)
 
 module _ (st : State) (call : Call) {s : Session} {claim : Claim} (w : protection call ≡ Under s claim) {by : Checked} (a : by ≡ checked st s claim) where
   prot-is : protectedNumber st (protection call) ≡ by .number
@@ -185,7 +207,7 @@ module _ (st : State) (call : Call) {s : Session} {claim : Claim} (w : protectio
       (λ y.
       let e : aheadNumber st call ▸ protectedNumber st (protection call) ≡ 0 = pass _ (eqb-true _ _ y) ∙ q in
       let p : passes st call ≡ true = unfold passes in eq-eqb _ _ e in
-      rw (z, eq-eqb _ _ e, passed-number-by (λ n. eqb n 1 ≡ false) refl refl refl refl refl st call p))
+      rw (z, eq-eqb _ _ e, passed-not-one st call p))
       (λ y.
       let h : aheadNumber st call ≡ 0 → ⊥ = eqb-false _ _ y in
       let n : number st call ≡ 1 = in-three st call ∙ stop _ h ∙ ahead-one st call w h in

@@ -5,12 +5,12 @@ use mathlib.Core.Path.{_≡_, refl, sym, ap, _∙_}
 use mathlib.Core.Bool.{Bool, true, false, cond, _||_}
 use mathlib.Core.List.{List, [], _∷_}
 use native.Mathlib.Omega.{arith}
-use borrow.Author.Tests.{eqb-true}
 use lib.Dec.{T, eqb, leb, leb→le}
-use lib.ListN.{getD, set, replicate}
+use lib.ListN.{getD, set}
 use Rattle.lists.specs.Lists.{any}
 use Rattle.lists.proofs.Tests.{split, clash}
 use Rattle.names.specs.Names.{sameName}
+use Rattle.lists.proofs.Lists.{getD-same}
 use Rattle.names.specs.declared.Credential.{Credential}
 use Rattle.names.specs.declared.Name.{Name}
 use Rattle.names.specs.declared.Session.{Session}
@@ -20,8 +20,8 @@ use Rattle.table.specs.declared.Among.the-variants.{All, Of}
 use Rattle.table.specs.declared.Process.{Process}
 use Rattle.module_state.specs.Numbers as No
 use Rattle.module_state.specs.Numbers.{_when_, _unless_, _▸_}
-use Rattle.module_state.specs.Module.{isHandle, closedSession, phaseOf, isClosed, isChosen, grantsOf, provisioned, lookup, hasActive, activeProcess, sessionCount}
-use Rattle.module_state.specs.Claim.{phaseNumber, entered, claimed, speaker, claimView, isSpent, turnNumber, claimNumber, checkNumber, checkOf, checked, admitted, lookupNumber, grantNumber}
+use Rattle.module_state.specs.Module.{isSession, closedSession, phaseOf, isClosed, isChosen, grantsOf, provisioned, lookup, hasActive, activeProcess, sessionCount}
+use Rattle.module_state.specs.Claim.{phaseNumber, entered, sought, speaker, claimView, isSpent, turnNumber, claimNumber, checkNumber, checkOf, checked, admitted, lookupNumber, grantNumber}
 use Rattle.module_state.specs.declared.Checked.{Checked}
 use Rattle.module_state.specs.declared.Claim.{Claim}
 use Rattle.module_state.specs.declared.Claim.the-variants.{Elevated, ByUser}
@@ -121,7 +121,7 @@ set-same (x ∷ xs) zero e = ap (λ (p : Phase). record { phase = p } ∷ xs) (s
 set-same (x ∷ xs) (suc i) e = ap (λ (l : List SessionState). x ∷ l) (set-same xs i e)
 
 -- in every state whose session has version 1.0
-module _ (st : State) (s : Session) (h : isHandle s ≡ true) (e : phaseOf st s ≡ Chosen) where
+module _ (st : State) (s : Session) (h : isSession s ≡ true) (e : phaseOf st s ≡ Chosen) where
   select-number : number st (Select s 0x10) ≡ 0
   unfolding number _when_ _unless_ _▸_ isClosed isVersion
   select-number = rw (h, e)
@@ -141,9 +141,9 @@ set-there (y ∷ ys) zero x e = refl
 set-there (y ∷ ys) (suc i) x e = set-there ys i x e
 
 module _ (st : State) (s : Session) (byte : ℕ) (e : number st (Select s byte) ≡ 0) where
-  is-handle : isHandle s ≡ true
+  is-session : isSession s ≡ true
   unfolding number
-  is-handle = clear-unless No.argument tt _ (clear-first _ _ e)
+  is-session = clear-unless No.argument tt _ (clear-first _ _ e)
 
   is-open : isClosed (phaseOf st s) ≡ false
   unfolding number
@@ -156,7 +156,7 @@ module _ (st : State) (s : Session) (byte : ℕ) (e : number st (Select s byte) 
       ∙ ap (λ (x : SessionState). x .phase) (set-there (st .sessions) (s .0) (record { phase = Chosen }) is-open)
 
   pub select-twice : outcome (step st (Select s byte)) (Select s 0x10) ≡ record { state = step st (Select s byte); answer = Done }
-  select-twice = select-again (step st (Select s byte)) s is-handle now-chosen
+  select-twice = select-again (step st (Select s byte)) s is-session now-chosen
 
 -- ---- "A stranger's name and an unknown one get the same answer."
 
@@ -243,7 +243,7 @@ module _ (st : State) where
   is-chosen s e = clear-unless No.noVersion tt _ (clear-rest _ _ (clear-rest _ _ e))
 
   pub needs : (s : Session) (claim : Claim) → admitted st s claim ≡ 0 → Needs st s claim
-  unfolding claimed
+  unfolding sought
   needs s Elevated e = passed-check st s Elevated e .active
   needs s (ByUser u) e =
       let check = passed-check st s (ByUser u) e in
@@ -273,17 +273,9 @@ module _ (st : State) where
   verdict-needs (SetWord s claim c word) e = needs s claim (accepted st (SetWord s claim c word) refl e .claim-passed)
 
 -- ---- a fresh module "has all sessions closed and no process"
-closed-at : (n : ℕ) → isClosed (getD (replicate sessionCount closedSession) n closedSession .phase) ≡ true
-unfolding isClosed
-closed-at zero = refl
-closed-at (suc zero) = refl
-closed-at (suc (suc zero)) = refl
-closed-at (suc (suc (suc zero))) = refl
-closed-at (suc (suc (suc (suc n)))) = refl
-
 pub fresh-closed : (pairs : List Grants) (s : Session) → isClosed (phaseOf (fresh pairs) s) ≡ true
-unfolding fresh phaseOf
-fresh-closed pairs s = closed-at (s .0)
+unfolding fresh phaseOf isClosed
+fresh-closed pairs s = rw (getD-same sessionCount (s .0) closedSession)
 
 pub fresh-empty : (pairs : List Grants) → standing (fresh pairs .table) ≡ []
 unfolding fresh tableOf standing

@@ -6,16 +6,17 @@ use mathlib.Core.Bool.{Bool, true, false, not}
 use mathlib.Core.List.{List, []}
 use native.Mathlib.Omega.{arith}
 use lib.Dec.{T, eqb, ltb, leb}
-use lib.ListN.{length, getD, set, replicate, length-map}
+use lib.ListN.{length, getD, set, length-map}
 use lib.Seq.{set-out}
 use borrow.Author.Tests.{eqb-false, ne-eqb, le-leb, lt-leb, lt-ltb, le-ltb, not-true, not-false}
 use mir.Val.{Fits}
 use mir.Syntax.{w16, w64}
 use Rattle.lists.proofs.Loops.{Mapped, mapped-none, mapped-more, mapped-all}
+use Rattle.names.specs.Names.{rowLength}
 use Rattle.names.specs.declared.Credential.{Credential}
 use Rattle.names.specs.declared.Name.{Name}
 use Rattle.names.specs.declared.Session.{Session}
-use Rattle.table.specs.Table.{standing, size, tableOf, processAt, isActive, isNamed, foundPlace, firstPlace, countAmong, appended, replaced, removed, withoutSession}
+use Rattle.table.specs.Table.{places, standing, size, tableOf, processAt, isActive, isNamed, firstPlace, countAmong, appended, replaced, removed, withoutSession}
 use Rattle.table.specs.declared.Active.{Active}
 use Rattle.table.specs.declared.Active.the-variants.{UserOf, ElevationIn}
 use Rattle.table.specs.declared.Among.{Among}
@@ -25,10 +26,10 @@ use Rattle.table.specs.declared.Found.the-variants.{At, Nothing}
 use Rattle.table.specs.declared.Process.{Process}
 use Rattle.table.specs.declared.Table.{Table}
 use Rattle.table.proofs.Laws.{count-few}
-use Rattle.table.proofs.Searched.{found-at, found-none, found-place}
+use Rattle.table.proofs.Searched.{found-at, found-none}
 use Rattle.module_state.specs.Numbers.{_when_, _unless_, _▸_}
-use Rattle.module_state.specs.Module.{isCredential, closedSession, unprovisioned, hasActive, activePlace, activeProcess, sessionCount}
-use Rattle.module_state.specs.Claim.{isSpent, claimed, placed, checked, grantNumber}
+use Rattle.module_state.specs.Module.{sessionCount, credentialCount, isCredential, unprovisioned, closedModule, hasActive, activePlace, activeProcess}
+use Rattle.module_state.specs.Claim.{isSpent, sought, placed, checked, grantNumber}
 use Rattle.module_state.specs.declared.Checked.{Checked}
 use Rattle.module_state.specs.declared.Claim.{Claim}
 use Rattle.module_state.specs.declared.Claim.the-variants.{Elevated, ByUser}
@@ -41,14 +42,13 @@ use Rattle.module_state.specs.declared.State.{State}
 use Rattle.module_state.specs.declared.UserClaim.{UserClaim}
 use Rattle.module_state.proofs.Laws.{clear-first, clear-rest, stop, pass, rows, when-true, when-false, unless-true, unless-false, passed-user, checked-number, checked-place}
 use Rattle.module_state.proofs.Rules.{rules as claim-rules, nonzero}
-use Rattle.calls.specs.declared.Answer.{Answer}
 use Rattle.calls.specs.declared.Answer.the-variants.{Done, Refused}
 use Rattle.calls.specs.declared.Listed.{Listed}
 use Rattle.calls.specs.declared.Measured.{Measured}
 use Rattle.calls.specs.declared.Outcome.{Outcome}
 use Rattle.calls.specs.declared.Wanted.{Wanted}
 use Rattle.calls.specs.declared.Wanted.the-variants.{Every, Only}
-use Rattle.calls.specs.Listing.{amongOf, rowsOf, messageLength}
+use Rattle.calls.specs.Listing.{headLength, amongOf, rowsOf, messageLength}
 use Rattle.calls.specs.Calls.{Call, Open, Close, Select, Start, Continue, Elevate, Drop, End, Record, ListProcesses, Kill, SetWord, killOthers, isDevice, isVersion, isWanted, isFull, hasNamed, namedPlace, isOwn, isShort, reach, Protection, Free, protection, Tests, endTests, recordTests, listTests, killTests, setWordTests, tests, asked, number, withTable, withPhase, withGrants, userProcess, elevation, activated, saved, oneMore, counted, ended, effect, left, refusal, outcome, measured, listed, taken, fresh}
 use Rattle.calls.proofs.Cut.{left-free}
 use Rattle.calls.proofs.Laws.{outcome-done, outcome-refused, number-by}
@@ -85,10 +85,10 @@ module _ {n : ℕ} (a b c m : ℕ) (e : n ≡ a ▸ b ▸ c) where
   known-pass z q = q ∙ sym (pass m (sym e ∙ z)) ∙ together
 
 -- ---- the state with one part changed
-pub phase-outside : (st : State) (s : Session) (phase : Phase) → length (st .sessions) ≡ 4 → 4 ≤ s .0 → st ≡ withPhase st s phase
+pub phase-outside : (st : State) (s : Session) (phase : Phase) → length (st .sessions) ≡ sessionCount → sessionCount ≤ s .0 → st ≡ withPhase st s phase
 phase-outside st s phase h k = rw (set-out (st .sessions) (s .0) (record { phase = phase }) (omega arith))
 
-pub grants-outside : (st : State) (c : Credential) (grants : Grants) → length (st .credentials) ≡ 8 → 8 ≤ c .0 → st ≡ withGrants st c grants
+pub grants-outside : (st : State) (c : Credential) (grants : Grants) → length (st .credentials) ≡ credentialCount → credentialCount ≤ c .0 → st ≡ withGrants st c grants
 grants-outside st c grants h k = rw (set-out (st .credentials) (c .0) grants (omega arith))
 
 -- ---- what the tests ask of the table
@@ -101,10 +101,6 @@ module _ (st : State) (which : Active) {f : Found} (e : f ≡ firstPlace (isActi
   unfolding hasActive
   active-some q = sym (found-at (isActive which) (standing (st .table)) (sym e ∙ q) .some)
 
-  pub active-placed : {n r : ℕ} → n ≡ size (st .table) → r ≡ foundPlace n f → r ≡ activePlace st which
-  unfolding activePlace size
-  active-placed w q = q ∙ rw (w, e) (found-place (isActive which) (standing (st .table)))
-
 module _ (st : State) (name : Name) (among : Among) {f : Found} (e : f ≡ firstPlace (isNamed name among) (standing (st .table))) where
   pub named-none : f ≡ Nothing → false ≡ hasNamed st name among
   unfolding hasNamed
@@ -113,10 +109,6 @@ module _ (st : State) (name : Name) (among : Among) {f : Found} (e : f ≡ first
   pub named-some : {k : ℕ} → f ≡ At k → true ≡ hasNamed st name among
   unfolding hasNamed
   named-some q = sym (found-at (isNamed name among) (standing (st .table)) (sym e ∙ q) .some)
-
-  pub named-placed : {n r : ℕ} → n ≡ size (st .table) → r ≡ foundPlace n f → r ≡ namedPlace st name among
-  unfolding namedPlace size
-  named-placed w q = q ∙ rw (w, e) (found-place (isNamed name among) (standing (st .table)))
 
 module _ (st : State) (name : Name) (by : Checked) {among : Among} {f : Found} (a : among ≡ reach by) (e : f ≡ firstPlace (isNamed name among) (standing (st .table))) where
   pub kill-none : (n : ℕ) → f ≡ Nothing → n ≡ n unless hasNamed st name (reach by)
@@ -133,7 +125,7 @@ pub kill-at : (st : State) (name : Name) (by : Checked) {p : Placed} → p ≡ p
 unfolding placed
 kill-at st name by e z = let n : asked (killTests st name) by ≡ 0 = sym (ap (λ (p : Placed). p .number) e) ∙ z in rw (e, n)
 
-pub full-is : (st : State) {n : ℕ} → n ≡ size (st .table) → leb 12 n ≡ isFull st
+pub full-is : (st : State) {n : ℕ} → n ≡ size (st .table) → leb places n ≡ isFull st
 unfolding isFull
 full-is st e = rw e
 
@@ -200,16 +192,16 @@ module _ {wanted : Wanted} where
 
 -- ---- the listing's length
 module _ (st : State) (wanted : Wanted) {among : Among} {n : ℕ} (a : among ≡ amongOf wanted) (e : n ≡ countAmong (st .table) among) where
-  few : length (st .table .places) ≡ 12 → n ≤ 12
+  few : length (st .table .places) ≡ places → n ≤ places
   few h = omega (arith, count-few (st .table) h among)
 
-  pub length-fits : length (st .table .places) ≡ 12 → Fits w64 (51 * n)
+  pub length-fits : length (st .table .places) ≡ places → Fits w64 (rowLength * n)
   length-fits h = omega (arith, few h)
 
-  pub length-whole : (k : ℕ) → k ≤ 64 → length (st .table .places) ≡ 12 → Fits w64 (k + 51 * n)
+  pub length-whole : (k : ℕ) → k ≤ 64 → length (st .table .places) ≡ places → Fits w64 (k + rowLength * n)
   length-whole k small h = omega (arith, few h)
 
-  pub length-is : 4 + 51 * n ≡ messageLength (length (rowsOf st wanted))
+  pub length-is : headLength + rowLength * n ≡ messageLength (length (rowsOf st wanted))
   unfolding messageLength rowsOf countAmong
   length-is = rw (length-map, ← a, e)
 
@@ -253,7 +245,7 @@ module _ (st : State) (s : Session) where
     unspent = passed-user st s u (sym (checked-number st s (ByUser u) e) ∙ z) .unspent
 
     pub claim-place : by .place ≡ activePlace st (UserOf s (u .credential))
-    unfolding claimed
+    unfolding sought
     claim-place = checked-place st s (ByUser u) e z
 
     pub next-fits : {p : Process} → p ≡ processAt (st .table) (by .place) → p .next < 65536 → Fits w16 (p .next + 1)
@@ -292,17 +284,16 @@ module _ (pair : Grants) where
   unfolding taken
   taken-whole e = rw e
 
-  pub taken-zero : pair .provisioned ≡ false → _≡_ {A = Grants} (record { provisioned = false; word = 0 }) (taken pair)
+  pub taken-zero : pair .provisioned ≡ false → _≡_ {A = Grants} (unprovisioned) (taken pair)
   unfolding taken
   taken-zero e = rw e
 
-pub take-on : {l₀ l : List Grants} {i : ℕ} {g : Grants} → Mapped taken l₀ l i → length l₀ ≡ 8 → i < 8 → g ≡ taken (getD l i unprovisioned) → Mapped taken l₀ (set l i g) (i + 1)
+pub take-on : {l₀ l : List Grants} {i : ℕ} {g : Grants} → Mapped taken l₀ l i → length l₀ ≡ credentialCount → i < credentialCount → g ≡ taken (getD l i unprovisioned) → Mapped taken l₀ (set l i g) (i + 1)
 take-on v h k e = rw e (mapped-more v unprovisioned (omega arith))
 
-pub fresh-is : {pairs l : List Grants} {i : ℕ} {t : Table} → Mapped taken pairs l i → length pairs ≡ 8 → 8 ≤ i → t ≡ tableOf []
-    → _≡_ {A = State} (record { sessions = replicate sessionCount closedSession; credentials = l; table = t }) (fresh pairs)
+pub fresh-is : {pairs l : List Grants} {i : ℕ} {t : Table} → Mapped taken pairs l i → length pairs ≡ credentialCount → credentialCount ≤ i → t ≡ tableOf [] → {st : State} → st ≡ closedModule l t → st ≡ fresh pairs
 unfolding fresh
-fresh-is v h k e = rw (mapped-all v (omega arith), e)
+fresh-is v h k e q = q ∙ rw (mapped-all v (omega arith), e)
 
 -- ---- what each call does, as its code puts it together
 module _ (st : State) {x : State} where
@@ -408,4 +399,4 @@ pub effect-list : (st : State) {x : State} (s : Session) (claim : Claim) (wanted
 unfolding effect
 effect-list st s claim wanted room e = e
 
-pub ruleset rules = (claim-rules, by-refusal, by-effect, both-stop, both-pass, known-stop, known-pass, phase-outside, grants-outside, active-none, active-some, active-placed, named-none, named-some, named-placed, full-is, version-is, device-high, device-low, asked-when, not-asked, asked-unless, own-unless, none-ahead, wanted-every, wanted-only, among-every, among-only, own-every, own-only, length-fits, length-whole, length-is, short-room, enough-room, measured-done, refused-measured, number-measured, reach-all, reach-own, kill-none, kill-found, kill-place, kill-at, next-fits, counted-is, counted-elevated, checked-user, ended-kept, ended-removed, taken-whole, taken-zero, mapped-none, take-on, fresh-is, effect-open, effect-select, effect-close, effect-start, effect-elevate, effect-continue, effect-drop, effect-end, effect-kill, effect-set-word, effect-record, effect-list, record-number, list-number, kill-number, set-word-number, end-number, asked-clear, placed-clear, measured-clear, list-is)
+pub ruleset rules = (claim-rules, by-refusal, by-effect, both-stop, both-pass, known-stop, known-pass, phase-outside, grants-outside, active-none, active-some, named-none, named-some, full-is, version-is, device-high, device-low, asked-when, not-asked, asked-unless, own-unless, none-ahead, wanted-every, wanted-only, among-every, among-only, own-every, own-only, length-fits, length-whole, length-is, short-room, enough-room, measured-done, refused-measured, number-measured, reach-all, reach-own, kill-none, kill-found, kill-place, kill-at, next-fits, counted-is, counted-elevated, checked-user, ended-kept, ended-removed, taken-whole, taken-zero, mapped-none, take-on, fresh-is, effect-open, effect-select, effect-close, effect-start, effect-elevate, effect-continue, effect-drop, effect-end, effect-kill, effect-set-word, effect-record, effect-list, record-number, list-number, kill-number, set-word-number, end-number, asked-clear, placed-clear, measured-clear, list-is)

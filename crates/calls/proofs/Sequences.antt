@@ -13,8 +13,8 @@ use Rattle.names.specs.declared.Name.{Name}
 use Rattle.names.specs.declared.Session.{Session}
 use Rattle.table.specs.Table.{standing, size, tableOf, processAt, firstPlace, isActive, isActiveIn, isAmong, isNamed, appended, replaced, removed, withoutSession}
 use Rattle.module_state.specs.Numbers.{_when_, _unless_, _▸_}
-use Rattle.module_state.specs.Module.{isHandle, phaseOf, isClosed, isChosen, isCredential, grantsOf, provisioned, wordGrants, lookup, hasActive, activePlace, activeProcess}
-use Rattle.module_state.specs.Claim.{phaseNumber, entered, claimed, speaker, claimView, isClaim, isSpent, turnNumber, claimNumber, checkNumber, placed, checkOf, checked, admitted, lookupNumber, grantNumber}
+use Rattle.module_state.specs.Module.{isSession, phaseOf, isClosed, isChosen, isCredential, grantsOf, provisioned, wordGrants, lookup, hasActive, activePlace, activeProcess}
+use Rattle.module_state.specs.Claim.{phaseNumber, entered, sought, speaker, claimView, isInRange, isSpent, turnNumber, claimNumber, checkNumber, placed, checkOf, checked, admitted, lookupNumber, grantNumber}
 use Rattle.module_state.specs.declared.Claim.{Claim}
 use Rattle.module_state.specs.declared.Claim.the-variants.{ByUser}
 use Rattle.module_state.specs.declared.Class.{Class}
@@ -93,5 +93,5 @@ after st steps = run st (callsOf steps)
 
 -- all that a worked sequence computes with: who says `unfolding computed` has it open
 unfoldable pub computed : Type 1
-unfolding any firstIndex reject select join removeAt padded bytesOf sameBytes sameName standing size tableOf processAt firstPlace isActive isActiveIn isAmong isNamed appended replaced removed withoutSession _when_ _unless_ _▸_ isHandle phaseOf isClosed isChosen isCredential grantsOf provisioned wordGrants lookup hasActive activePlace activeProcess phaseNumber entered claimed speaker claimView isClaim isSpent turnNumber claimNumber checkNumber placed checkOf checked admitted lookupNumber grantNumber rowsOf messageLength listing isDevice isVersion isWanted isFull hasNamed namedPlace isOwn isShort reach endTests recordTests listTests killTests setWordTests tests asked numberUnder number counted ended effect protection aheadNumber protectedNumber passes refusedAfter charged left refusal outcome taken fresh step run numbers
+unfolding any firstIndex reject select join removeAt padded bytesOf sameBytes sameName standing size tableOf processAt firstPlace isActive isActiveIn isAmong isNamed appended replaced removed withoutSession _when_ _unless_ _▸_ isSession phaseOf isClosed isChosen isCredential grantsOf provisioned wordGrants lookup hasActive activePlace activeProcess phaseNumber entered sought speaker claimView isInRange isSpent turnNumber claimNumber checkNumber placed checkOf checked admitted lookupNumber grantNumber rowsOf messageLength listing isDevice isVersion isWanted isFull hasNamed namedPlace isOwn isShort reach endTests recordTests listTests killTests setWordTests tests asked numberUnder number counted ended effect protection aheadNumber protectedNumber passes refusedAfter charged left refusal outcome taken fresh step run numbers
 computed = Type 0

@@ -1,7 +1,7 @@
 -- "Calls, with the order of their checks": of each call the tests in their order, each with its number, and what it does where none holds
 use Prim.Native.Nat.{ℕ, _+_}
 use mathlib.Core.Bool.{Bool, true, false, cond, not, _&&_}
-use mathlib.Core.List.{List, [], _∷_, map}
+use mathlib.Core.List.{List, [], map}
 use lib.Dec.{eqb, ltb, leb}
 use lib.ListN.{length, set}
 use Rattle.lists.specs.Lists.{any, firstIndex}
@@ -10,7 +10,6 @@ use Rattle.names.specs.declared.Kind.the-variants.{User, Elevation, Saved}
 use Rattle.names.specs.declared.Name.{Name}
 use Rattle.names.specs.declared.Session.{Session}
 use Rattle.table.specs.Table.{places, standing, size, tableOf, processAt, isNamed, appended, replaced, removed, withoutSession}
-use Rattle.table.specs.declared.Active.{Active}
 use Rattle.table.specs.declared.Active.the-variants.{UserOf, ElevationIn}
 use Rattle.table.specs.declared.Among.{Among}
 use Rattle.table.specs.declared.Among.the-variants.{All, Of, SavedOf}
@@ -18,7 +17,7 @@ use Rattle.table.specs.declared.Process.{Process}
 use Rattle.table.specs.declared.Table.{Table}
 use Rattle.module_state.specs.Numbers as No
 use Rattle.module_state.specs.Numbers.{_when_, _unless_, _▸_}
-use Rattle.module_state.specs.Module.{isHandle, phaseOf, isClosed, isCredential, provisioned, closedModule, hasActive, activePlace, activeProcess}
+use Rattle.module_state.specs.Module.{isSession, phaseOf, isClosed, isCredential, provisioned, closedModule, hasActive, activePlace, activeProcess}
 use Rattle.module_state.specs.Claim.{entered, checked, admitted, grantNumber}
 use Rattle.module_state.specs.declared.Checked.{Checked}
 use Rattle.module_state.specs.declared.Claim.{Claim}
@@ -168,15 +167,15 @@ setWordTests st c =
 unfoldable pub tests : State → Call → Tests
 tests st (Open s) =
     alone
-    (No.argument unless isHandle s
+    (No.argument unless isSession s
     ▸ No.session unless isClosed (phaseOf st s))
 tests st (Close s) =
     alone
-    (No.argument unless isHandle s
+    (No.argument unless isSession s
     ▸ No.session when isClosed (phaseOf st s))
 tests st (Select s byte) =
     alone
-    (No.argument unless isHandle s
+    (No.argument unless isSession s
     ▸ No.session when isClosed (phaseOf st s)
     ▸ No.version unless isVersion byte)
 tests st (Start s c name) =

@@ -4,7 +4,7 @@ use mathlib.Core.List.{List, _∷_, _++_, map}
 use lib.ListN.{length}
 use Rattle.lists.specs.Lists.{select, join}
 use Rattle.rows.specs.Bytes.{bytesOf}
-use Rattle.names.specs.Names.{typeOf, rowBytes}
+use Rattle.names.specs.Names.{typeOf, rowLength, rowBytes}
 use Rattle.names.specs.declared.Row.{Row}
 use Rattle.table.specs.Table.{standing, isAmong}
 use Rattle.table.specs.declared.Among.{Among}
@@ -30,10 +30,20 @@ rowsOf st wanted = map rowOf (select (isAmong (amongOf wanted)) (standing (st .t
 abbrev pub authProcesses : ℕ
 authProcesses = 0x0e
 
+-- "code, reserved, count in 2 bytes": where the number lies, and how long these are. `src/lib.rt` has these names for the code
+abbrev pub headNumberAt : ℕ
+headNumberAt = 2
+
+abbrev pub headNumberSize : ℕ
+headNumberSize = 2
+
+abbrev pub headLength : ℕ
+headLength = headNumberAt + headNumberSize
+
 -- "The message has 4 + 51 × count bytes"
 unfoldable pub messageLength : ℕ → ℕ
-messageLength count = 4 + 51 * count
+messageLength count = headLength + rowLength * count
 
 -- "code, reserved, count in 2 bytes, then rows of 51 bytes"
 unfoldable pub listing : List Row → List ℕ
-listing rows = authProcesses ∷ 0 ∷ (bytesOf 2 (length rows) ++ join (map rowBytes rows))
+listing rows = authProcesses ∷ 0 ∷ (bytesOf headNumberSize (length rows) ++ join (map rowBytes rows))

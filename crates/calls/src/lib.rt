@@ -6,6 +6,11 @@ use module_state::DONE;
 use module_state::State;
 use names::Credential;
 
+// The code, the reserved byte and a number in two bytes stand before the rows of a listing.
+pub const HEAD_NUMBER_AT: usize = 2;
+
+pub const HEAD_LENGTH: usize = HEAD_NUMBER_AT + 2;
+
 // Whose processes a listing is to have.
 pub enum Wanted {
     Every,

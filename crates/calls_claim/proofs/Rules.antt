@@ -9,10 +9,10 @@ use mir.Val.{Fits}
 use mir.Syntax.{w16}
 use Rattle.lists.proofs.Tests.{split}
 use Rattle.names.specs.declared.Session.{Session}
-use Rattle.table.specs.Table.{processAt, replaced, standing, size, freePlace, isActive, firstPlace}
+use Rattle.table.specs.Table.{processAt, replaced, standing, freePlace, isActive, firstPlace}
 use Rattle.table.specs.declared.Process.{Process}
 use Rattle.table.specs.declared.Table.{Table}
-use Rattle.module_state.specs.Claim.{isSpent, checked, checkOf, passedBy, claimed, speaksFor, processFound, claimView}
+use Rattle.module_state.specs.Claim.{isSpent, checked, checkOf, passedBy, sought, speaksFor, processFound, claimView}
 use Rattle.module_state.specs.declared.Checked.{Checked}
 use Rattle.module_state.specs.declared.Claim.{Claim}
 use Rattle.module_state.specs.declared.Claim.the-variants.{Elevated, ByUser}
@@ -25,7 +25,6 @@ use Rattle.calls.specs.declared.Outcome.{Outcome}
 use Rattle.calls.proofs.Cut.{left-stopped, left-passed, passed-by}
 use Rattle.calls.proofs.Rules.{refused-as, next-fits, counted-is, counted-elevated, rules as call-rules}
 use Rattle.calls_claim.specs.Count.{countedAt, countedBy, chargedBy}
-use lib.ListN.{List·getD-eq-default}
 use borrow.Author.Needs.{needs}
 use Rattle.lists.proofs.Lists.{length-mapped}
 use Rattle.module_state.specs.declared.ClaimView.{ClaimView}
@@ -48,7 +47,7 @@ module _ (t : Table) {f : Found} {p : Process} where
   process-found-none e q = q ∙ rw e
 
 pub view-is : (st : State) (s : Session) (claim : Claim) {a : Active} {f : Found} {p : Process} {c : Credential} {phase : Phase} {g : Grants}
-    → a ≡ claimed s claim → f ≡ firstPlace (isActive a) (standing (st .table)) → p ≡ processFound (st .table) f → c ≡ speaksFor claim (p .credential)
+    → a ≡ sought s claim → f ≡ firstPlace (isActive a) (standing (st .table)) → p ≡ processFound (st .table) f → c ≡ speaksFor claim (p .credential)
     → phase ≡ phaseOf st s → g ≡ grantsOf st c
     → _≡_ {A = ClaimView} (record { phase = phase; found = f; next = p .next; credential = c; grants = g }) (claimView st s claim)
 view-is st s claim ea ef ep ec h eg =

@@ -27,7 +27,7 @@ fn claim_view(st: State, s: Session, claim: Claim) -> ClaimView
     ensures { λ r. ⌜ r ≡ claimView st s claim ⌝ }
 {
     let t = st.table;
-    let found = table_search::find_active(t, claim_check::claimed(s, claim));
+    let found = table_search::find_active(t, claim_check::sought(s, claim));
     let p = process_found(t, found);
     let owner = p.credential;
     let c = claim_check::speaks_for(claim, owner);

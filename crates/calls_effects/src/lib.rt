@@ -123,16 +123,16 @@ pub fn elevation(s: Session, c: Credential, name: Name) -> Process
     }
 }
 
-pub fn activated(kept: Process, s: Session) -> Process
-    ensures { λ r. ⌜ r ≡ activated s kept ⌝ }
+pub fn activated(old: Process, s: Session) -> Process
+    ensures { λ r. ⌜ r ≡ activated s old ⌝ }
 {
-    let c = kept.credential;
-    let name = kept.name;
+    let c = old.credential;
+    let name = old.name;
     Process {
         credential: c,
         kind: Kind::User,
         session: s,
-        next: kept.next,
+        next: old.next,
         name: name,
     }
 }
@@ -153,7 +153,7 @@ fn saved(p: Process) -> Process
 
 // ---- the end of a process
 
-// The process at a place saved, or removed when not kept.
+// The process at a place saved, or removed when not p.
 pub fn ended(st: State, at: usize, keep: bool) -> State
     ensures { λ r. ⌜ r ≡ ended st at keep ⌝ }
 {
@@ -189,12 +189,5 @@ pub fn fresh(pairs: [Grants; CREDENTIALS]) -> State
         credentials[i] = taken(pair);
         i += 1;
     }
-    let t = table::empty();
-    State {
-        sessions: [SessionState {
-            phase: Phase::Closed,
-        }; SESSIONS],
-        credentials: credentials,
-        table: t,
-    }
+    module_state::closed_module(credentials, table::empty())
 }

@@ -5,6 +5,7 @@ ghost use Rattle.module_state.specs.Claim.{grantNumber};
 ghost use Rattle.module_state.specs.Numbers.{_unless_, _▸_};
 ghost use Rattle.calls.specs.Listing.{amongOf, rowsOf, messageLength};
 ghost use Rattle.calls.specs.Calls.{listOthers, isWanted, isOwn, listTests, asked, measured};
+use calls::HEAD_LENGTH;
 use calls::Measured;
 use calls::Wanted;
 use module_state::ARGUMENT;
@@ -15,6 +16,7 @@ use module_state::LIST_OTHERS;
 use module_state::ROOM;
 use module_state::State;
 use names::Credential;
+use names::ROW_LENGTH;
 use table::Among;
 
 fn is_wanted(wanted: Wanted) -> bool
@@ -63,7 +65,7 @@ fn message_length(st: State, wanted: Wanted) -> usize
     ensures { λ r. ⌜ r ≡ messageLength (length (rowsOf st wanted)) ⌝ }
 {
     let t = st.table;
-    4 + 51 * table_search::count_among(t, among_of(wanted))
+    HEAD_LENGTH + ROW_LENGTH * table_search::count_among(t, among_of(wanted))
 }
 
 fn refused(n: u8) -> Measured

@@ -15,7 +15,7 @@ use names::Session;
 fn open_number(st: State, s: Session) -> u8
     ensures { λ r. ⌜ r ≡ number st (Open s) ⌝ }
 {
-    if !module_state::is_handle(s) {
+    if !module_state::is_session(s) {
         return ARGUMENT;
     }
     if !module_state::is_closed(st, s) {
@@ -39,7 +39,7 @@ pub fn open_session(st: State, s: Session) -> Outcome
 fn close_number(st: State, s: Session) -> u8
     ensures { λ r. ⌜ r ≡ number st (Close s) ⌝ }
 {
-    if !module_state::is_handle(s) {
+    if !module_state::is_session(s) {
         return ARGUMENT;
     }
     if module_state::is_closed(st, s) {
@@ -71,7 +71,7 @@ fn is_version(byte: u8) -> bool
 fn select_number(st: State, s: Session, byte: u8) -> u8
     ensures { λ r. ⌜ r ≡ number st (Select s byte) ⌝ }
 {
-    if !module_state::is_handle(s) {
+    if !module_state::is_session(s) {
         return ARGUMENT;
     }
     if module_state::is_closed(st, s) {

@@ -19,7 +19,7 @@ use Rattle.table.specs.declared.Found.{Found}
 use Rattle.table.specs.declared.Found.the-variants.{At, Nothing}
 use Rattle.module_state.specs.Numbers.{_unless_, _▸_}
 use Rattle.module_state.specs.Module.{isCredential}
-use Rattle.module_state.specs.Claim.{claimed, speaksFor, isClaim, isFound, isSpent, claimNumber, checkNumber, placed, checkOf, passedBy}
+use Rattle.module_state.specs.Claim.{sought, speaksFor, isInRange, isFound, isSpent, claimNumber, checkNumber, placed, checkOf, passedBy}
 use Rattle.module_state.proofs.Laws.{stop, pass, unless-true, unless-false}
 use Rattle.module_state.proofs.Rules.{rules as claims-rules, nonzero}
 
@@ -28,23 +28,23 @@ pub spent-is : (next : ℕ) → eqb next 65535 ≡ isSpent next
 unfolding isSpent
 spent-is next = refl
 
-pub elevated-fine : {claim : Claim} → claim ≡ Elevated → true ≡ isClaim claim
-unfolding isClaim
+pub elevated-fine : {claim : Claim} → claim ≡ Elevated → true ≡ isInRange claim
+unfolding isInRange
 elevated-fine e = rw e
 
-pub user-fine : {claim : Claim} {u : UserClaim} {b : Bool} → claim ≡ ByUser u → b ≡ isCredential (u .credential) → b ≡ isClaim claim
-unfolding isClaim
+pub user-fine : {claim : Claim} {u : UserClaim} {b : Bool} → claim ≡ ByUser u → b ≡ isCredential (u .credential) → b ≡ isInRange claim
+unfolding isInRange
 user-fine e q = q ∙ rw e
 
 -- ---- the process of a claim
 module _ (s : Session) {claim : Claim} where
-  pub claimed-elevation : claim ≡ Elevated → ElevationIn s ≡ claimed s claim
-  unfolding claimed
-  claimed-elevation e = rw e
+  pub sought-elevation : claim ≡ Elevated → ElevationIn s ≡ sought s claim
+  unfolding sought
+  sought-elevation e = rw e
 
-  pub claimed-user : {u : UserClaim} → claim ≡ ByUser u → UserOf s (u .credential) ≡ claimed s claim
-  unfolding claimed
-  claimed-user e = rw e
+  pub sought-user : {u : UserClaim} → claim ≡ ByUser u → UserOf s (u .credential) ≡ sought s claim
+  unfolding sought
+  sought-user e = rw e
 
 module _ (owner : Credential) {claim : Claim} where
   pub speaks-owner : claim ≡ Elevated → owner ≡ speaksFor claim owner
@@ -95,4 +95,4 @@ module _ (by : Checked) (n : ℕ) where
   unfolding passedBy
   passed-not h = rw (ne-eqb (by .number) 0 h)
 
-pub ruleset rules = (claims-rules, spent-is, elevated-fine, user-fine, claimed-elevation, claimed-user, speaks-owner, speaks-itself, missing-stop, found-pass, missing-last, found-last, place-at, none-left, placed-elevated, placed-user, check-is, passed-asked, passed-not)
+pub ruleset rules = (claims-rules, spent-is, elevated-fine, user-fine, sought-elevation, sought-user, speaks-owner, speaks-itself, missing-stop, found-pass, missing-last, found-last, place-at, none-left, placed-elevated, placed-user, check-is, passed-asked, passed-not)

@@ -4,8 +4,8 @@ use mathlib.Core.Path.{sym, _∙_}
 use Rattle.lists.proofs.Once.{OneAnswer}
 use Rattle.claim_check.proofs.is_spent.Kinds as is-spent-kinds
 use Rattle.claim_check.proofs.is_spent.Reads as is-spent
-use Rattle.claim_check.proofs.claimed.Kinds as claimed-kinds
-use Rattle.claim_check.proofs.claimed.Reads as claimed
+use Rattle.claim_check.proofs.sought.Kinds as sought-kinds
+use Rattle.claim_check.proofs.sought.Reads as sought
 use Rattle.claim_check.proofs.speaks_for.Kinds as speaks-for-kinds
 use Rattle.claim_check.proofs.speaks_for.Reads as speaks-for
 use Rattle.claim_check.proofs.check_claim.Kinds as check-claim-kinds
@@ -16,8 +16,8 @@ use Rattle.claim_check.proofs.passed_by.Reads as passed-by
 pub is-spent-once : OneAnswer 0 is-spent-kinds.ps is-spent-kinds.r is-spent.Post
 is-spent-once κs a x y s t p q = p ∙ sym q
 
-pub claimed-once : OneAnswer 0 claimed-kinds.ps claimed-kinds.r claimed.Post
-claimed-once κs a x y s t p q = p ∙ sym q
+pub sought-once : OneAnswer 0 sought-kinds.ps sought-kinds.r sought.Post
+sought-once κs a x y s t p q = p ∙ sym q
 
 pub speaks-for-once : OneAnswer 0 speaks-for-kinds.ps speaks-for-kinds.r speaks-for.Post
 speaks-for-once κs a x y s t p q = p ∙ sym q

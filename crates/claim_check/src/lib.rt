@@ -1,7 +1,7 @@
 // The check of a claim, on what a state tells of it: once for all protected calls, wherever the state lies.
 ghost use mathlib.Core.Path.{_≡_};
 ghost use Rattle.table.specs.Table.{foundPlace};
-ghost use Rattle.module_state.specs.Claim.{claimed, speaksFor, isClaim, isSpent, turnNumber, claimNumber, checkNumber, placed, checkOf, passedBy};
+ghost use Rattle.module_state.specs.Claim.{sought, speaksFor, isInRange, isSpent, turnNumber, claimNumber, checkNumber, placed, checkOf, passedBy};
 use module_state::ARGUMENT;
 use module_state::CREDENTIAL;
 use module_state::Checked;
@@ -20,8 +20,8 @@ use table::Active;
 use table::Found;
 
 // Whether a claim's credential, where it has one, is in its range.
-fn is_claim(claim: Claim) -> bool
-    ensures { λ r. ⌜ r ≡ isClaim claim ⌝ }
+fn is_in_range(claim: Claim) -> bool
+    ensures { λ r. ⌜ r ≡ isInRange claim ⌝ }
 {
     match claim {
         Claim::Elevated => true,
@@ -54,8 +54,8 @@ fn turn_number(next: u16, u: UserClaim) -> u8
 }
 
 // The active process under which a claim is made.
-pub fn claimed(s: Session, claim: Claim) -> Active
-    ensures { λ r. ⌜ r ≡ claimed s claim ⌝ }
+pub fn sought(s: Session, claim: Claim) -> Active
+    ensures { λ r. ⌜ r ≡ sought s claim ⌝ }
 {
     match claim {
         Claim::Elevated => Active::ElevationIn(s),
@@ -121,7 +121,7 @@ fn claim_number(claim: Claim, view: ClaimView) -> Placed
 fn check_number(s: Session, claim: Claim, view: ClaimView) -> Placed
     ensures { λ r. ⌜ r ≡ placed (checkNumber s claim view) (foundPlace 0 (view .found)) ⌝ }
 {
-    if !is_claim(claim) {
+    if !is_in_range(claim) {
         return module_state::refused(ARGUMENT);
     }
     let phase = view.phase;

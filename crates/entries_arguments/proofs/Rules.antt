@@ -21,7 +21,7 @@ use Rattle.module_state.specs.declared.Claim.the-variants.{Elevated, ByUser}
 use Rattle.module_state.specs.declared.Class.{Class}
 use Rattle.module_state.specs.declared.UserClaim.{UserClaim}
 use Rattle.calls.specs.declared.Wanted.the-variants.{Every, Only}
-use Rattle.entries_arguments.specs.Arguments.{sessionOf, classOf, everyNumber, credentialOf, wantedOf, isFlag, userClaimOf, claimOf, isClaimed, arePairs}
+use Rattle.entries_arguments.specs.Arguments.{sessionOf, classOf, everyNumber, credentialOf, wantedOf, isFlag, userClaimOf, claimOf, areClaimFlags, arePairs}
 
 module _ (n : ℕ) where
   pub session-is : {b : ℕ} → b ≡ byteOf n → _≡_ {A = Session} (record { 0 = b }) (sessionOf n)
@@ -67,17 +67,17 @@ module _ (credential number verdict : ℕ) where
     claim-user h e = rw (ne-eqb kind 1 h, e)
 
 module _ (kind verdict : ℕ) where
-  pub claimed-elevated : kind ≡ 1 → true ≡ isClaimed kind verdict
-  unfolding isClaimed isFlag
-  claimed-elevated h = rw h
+  pub flags-elevated : kind ≡ 1 → true ≡ areClaimFlags kind verdict
+  unfolding areClaimFlags isFlag
+  flags-elevated h = rw h
 
-  pub claimed-user : {b : Bool} → kind ≡ 0 → b ≡ isFlag verdict → b ≡ isClaimed kind verdict
-  unfolding isClaimed isFlag
-  claimed-user h e = e ∙ rw h
+  pub flags-user : {b : Bool} → kind ≡ 0 → b ≡ isFlag verdict → b ≡ areClaimFlags kind verdict
+  unfolding areClaimFlags isFlag
+  flags-user h e = e ∙ rw h
 
-  pub claimed-none : (kind ≡ 0 → ⊥) → (kind ≡ 1 → ⊥) → eqb kind 0 ≡ isClaimed kind verdict
-  unfolding isClaimed isFlag
-  claimed-none h k =
+  pub flags-none : (kind ≡ 0 → ⊥) → (kind ≡ 1 → ⊥) → eqb kind 0 ≡ areClaimFlags kind verdict
+  unfolding areClaimFlags isFlag
+  flags-none h k =
       let g : 1 < kind = omega (arith, h, k) in
       rw (lt-leb kind 1 g, ne-eqb kind 0 h)
 
@@ -127,4 +127,4 @@ module _ (flags words : List ℕ) where
     unfolding arePairs
     pairs-are h e = e ∙ rw (eq-eqb (length flags) credentialCount k, eq-eqb (length words) credentialCount h)
 
-pub ruleset rules = (needs, session-is, class-is, credential-in, credential-out, wanted-every, wanted-only, flag-is, user-claim-is, claim-elevated, claim-user, claimed-elevated, claimed-user, claimed-none, fine-both, flags-begin, flags-on, flags-fail, flags-all, pairs-flags, pairs-words, pairs-are)
+pub ruleset rules = (needs, session-is, class-is, credential-in, credential-out, wanted-every, wanted-only, flag-is, user-claim-is, claim-elevated, claim-user, flags-elevated, flags-user, flags-none, fine-both, flags-begin, flags-on, flags-fail, flags-all, pairs-flags, pairs-words, pairs-are)

@@ -18,8 +18,8 @@ use Rattle.entries_arguments.proofs.user_claim_of.Kinds as user-claim-o
 use Rattle.entries_arguments.proofs.user_claim_of.Reads as user-claim-of
 use Rattle.entries_arguments.proofs.claim_of.Kinds as claim-of-kinds
 use Rattle.entries_arguments.proofs.claim_of.Reads as claim-of
-use Rattle.entries_arguments.proofs.is_claimed.Kinds as is-claimed-kinds
-use Rattle.entries_arguments.proofs.is_claimed.Reads as is-claimed
+use Rattle.entries_arguments.proofs.are_claim_flags.Kinds as are-claim-flags-kinds
+use Rattle.entries_arguments.proofs.are_claim_flags.Reads as are-claim-flags
 use Rattle.entries_arguments.proofs.both.Kinds as both-kinds
 use Rattle.entries_arguments.proofs.both.Reads as both
 use Rattle.entries_arguments.proofs.are_pairs.Kinds as are-pairs-kinds
@@ -49,8 +49,8 @@ user-claim-of-once κs a x y s t p q = p ∙ sym q
 pub claim-of-once : OneAnswer 0 claim-of-kinds.ps claim-of-kinds.r claim-of.Post
 claim-of-once κs a x y s t p q = p ∙ sym q
 
-pub is-claimed-once : OneAnswer 0 is-claimed-kinds.ps is-claimed-kinds.r is-claimed.Post
-is-claimed-once κs a x y s t p q = p ∙ sym q
+pub are-claim-flags-once : OneAnswer 0 are-claim-flags-kinds.ps are-claim-flags-kinds.r are-claim-flags.Post
+are-claim-flags-once κs a x y s t p q = p ∙ sym q
 
 pub both-once : OneAnswer 0 both-kinds.ps both-kinds.r both.Post
 both-once κs a x y s t p q = p ∙ sym q

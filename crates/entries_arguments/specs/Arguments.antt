@@ -60,8 +60,8 @@ claimKind Elevated = 1
 claimKind (ByUser u) = 0
 
 -- "there an elevated claim's credential, number and verdict are ignored whatever they hold, by the check for 1 too"
-unfoldable pub isClaimed : ℕ → ℕ → Bool
-isClaimed kind verdict = isFlag kind && (flagOf kind || isFlag verdict)
+unfoldable pub areClaimFlags : ℕ → ℕ → Bool
+areClaimFlags kind verdict = isFlag kind && (flagOf kind || isFlag verdict)
 
 -- "A fresh module is made from eight such pairs": the pairs as a list of flags and a list of words
 unfoldable pub pairsOf : List ℕ → List ℕ → List Grants

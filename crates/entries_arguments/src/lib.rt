@@ -2,7 +2,7 @@
 ghost use mathlib.Core.Path.{_≡_};
 ghost use mathlib.Core.Bool.{_&&_};
 ghost use Rattle.rows.specs.Rows.{every};
-ghost use Rattle.entries_arguments.specs.Arguments.{sessionOf, classOf, credentialOf, wantedOf, isFlag, userClaimOf, claimOf, isClaimed, arePairs};
+ghost use Rattle.entries_arguments.specs.Arguments.{sessionOf, classOf, credentialOf, wantedOf, isFlag, userClaimOf, claimOf, areClaimFlags, arePairs};
 use calls::Wanted;
 use module_state::CREDENTIALS;
 use module_state::Claim;
@@ -79,8 +79,8 @@ pub fn claim_of(kind: u32, credential: u32, number: u16, verdict: u32) -> Claim
     Claim::ByUser(user_claim_of(credential, number, verdict))
 }
 
-pub fn is_claimed(kind: u32, verdict: u32) -> bool
-    ensures { λ r. ⌜ r ≡ isClaimed kind verdict ⌝ }
+pub fn are_claim_flags(kind: u32, verdict: u32) -> bool
+    ensures { λ r. ⌜ r ≡ areClaimFlags kind verdict ⌝ }
 {
     if kind == 1 {
         return true;

@@ -1,7 +1,8 @@
 // The listing's messages, read and written for programs in C and Rust.
 ghost use mathlib.Core.Path.{_≡_};
 ghost use Rattle.rows.specs.Rows.{over};
-ghost use Rattle.listing_messages.specs.Wire.{headLength, request, readRequest, requestRoom, readCount};
+ghost use Rattle.calls.specs.Listing.{headLength};
+ghost use Rattle.listing_messages.specs.Wire.{request, readRequest, requestRoom, readCount};
 ghost use Rattle.entries_listing.specs.Messages.{Given, RowEntry};
 use module_state::ARGUMENT;
 use module_state::DONE;
@@ -60,7 +61,7 @@ pub extern "C" fn slavotuk_read_row(
     let k = row.kind;
     let t = row.name;
     *credential = c.0;
-    *kind = listing_row::type_number(k);
+    *kind = names::type_number(k);
     names::put_name(name, t);
     DONE as u32
 }

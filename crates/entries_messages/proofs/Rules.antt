@@ -71,9 +71,9 @@ module _ (kind : ℕ) (values : List ℕ) where
 
 -- ---- what is handed out
 module _ {A : Type 0} {number : ℕ} (value before : A) where
-  kept : {answer : ℕ} → answer ≡ number → (answer ≡ 0 → ⊥) → before ≡ given number value before
+  unchanged : {answer : ℕ} → answer ≡ number → (answer ≡ 0 → ⊥) → before ≡ given number value before
   unfolding given
-  kept {answer} e h = rw (← e, ne-eqb answer 0 h)
+  unchanged {answer} e h = rw (← e, ne-eqb answer 0 h)
 
   handed : 0 ≡ number → value ≡ given number value before
   unfolding given
@@ -81,14 +81,14 @@ module _ {A : Type 0} {number : ℕ} (value before : A) where
 
 module _ {number : ℕ} (said : List ℕ) (at : ℕ) (values : List ℕ) (rest : ℕ) where
   read-kept : {answer : ℕ} → answer ≡ number → (answer ≡ 0 → ⊥) → ReadEntry number said at values rest answer values rest
-  read-kept e h = record { number-is = e; values-are = kept said values e h; rest-is = kept at rest e h }
+  read-kept e h = record { number-is = e; values-are = unchanged said values e h; rest-is = unchanged at rest e h }
 
   read-handed : {values₁ : List ℕ} {rest₁ : ℕ} → 0 ≡ number → values₁ ≡ said → rest₁ ≡ at → ReadEntry number said at values rest 0 values₁ rest₁
   read-handed e v r = record { number-is = e; values-are = v ∙ handed said values e; rest-is = r ∙ handed at rest e }
 
 module _ {number : ℕ} (said : List ℕ) (at long : ℕ) (values : List ℕ) (rest next : ℕ) where
   piece-kept : {answer : ℕ} → answer ≡ number → (answer ≡ 0 → ⊥) → PieceEntry number said at long values rest next answer values rest next
-  piece-kept e h = record { number-is = e; values-are = kept said values e h; rest-is = kept at rest e h; next-is = kept long next e h }
+  piece-kept e h = record { number-is = e; values-are = unchanged said values e h; rest-is = unchanged at rest e h; next-is = unchanged long next e h }
 
   piece-handed : {values₁ : List ℕ} {rest₁ next₁ : ℕ} → 0 ≡ number → values₁ ≡ said → rest₁ ≡ at → next₁ ≡ long → PieceEntry number said at long values rest next 0 values₁ rest₁ next₁
   piece-handed e v r n =
@@ -97,7 +97,7 @@ module _ {number : ℕ} (said : List ℕ) (at long : ℕ) (values : List ℕ) (r
 module _ {number : ℕ} (long : ℕ) (bytes old : List ℕ) (before : ℕ) where
   write-kept : {answer : ℕ} → answer ≡ number → (answer ≡ 0 → ⊥) → WriteEntry number long bytes old before answer old before
   unfolding writtenOver given
-  write-kept {answer} e h = record { number-is = e; bytes-are = rw (← e, ne-eqb answer 0 h); written-is = kept long before e h }
+  write-kept {answer} e h = record { number-is = e; bytes-are = rw (← e, ne-eqb answer 0 h); written-is = unchanged long before e h }
 
   module _ {m : ℕ} {done : Written} {new : List ℕ} (e : m ≡ number) (d : done ≡ written m long) (b : new ≡ writtenOver m long bytes old) where
     done-number : done .number ≡ number
@@ -106,7 +106,7 @@ module _ {number : ℕ} (long : ℕ) (bytes old : List ℕ) (before : ℕ) where
 
     write-refused : (done .number ≡ 0 → ⊥) → WriteEntry number long bytes old before (done .number) new before
     write-refused h =
-        record { number-is = done-number; bytes-are = b ∙ rw e; written-is = kept long before done-number h }
+        record { number-is = done-number; bytes-are = b ∙ rw e; written-is = unchanged long before done-number h }
 
     write-handed : done .number ≡ 0 → WriteEntry number long bytes old before 0 new (done .long)
     unfolding written given

@@ -3,7 +3,7 @@ ghost use mathlib.Core.Bool.{_&&_};
 ghost use Rattle.names.specs.Names.{readName};
 ghost use Rattle.calls.specs.Calls.{End, Record, Kill, SetWord};
 ghost use Rattle.entries_call.specs.CallEntry.{CallEntry};
-ghost use Rattle.entries_arguments.specs.Arguments.{sessionOf, classOf, credentialOf, wantedOf, isFlag, flagOf, userClaimOf, claimOf, isClaimed};
+ghost use Rattle.entries_arguments.specs.Arguments.{sessionOf, classOf, credentialOf, wantedOf, isFlag, flagOf, userClaimOf, claimOf, areClaimFlags};
 ghost use Rattle.entries_protected.specs.Listing.{ListEntry};
 use module_state::ARGUMENT;
 
@@ -43,9 +43,9 @@ pub extern "C" fn slavotuk_record(
     verdict: u32,
     class: u32,
 ) -> u32
-    ensures { λ r. ⌜ CallEntry (isClaimed kind verdict) (now (state .entry)) (Record (sessionOf session) (claimOf kind credential number verdict) (classOf class)) r (now (state .exit)) ⌝ }
+    ensures { λ r. ⌜ CallEntry (areClaimFlags kind verdict) (now (state .entry)) (Record (sessionOf session) (claimOf kind credential number verdict) (classOf class)) r (now (state .exit)) ⌝ }
 {
-    if !entries_arguments::is_claimed(kind, verdict) {
+    if !entries_arguments::are_claim_flags(kind, verdict) {
         return ARGUMENT as u32;
     }
     entries_record::record(
@@ -68,9 +68,9 @@ pub extern "C" fn slavotuk_list(
     response: &mut [u8],
     long: &mut usize,
 ) -> u32
-    ensures { λ r. ⌜ ListEntry (isClaimed kind verdict) (now (state .entry)) (sessionOf session) (claimOf kind credential number verdict) (wantedOf wanted) (now (response .entry)) r (now (state .exit)) (now (response .exit)) (now (long .exit)) ⌝ }
+    ensures { λ r. ⌜ ListEntry (areClaimFlags kind verdict) (now (state .entry)) (sessionOf session) (claimOf kind credential number verdict) (wantedOf wanted) (now (response .entry)) r (now (state .exit)) (now (response .exit)) (now (long .exit)) ⌝ }
 {
-    if !entries_call::is_ready(entries_arguments::is_claimed(kind, verdict), state) {
+    if !entries_call::is_ready(entries_arguments::are_claim_flags(kind, verdict), state) {
         *long = 0;
         return ARGUMENT as u32;
     }
@@ -97,11 +97,11 @@ pub extern "C" fn slavotuk_kill(
     verdict: u32,
     name: &[u8],
 ) -> u32
-    ensures { λ r. ⌜ CallEntry (readName (now (name .entry)) .fits && isClaimed kind verdict) (now (state .entry)) (Kill (sessionOf session) (claimOf kind credential number verdict) (readName (now (name .entry)) .name)) r (now (state .exit)) ⌝ }
+    ensures { λ r. ⌜ CallEntry (readName (now (name .entry)) .fits && areClaimFlags kind verdict) (now (state .entry)) (Kill (sessionOf session) (claimOf kind credential number verdict) (readName (now (name .entry)) .name)) r (now (state .exit)) ⌝ }
 {
     let read = names::read_name(name);
     if !entries_call::is_ready(
-        entries_arguments::both(read.fits, entries_arguments::is_claimed(kind, verdict)),
+        entries_arguments::both(read.fits, entries_arguments::are_claim_flags(kind, verdict)),
         state,
     ) {
         return ARGUMENT as u32;
@@ -129,9 +129,9 @@ pub extern "C" fn slavotuk_set_word(
     target: u32,
     word: u32,
 ) -> u32
-    ensures { λ r. ⌜ CallEntry (isClaimed kind verdict) (now (state .entry)) (SetWord (sessionOf session) (claimOf kind credential number verdict) (credentialOf target) word) r (now (state .exit)) ⌝ }
+    ensures { λ r. ⌜ CallEntry (areClaimFlags kind verdict) (now (state .entry)) (SetWord (sessionOf session) (claimOf kind credential number verdict) (credentialOf target) word) r (now (state .exit)) ⌝ }
 {
-    if !entries_call::is_ready(entries_arguments::is_claimed(kind, verdict), state) {
+    if !entries_call::is_ready(entries_arguments::are_claim_flags(kind, verdict), state) {
         return ARGUMENT as u32;
     }
     let st = state_read::read(state);

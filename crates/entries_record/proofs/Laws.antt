@@ -5,22 +5,19 @@ use mathlib.Core.Path.{_≡_, sym, ap, _∙_}
 use mathlib.Core.Bool.{Bool, true, false, not}
 use mathlib.Core.List.{List}
 use lib.ListN.{length}
-use borrow.Author.Tests.{not-false}
 use Rattle.rows.specs.Bytes.{Bytes}
 use Rattle.lists.proofs.Lists.{first-inside}
-use Rattle.lists.proofs.Tests.{and-right}
 use Rattle.names.specs.declared.Session.{Session}
 use Rattle.table.specs.Table.{standing, isActive}
 use Rattle.table.specs.declared.Active.{Active}
 use Rattle.table.specs.declared.Active.the-variants.{UserOf}
-use Rattle.module_state.specs.Numbers.{_unless_, _▸_}
 use Rattle.module_state.specs.Module.{hasActive, activePlace, activeProcess}
-use Rattle.module_state.specs.Claim.{admitted, claimed}
+use Rattle.module_state.specs.Claim.{admitted, sought}
 use Rattle.module_state.specs.declared.Claim.{Claim}
 use Rattle.module_state.specs.declared.Claim.the-variants.{Elevated, ByUser}
 use Rattle.module_state.specs.declared.State.{State}
 use Rattle.module_state.proofs.Laws.{claim-stands}
-use Rattle.calls.specs.Calls.{Call, number, counted, passes, outcome}
+use Rattle.calls.specs.Calls.{Call, counted, passes, outcome}
 use Rattle.calls.proofs.Cut.{outcome-stopped}
 use Rattle.state_layout.specs.Layout.{stateOf, stateBytes, holdsState}
 use Rattle.state_layout.proofs.InPlace.{next-held}
@@ -41,7 +38,7 @@ inside st which h = first-inside (isActive which) (standing (st .table)) h
 
 pub counted-held : (b : List ℕ) → Bytes b → holdsState b ≡ true → (s : Session) (claim : Claim) → admitted (stateOf b) s claim ≡ 0
     → countedIn b s claim ≡ stateBytes (counted (stateOf b) s claim)
-unfolding countedIn counted activeProcess claimed
+unfolding countedIn counted activeProcess sought
 counted-held b g e s Elevated z = sym (one-form b e g)
 counted-held b g e s (ByUser u) z =
     let which : Active = UserOf s (u .credential) in

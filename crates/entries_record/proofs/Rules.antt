@@ -12,7 +12,7 @@ use Rattle.table.specs.Table.{processAt}
 use Rattle.table.specs.declared.Active.the-variants.{UserOf}
 use Rattle.table.specs.declared.Process.{Process}
 use Rattle.module_state.specs.Module.{activeProcess}
-use Rattle.module_state.specs.Claim.{claimed, checked, passedBy}
+use Rattle.module_state.specs.Claim.{sought, checked, passedBy}
 use Rattle.module_state.specs.declared.Checked.{Checked}
 use Rattle.module_state.specs.declared.Claim.{Claim}
 use Rattle.module_state.specs.declared.Claim.the-variants.{Elevated, ByUser}
@@ -31,7 +31,7 @@ use Rattle.entries_record.proofs.Laws.{stopped-bytes, counted-held}
 -- ---- the count
 module _ (b : List ℕ) (s : Session) (u : UserClaim) {by : Checked} (e : by ≡ checked (stateOf b) s (ByUser u)) (z : by .number ≡ 0) where
   count-next : by .next ≡ activeProcess (stateOf b) (UserOf s (u .credential)) .next
-  unfolding claimed
+  unfolding sought
   count-next = checked-next (stateOf b) s (ByUser u) e
 
   pub one-more-fits : by .next < 65536 → Fits w16 (by .next + 1)

@@ -26,7 +26,6 @@ use Rattle.entries_call.proofs.Laws.{call-none, call-made}
 use Rattle.entries_arguments.specs.Arguments.{pairsOf, arePairs}
 use Rattle.entries_arguments.proofs.Rules.{fine-fits, fine-both}
 use Rattle.entries_unprotected.specs.Fresh.{canFresh, FreshEntry}
-use Rattle.entries_unprotected.specs.Version.{versionNumber, libraryVersion}
 
 -- ---- calls with equal arguments
 module _ {s t : Session} (e : s ≡ t) where
@@ -131,8 +130,4 @@ module _ (bytes : List ℕ) {h : Bool} (e : h ≡ holdsState bytes) where
   unfolding holdsNumber _unless_
   holds-none t = rw (sym e ∙ t)
 
-pub version-is : 131073 ≡ libraryVersion
-unfolding libraryVersion versionNumber
-version-is = refl
-
-pub ruleset rules = (needs, call-none, call-made, same-open, same-close, same-select, same-drop, same-start, same-continue, same-elevate, fine-fits, fine-both, pairs-begin, pairs-on, pairs-all, eight-flags, eight-words, fresh-long, fresh-refused, fresh-made, holds-done, holds-none, version-is)
+pub ruleset rules = (needs, call-none, call-made, same-open, same-close, same-select, same-drop, same-start, same-continue, same-elevate, fine-fits, fine-both, pairs-begin, pairs-on, pairs-all, eight-flags, eight-words, fresh-long, fresh-refused, fresh-made, holds-done, holds-none)

@@ -18,12 +18,12 @@ use Rattle.table.specs.declared.Process.{Process}
 use Rattle.table.proofs.Searched.{user-of}
 use Rattle.module_state.specs.Numbers as No
 use Rattle.module_state.specs.Numbers.{_when_, _unless_, _▸_}
-use Rattle.module_state.specs.Module.{isHandle, phaseOf, isClosed, isChosen, hasActive, activePlace, activeProcess}
-use Rattle.module_state.specs.Claim.{phaseNumber, entered, claimView, isClaim, isSpent, turnNumber, checkNumber, checkOf, checked, admitted}
+use Rattle.module_state.specs.Module.{isSession, phaseOf, isClosed, isChosen, hasActive, activePlace, activeProcess}
+use Rattle.module_state.specs.Claim.{phaseNumber, entered, claimView, isInRange, isSpent, turnNumber, checkNumber, checkOf, checked, admitted}
 use Rattle.module_state.specs.declared.Claim.the-variants.{ByUser}
 use Rattle.module_state.specs.declared.State.{State}
 use Rattle.module_state.specs.declared.UserClaim.{UserClaim}
-use Rattle.module_state.proofs.Laws.{pass, unless-true, when-false, clear-first, clear-rest, clear-unless, passed-check, user-tests}
+use Rattle.module_state.proofs.Laws.{pass, unless-true, when-false, passed-check, user-tests}
 use Rattle.calls.specs.Calls.{Call, Open, Close, Drop, Select, Start, Continue, Elevate, End, Record, ListProcesses, Kill, SetWord, Under, protection, endTests, recordTests, listTests, killTests, setWordTests, number, aheadNumber, protectedNumber, passes}
 use Rattle.calls.specs.Run.{step, run}
 use Rattle.calls.proofs.Facts.{needs}
@@ -42,11 +42,11 @@ use Rattle.history.proofs.Along.{rules-along, told-along, larger}
 
 -- ---- what a claim that passed says of itself, whatever the state
 module _ (st : State) (s : Session) (u : UserClaim) (z : admitted st s (ByUser u) ≡ 0) where
-  in-range : isClaim (ByUser u) ≡ true
+  in-range : isInRange (ByUser u) ≡ true
   in-range = passed-check st s (ByUser u) z .range
 
-  is-handle : isHandle s ≡ true
-  is-handle = passed-check st s (ByUser u) z .handle
+  is-session : isSession s ≡ true
+  is-session = passed-check st s (ByUser u) z .handle
 
 -- the tests ahead of a claim ask nothing of the state
 ahead-same : (st last : State) (call : Call) (s : Session) (u : UserClaim) → protection call ≡ Under s (ByUser u) → aheadNumber last call ≡ aheadNumber st call
@@ -69,7 +69,7 @@ unfolding protectedNumber
 claim-is st call s u k = rw k
 
 -- ---- where the claim's process stands, the check of such a claim asks for its turn alone
-module _ (st : State) (v : Rules st) (s : Session) (u : UserClaim) (range : isClaim (ByUser u) ≡ true) (handle : isHandle s ≡ true) (h : hasActive st (UserOf s (u .credential)) ≡ true) where
+module _ (st : State) (v : Rules st) (s : Session) (u : UserClaim) (range : isInRange (ByUser u) ≡ true) (handle : isSession s ≡ true) (h : hasActive st (UserOf s (u .credential)) ≡ true) where
   chosen : isChosen (phaseOf st s) ≡ true
   chosen =
       let f = stands st (UserOf s (u .credential)) h in
@@ -146,7 +146,7 @@ module _ (st : State) (v : Rules st) (tell : Name → Life) (tells : Tells tell 
     sent-again =
         let z : admitted st s (ByUser u) ≡ 0 = claim-passed st call s u k p in
         let turn : admitted last s (ByUser u) ≡ turnNumber (activeProcess last (UserOf s (u .credential)) .next) u =
-        turn-alone last rules-last s u (in-range st s u z) (is-handle st s u z) (live-stands name last s (u .credential) ms at-last)
+        turn-alone last rules-last s u (in-range st s u z) (is-session st s u z) (live-stands name last s (u .credential) ms at-last)
         in
         let is : number last call ≡ turnNumber (activeProcess last (UserOf s (u .credential)) .next) u =
         number-stop last call not-again ∙ pass _ (ahead-same st last call s u k ∙ passed-ahead st call p) ∙ claim-is last call s u k ∙ turn

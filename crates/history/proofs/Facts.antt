@@ -3,7 +3,7 @@
 use Prim.Native.Nat.{_<_}
 use mathlib.Core.Path.{_≡_, refl, sym}
 use mathlib.Core.Bool.{true, false}
-use borrow.Author.Tests.{eqb-true, eqb-false, leb-false}
+use borrow.Author.Tests.{eqb-false, leb-false}
 use Rattle.names.specs.declared.Credential.{Credential}
 use Rattle.names.specs.declared.Name.{Name}
 use Rattle.names.specs.declared.Session.{Session}
@@ -14,7 +14,7 @@ use Rattle.table.specs.declared.Among.the-variants.{All, SavedOf}
 use Rattle.module_state.specs.Numbers as No
 use Rattle.module_state.specs.Numbers.{_when_, _▸_}
 use Rattle.module_state.specs.Module.{phaseOf, isClosed, isChosen, provisioned, hasActive, activePlace, activeProcess}
-use Rattle.module_state.specs.Claim.{phaseNumber, entered, claimed, isSpent, checked, admitted}
+use Rattle.module_state.specs.Claim.{phaseNumber, entered, sought, isSpent, checked, admitted}
 use Rattle.module_state.specs.declared.Claim.{Claim}
 use Rattle.module_state.specs.declared.Claim.the-variants.{Elevated, ByUser}
 use Rattle.module_state.specs.declared.Phase.{Phase}
@@ -36,13 +36,13 @@ closed-not Chosen e = sym e
 
 module _ (st : State) where
   -- ---- the session of every call but open, close and select
-  seat : (s : Session) → entered st s ≡ 0 → isChosen (phaseOf st s) ≡ true
+  chosen : (s : Session) → entered st s ≡ 0 → isChosen (phaseOf st s) ≡ true
   unfolding phaseNumber entered
-  seat s e = clear-unless No.noVersion tt _ (clear-rest _ _ (clear-rest _ _ e))
+  chosen s e = clear-unless No.noVersion tt _ (clear-rest _ _ (clear-rest _ _ e))
 
   -- ---- a new process: its session, its owner, no other that is active as it is to be, its name, and room
   pub record Added (which : Active) (s : Session) (c : Credential) (name : Name) : Type 0 where
-    pub seat : isChosen (phaseOf st s) ≡ true
+    pub chosen : isChosen (phaseOf st s) ≡ true
     pub owner : provisioned st c ≡ true
     pub free : Each (λ p. isActive which p ≡ false) (processes st)
     pub unused : Each (λ p. isNamed name All p ≡ false) (processes st)
@@ -53,7 +53,7 @@ module _ (st : State) where
   unfolding hasActive hasNamed isFull
   added which s c name e owner h =
       record {
-        seat = seat s e;
+        chosen = chosen s e;
         owner = owner;
         free = each-fails (isActive which) (processes st) (clear-when No.alreadyActive tt _ (clear-first _ _ h));
         unused = each-fails (isNamed name All) (processes st) (clear-when No.nameTaken tt _ (clear-first _ _ (clear-rest _ _ h)));
@@ -62,7 +62,7 @@ module _ (st : State) where
 
   -- ---- a saved process that goes on
   pub record Continued (s : Session) (c : Credential) (name : Name) : Type 0 where
-    pub seat : isChosen (phaseOf st s) ≡ true
+    pub chosen : isChosen (phaseOf st s) ≡ true
     pub stands : Stands (isNamed name (SavedOf c)) (processes st) freePlace (namedPlace st name (SavedOf c))
     pub free : Each (λ p. isActive (UserOf s c) p ≡ false) (processes st)
 
@@ -75,17 +75,17 @@ module _ (st : State) where
   stands which h = found (isActive which) (processes st) freePlace h
 
   -- ---- a claim: a user claim is in turn
-  pub record Claimed (s : Session) (u : UserClaim) : Type 0 where
+  pub record UserPassed (s : Session) (u : UserClaim) : Type 0 where
     pub stands : ActiveStands (UserOf s (u .credential))
     pub unspent : activeProcess st (UserOf s (u .credential)) .next ≡ 65535 → ⊥
     pub number : u .number ≡ activeProcess st (UserOf s (u .credential)) .next
 
-  abbrev pub Admitted : Session → Claim → Type 0
-  Admitted s Elevated = Unit {0}
-  Admitted s (ByUser u) = Claimed s u
+  abbrev pub ClaimPassed : Session → Claim → Type 0
+  ClaimPassed s Elevated = Unit {0}
+  ClaimPassed s (ByUser u) = UserPassed s u
 
-  pub passed : (s : Session) (claim : Claim) → admitted st s claim ≡ 0 → Admitted s claim
-  unfolding claimed isSpent
+  pub passed : (s : Session) (claim : Claim) → admitted st s claim ≡ 0 → ClaimPassed s claim
+  unfolding sought isSpent
   passed s Elevated e = tt
   passed s (ByUser u) e =
       let user = passed-user st s u e in
@@ -97,12 +97,12 @@ module _ (st : State) where
 
   -- ---- a kill, by its claim, of the process of a name that it may kill
   pub record Killed (s : Session) (claim : Claim) (name : Name) : Type 0 where
-    pub admission : Admitted s claim
+    pub passed : ClaimPassed s claim
     pub stands : Stands (isNamed name (reach (checked st s claim))) (processes st) freePlace (namedPlace st name (reach (checked st s claim)))
 
   -- ---- the word of a provisioned credential set
   pub record Set (s : Session) (claim : Claim) (c : Credential) : Type 0 where
-    pub admission : Admitted s claim
+    pub passed : ClaimPassed s claim
     pub owner : provisioned st c ≡ true
 
   -- ---- the facts of each call
@@ -114,9 +114,9 @@ module _ (st : State) where
   Facts (Continue s c name) = Continued s c name
   Facts (Elevate s c name verdict) = Added (ElevationIn s) s c name
   Facts (Drop s) = ActiveStands (ElevationIn s)
-  Facts (End s u keep) = Claimed s u
-  Facts (Record s claim class) = Admitted s claim
-  Facts (ListProcesses s claim wanted room) = Admitted s claim
+  Facts (End s u keep) = UserPassed s u
+  Facts (Record s claim class) = ClaimPassed s claim
+  Facts (ListProcesses s claim wanted room) = ClaimPassed s claim
   Facts (Kill s claim name) = Killed s claim name
   Facts (SetWord s claim c word) = Set s claim c
 
@@ -134,7 +134,7 @@ module _ (st : State) where
   facts (Continue s c name) e =
       let rest = clear-rest _ _ (clear-rest _ _ (clear-rest _ _ e)) in
       record {
-        seat = seat s (clear-first _ _ (clear-rest _ _ e));
+        chosen = chosen s (clear-first _ _ (clear-rest _ _ e));
         stands = found (isNamed name (SavedOf c)) (processes st) freePlace (clear-unless No.noProcess tt _ (clear-first _ _ rest));
         free = each-fails (isActive (UserOf s c)) (processes st) (clear-when No.alreadyActive tt _ (clear-rest _ _ rest));
       }
@@ -151,12 +151,12 @@ module _ (st : State) where
   facts (Kill s claim name) e =
       let all = accepted st (Kill s claim name) refl e in
       record {
-        admission = passed s claim (all .claim-passed);
+        passed = passed s claim (all .claim-passed);
         stands = found (isNamed name (reach (checked st s claim))) (processes st) freePlace (clear-unless No.noProcess tt _ (all .after));
       }
   facts (SetWord s claim c word) e =
       let all = accepted st (SetWord s claim c word) refl e in
       record {
-        admission = passed s claim (all .claim-passed);
+        passed = passed s claim (all .claim-passed);
         owner = clear-unless No.credential tt _ (clear-rest _ _ (all .after));
       }

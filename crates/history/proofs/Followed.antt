@@ -40,7 +40,7 @@ use Rattle.history.specs.History.{ends, shuts, drops, resumes, after, ev
 use Rattle.history.specs.Demand.{life, lifeOf, look}
 use Rattle.module_rules.specs.Facts.{processes, Rules}
 use Rattle.lists.proofs.Each.{Stands, each-fails, each-imp, each-all, pairs-imp}
-use Rattle.history.proofs.Facts.{Added, Continued, ActiveStands, Admitted, Facts, facts, passed}
+use Rattle.history.proofs.Facts.{Added, Continued, ActiveStands, ClaimPassed, Facts, facts, passed}
 use Rattle.history.proofs.Read.{reading}
 use Rattle.history.proofs.Keeping.{active-more, named-more, unnamed, rest-apart, kept-counted, stands-counted, step-accepted, step-refused}
 use Rattle.history.proofs.Looked.{Distinct, Fixed, look-fixed, is-name, other-name, look-set, look-remove, look-reject, look-append}
@@ -160,7 +160,7 @@ module _ (n : Name) (st : State) (v : Rules st) where
       (each-imp (λ p e q. drops-is s (p .session) (p .credential) (p .next) (p .kind) ∙ rw e) (rest-free i (f .inside) (ElevationIn s) (f .passes)))
 
   -- ---- a claim
-  pub follows-counted : (s : Session) (claim : Claim) → Admitted st s claim → look n (processes (counted st s claim)) ≡ counts s claim (look n (processes st))
+  pub follows-counted : (s : Session) (claim : Claim) → ClaimPassed st s claim → look n (processes (counted st s claim)) ≡ counts s claim (look n (processes st))
   unfolding counted counts activeProcess processAt isActive
   follows-counted s Elevated f = refl
   follows-counted s (ByUser u) f =
@@ -236,8 +236,8 @@ module _ (n : Name) (st : State) (v : Rules st) where
   follows (Kill s claim name) f =
       let among : Among = reach (checked st s claim) in
       sym
-      (follows-killed n (counted st s claim) (kept-counted st v s claim (f .admission)) name among (namedPlace st name among)
-      (stands-counted st s claim (f .admission) (isNamed name among) (named-more name among) (namedPlace st name among) (f .stands)))
+      (follows-killed n (counted st s claim) (kept-counted st v s claim (f .passed)) name among (namedPlace st name among)
+      (stands-counted st s claim (f .passed) (isNamed name among) (named-more name among) (namedPlace st name among) (f .stands)))
   follows (SetWord s claim c word) f = refl
 
 -- ---- the claim of a call, by what is told of it: its number, and whether the claim passed

@@ -34,9 +34,9 @@ use Rattle.calls.specs.Run.{step, run}
 use Rattle.module_rules.specs.Facts.{processes, Rules, FormedGrants, FormedProcess, IsState}
 use Rattle.module_rules.proofs.Laws.{provisioned-low, chosen-low}
 use Rattle.history.specs.Fits.{IsWord, Fits, Eight}
-use Rattle.history.proofs.Facts.{Claimed, Admitted, Facts, facts}
+use Rattle.history.proofs.Facts.{UserPassed, ClaimPassed, Facts, facts}
 use Rattle.history.proofs.Tables.{rules-fresh}
-use Rattle.history.proofs.Keeping.{active-more, named-more, stands-counted, kept, step-by}
+use Rattle.history.proofs.Keeping.{active-more, named-more, stands-counted, rules-effect, step-by}
 
 -- ---- a fact of each process. By an accepted call each is one that stood, or one that stood and was counted, saved or continued, or the new one: what these keep, every call keeps
 module _ (P : Process → Type 0) (st : State) where
@@ -61,31 +61,31 @@ module _ (P : Process → Type 0) (st : State) where
   Begins (SetWord s claim c word) = Unit {0}
 
   module _ (l : Lasts) (v : Each P (processes st)) where
-    more-claimed : (s : Session) (u : UserClaim) → Claimed st s u → P (oneMore (activeProcess st (UserOf s (u .credential))))
+    more-passed : (s : Session) (u : UserClaim) → UserPassed st s u → P (oneMore (activeProcess st (UserOf s (u .credential))))
     unfolding activeProcess processAt
-    more-claimed s u f =
+    more-passed s u f =
         let i : ℕ = activePlace st (UserOf s (u .credential)) in
         let x : Process = getD (processes st) i freePlace in
         l .more x (user-of x s (u .credential) (f .stands .passes) .kind) (f .unspent) (each-at i freePlace (f .stands .inside) v)
 
-    put-counted : (s : Session) (u : UserClaim) → Claimed st s u → P (saved (processAt (counted st s (ByUser u) .table) (activePlace st (UserOf s (u .credential)))))
+    put-counted : (s : Session) (u : UserClaim) → UserPassed st s u → P (saved (processAt (counted st s (ByUser u) .table) (activePlace st (UserOf s (u .credential)))))
     unfolding counted activeProcess processAt
     put-counted s u f =
         let i : ℕ = activePlace st (UserOf s (u .credential)) in
         let x : Process = getD (processes st) i freePlace in
         rw (standing-replaced (st .table) i (oneMore x), getD-set-same (processes st) i (oneMore x) freePlace (f .stands .inside))
-        (l .put x (user-of x s (u .credential) (f .stands .passes) .kind) (more-claimed s u f))
+        (l .put x (user-of x s (u .credential) (f .stands .passes) .kind) (more-passed s u f))
 
-    each-counted : (s : Session) (claim : Claim) → Admitted st s claim → Each P (processes (counted st s claim))
+    each-counted : (s : Session) (claim : Claim) → ClaimPassed st s claim → Each P (processes (counted st s claim))
     unfolding counted activeProcess processAt
     each-counted s Elevated f = v
     each-counted s (ByUser u) f =
         let i : ℕ = activePlace st (UserOf s (u .credential)) in
         let x : Process = getD (processes st) i freePlace in
         rw (standing-replaced (st .table) i (oneMore x))
-        (each-set i (oneMore x) v (more-claimed s u f))
+        (each-set i (oneMore x) v (more-passed s u f))
 
-    each-ended : (s : Session) (u : UserClaim) → Claimed st s u → (keep : Bool) → Each P (processes (ended (counted st s (ByUser u)) (activePlace st (UserOf s (u .credential))) keep))
+    each-ended : (s : Session) (u : UserClaim) → UserPassed st s u → (keep : Bool) → Each P (processes (ended (counted st s (ByUser u)) (activePlace st (UserOf s (u .credential))) keep))
     unfolding ended
     each-ended s u f true =
         let i : ℕ = activePlace st (UserOf s (u .credential)) in
@@ -108,7 +108,7 @@ module _ (P : Process → Type 0) (st : State) where
         let x : Process = getD (processes st) i freePlace in
         let was = saved-of x c (named-among x name (SavedOf c) (f .stands .passes)) in
         rw (standing-replaced (st .table) i (activated s x))
-        (each-set i (activated s x) v (l .on s x (f .seat) (was .kind) (each-at i freePlace (f .stands .inside) v)))
+        (each-set i (activated s x) v (l .on s x (f .chosen) (was .kind) (each-at i freePlace (f .stands .inside) v)))
     each-effect (Elevate s c name verdict) f b = rw (standing-appended (st .table) (elevation s c name) (f .room)) (each-append (elevation s c name) v b)
     each-effect (Drop s) f b = rw (standing-removed (st .table) _) (each-remove _ (f .inside) v)
     each-effect (End s u keep) f b = each-ended s u f keep
@@ -117,9 +117,9 @@ module _ (P : Process → Type 0) (st : State) where
     each-effect (Kill s claim name) f b =
         let among : Among = reach (checked st s claim) in
         let i : ℕ = namedPlace st name among in
-        let stands = stands-counted st s claim (f .admission) (isNamed name among) (named-more name among) i (f .stands) in
-        rw (standing-removed (counted st s claim .table) i) (each-remove i (stands .inside) (each-counted s claim (f .admission)))
-    each-effect (SetWord s claim c word) f b = each-counted s claim (f .admission)
+        let stands = stands-counted st s claim (f .passed) (isNamed name among) (named-more name among) i (f .stands) in
+        rw (standing-removed (counted st s claim .table) i) (each-remove i (stands .inside) (each-counted s claim (f .passed)))
+    each-effect (SetWord s claim c word) f b = each-counted s claim (f .passed)
 
 -- ---- around the processes: sessions and credentials as many as before, words of 32 bits where the call has one (F), a tidy table
 pub record Around (F : Type 0) (st next : State) : Type 0 where
@@ -184,7 +184,7 @@ around st (Record s claim class) f = around-counted st s claim
 around st (ListProcesses s claim wanted room) f = around-counted st s claim
 around st (Kill s claim name) f = around-then (around-counted st s claim) (around-table (counted st s claim) _ (tidy-of _))
 around st (SetWord s claim c word) f =
-    around-then (around-counted st s claim) (around-grants (counted st s claim) c _ (λ w. record { word = w; kept = λ e. clash refl e }))
+    around-then (around-counted st s claim) (around-grants (counted st s claim) c _ (λ w. record { word = w; zero = λ e. clash refl e }))
 
 -- ---- the form
 module _ (st : State) (v : IsState st) where
@@ -193,7 +193,7 @@ module _ (st : State) (v : IsState st) where
       record {
         more = λ p k u f. record { credential = f .credential; session = f .session; next = omega (arith, f .next, u); name = f .name; saved = f .saved; elevation = λ e. cc; counted = λ e. omega arith };
         put = λ p k f. record { credential = f .credential; session = omega arith; next = f .next; name = f .name; saved = λ e. refl; elevation = λ e. cc; counted = λ e. omega arith };
-        on = λ s p seat k f. record { credential = f .credential; session = chosen-low st s (v .formed .sessions) seat; next = f .next; name = f .name; saved = λ e. cc; elevation = λ e. cc; counted = λ e. f .counted k };
+        on = λ s p chosen k f. record { credential = f .credential; session = chosen-low st s (v .formed .sessions) chosen; next = f .next; name = f .name; saved = λ e. cc; elevation = λ e. cc; counted = λ e. f .counted k };
       }
 
   formed-begins : (call : Call) → Facts st call → Fits call → Begins FormedProcess st call
@@ -201,10 +201,10 @@ module _ (st : State) (v : IsState st) where
   formed-begins (Close s) f w = tt
   formed-begins (Select s byte) f w = tt
   formed-begins (Start s c name) f w =
-      record { credential = provisioned-low st c (v .formed .credentials) (f .owner); session = chosen-low st s (v .formed .sessions) (f .seat); next = omega arith; name = w; saved = λ e. cc; elevation = λ e. cc; counted = λ e. let z : _≡_ {A = ℕ} 0 1 = cc in absurd (omega arith) }
+      record { credential = provisioned-low st c (v .formed .credentials) (f .owner); session = chosen-low st s (v .formed .sessions) (f .chosen); next = omega arith; name = w; saved = λ e. cc; elevation = λ e. cc; counted = λ e. let z : _≡_ {A = ℕ} 0 1 = cc in absurd (omega arith) }
   formed-begins (Continue s c name) f w = tt
   formed-begins (Elevate s c name verdict) f w =
-      record { credential = provisioned-low st c (v .formed .credentials) (f .owner); session = chosen-low st s (v .formed .sessions) (f .seat); next = omega arith; name = w; saved = λ e. cc; elevation = λ e. refl; counted = λ e. let z : _≡_ {A = ℕ} 0 1 = cc in absurd (omega arith) }
+      record { credential = provisioned-low st c (v .formed .credentials) (f .owner); session = chosen-low st s (v .formed .sessions) (f .chosen); next = omega arith; name = w; saved = λ e. cc; elevation = λ e. refl; counted = λ e. let z : _≡_ {A = ℕ} 0 1 = cc in absurd (omega arith) }
   formed-begins (Drop s) f w = tt
   formed-begins (End s u keep) f w = tt
   formed-begins (Record s claim class) f w = tt
@@ -231,10 +231,10 @@ module _ (st : State) (v : IsState st) where
 
   state-effect : (call : Call) → Facts st call → Fits call → IsState (effect st call)
   state-effect call f w =
-      state-by (kept st (v .rules) call f) (around st call f) w (each-effect FormedProcess st formed-lasts (v .formed .each) call f (formed-begins call f w))
+      state-by (rules-effect st (v .rules) call f) (around st call f) w (each-effect FormedProcess st formed-lasts (v .formed .each) call f (formed-begins call f w))
 
 -- a record does nothing but count its claim
-pub state-counted : (st : State) → IsState st → (s : Session) (claim : Claim) → Admitted st s claim → IsState (counted st s claim)
+pub state-counted : (st : State) → IsState st → (s : Session) (claim : Claim) → ClaimPassed st s claim → IsState (counted st s claim)
 unfolding effect
 state-counted st v s claim f = state-effect st v (Record s claim (record { 0 = 4 })) f tt
 
@@ -251,7 +251,7 @@ words-taken : {pairs : List Grants} → Each (λ g. IsWord (g .word)) pairs → 
 unfolding taken
 words-taken each-nil = each-nil
 words-taken (each-cons {x = x} w h) =
-    each-cons {x = taken x} (record { word = split (x .provisioned) (λ e. rw e w) (λ e. rw e (omega arith)); kept = λ e. rw e }) (words-taken h)
+    each-cons {x = taken x} (record { word = split (x .provisioned) (λ e. rw e w) (λ e. rw e (omega arith)); zero = λ e. rw e }) (words-taken h)
 
 pub state-fresh : (pairs : List Grants) → Eight pairs → IsState (fresh pairs)
 unfolding fresh

@@ -36,7 +36,7 @@ use Rattle.lists.specs.Each.{Each}
 use Rattle.module_rules.specs.Facts.{processes, Owned, Apart, Rules}
 use Rattle.module_rules.proofs.Laws.{apart-turn}
 use Rattle.lists.proofs.Each.{Stands, stands-set, each-imp, each-imp₂, each-at, each-remove, each-left, pairs-rest}
-use Rattle.history.proofs.Facts.{Added, Continued, Admitted, Facts, facts, passed}
+use Rattle.history.proofs.Facts.{Added, Continued, ClaimPassed, Facts, facts, passed}
 use Rattle.history.proofs.Tables.{rules-append, rules-set, rules-remove, rules-reject, rules-idle, rules-chosen, rules-grants, idle}
 
 -- ---- of which process a process can be the active one
@@ -114,14 +114,14 @@ module _ (st : State) (v : Rules st) where
   unfolding effect
   kept-start s c name f =
       kept-added (UserOf s c) s c (userProcess s c name) f
-      (record { owner = f .owner; seated = λ k. f .seat })
+      (record { owner = f .owner; seated = λ k. f .chosen })
       (only-user s c (userProcess s c name) refl refl refl)
 
   kept-elevate : (s : Session) (c : Credential) (name : Name) (verdict : Bool) → Added st (ElevationIn s) s c name → Rules (effect st (Elevate s c name verdict))
   unfolding effect
   kept-elevate s c name verdict f =
       kept-added (ElevationIn s) s c (elevation s c name) f
-      (record { owner = f .owner; seated = λ k. f .seat })
+      (record { owner = f .owner; seated = λ k. f .chosen })
       (only-elevation s (elevation s c name) refl refl)
 
   kept-continue : (s : Session) (c : Credential) (name : Name) → Continued st s c name → Rules (effect st (Continue s c name))
@@ -131,14 +131,14 @@ module _ (st : State) (v : Rules st) where
       let x : Process = getD (processes st) i freePlace in
       let was = saved-of x c (named-among x name (SavedOf c) (f .stands .passes)) in
       kept-replaced i (f .stands .inside) (activated s x)
-      (record { owner = owned-at i (f .stands .inside) .owner; seated = λ k. f .seat })
+      (record { owner = owned-at i (f .stands .inside) .owner; seated = λ k. f .chosen })
       (each-imp₂
       (λ z a e. apart-as z (activated s x) (a .names) (UserOf s c) (only-user s c (activated s x) refl refl (was .credential)) e)
       (rest-apart i (f .stands .inside))
       (each-remove i (f .stands .inside) (f .free)))
 
   -- ---- the process of a claim
-  pub kept-counted : (s : Session) (claim : Claim) → Admitted st s claim → Rules (counted st s claim)
+  pub kept-counted : (s : Session) (claim : Claim) → ClaimPassed st s claim → Rules (counted st s claim)
   unfolding counted activeProcess processAt
   kept-counted s Elevated f = v
   kept-counted s (ByUser u) f =
@@ -163,7 +163,7 @@ module _ (st : State) (v : Rules st) where
 
 -- what stands at a place still stands there after the claim is counted
 module _ (st : State) (s : Session) where
-  pub stands-counted : (claim : Claim) → Admitted st s claim → (f : Process → Bool) → ((p : Process) → f (oneMore p) ≡ f p) → (j : ℕ) → Stands f (processes st) freePlace j → Stands f (processes (counted st s claim)) freePlace j
+  pub stands-counted : (claim : Claim) → ClaimPassed st s claim → (f : Process → Bool) → ((p : Process) → f (oneMore p) ≡ f p) → (j : ℕ) → Stands f (processes st) freePlace j → Stands f (processes (counted st s claim)) freePlace j
   unfolding counted activeProcess processAt replaced
   stands-counted Elevated a f same j h = h
   stands-counted (ByUser u) a f same j h =
@@ -173,30 +173,30 @@ module _ (st : State) (s : Session) where
 
 -- ---- a call, with what is known of it where it is accepted
 module _ (st : State) (v : Rules st) where
-  pub kept : (call : Call) → Facts st call → Rules (effect st call)
+  pub rules-effect : (call : Call) → Facts st call → Rules (effect st call)
   unfolding effect withoutSession counted
-  kept (Open s) f = rules-idle st v s Opened (idle st v s f)
-  kept (Close s) f =
+  rules-effect (Open s) f = rules-idle st v s Opened (idle st v s f)
+  rules-effect (Close s) f =
       let rest : State = withTable st (tableOf (reject (isActiveIn s) (processes st))) in
       rules-idle rest (rules-reject st v (isActiveIn s)) s Closed (rw (standing-of (reject (isActiveIn s) (processes st))) (each-left (isActiveIn s) (processes st)))
-  kept (Select s byte) f = rules-chosen st v s
-  kept (Start s c name) f = kept-start st v s c name f
-  kept (Continue s c name) f = kept-continue st v s c name f
-  kept (Elevate s c name verdict) f = kept-elevate st v s c name verdict f
-  kept (Drop s) f = kept-removed st v (activePlace st (ElevationIn s)) (f .inside)
-  kept (End s u keep) f =
+  rules-effect (Select s byte) f = rules-chosen st v s
+  rules-effect (Start s c name) f = kept-start st v s c name f
+  rules-effect (Continue s c name) f = kept-continue st v s c name f
+  rules-effect (Elevate s c name verdict) f = kept-elevate st v s c name verdict f
+  rules-effect (Drop s) f = kept-removed st v (activePlace st (ElevationIn s)) (f .inside)
+  rules-effect (End s u keep) f =
       let which : Active = UserOf s (u .credential) in
       kept-ended (counted st s (ByUser u)) (kept-counted st v s (ByUser u) f) (activePlace st which)
       (stands-counted st s (ByUser u) f (isActive which) (active-more which) (activePlace st which) (f .stands) .inside)
       keep
-  kept (Record s claim class) f = kept-counted st v s claim f
-  kept (ListProcesses s claim wanted room) f = kept-counted st v s claim f
-  kept (Kill s claim name) f =
+  rules-effect (Record s claim class) f = kept-counted st v s claim f
+  rules-effect (ListProcesses s claim wanted room) f = kept-counted st v s claim f
+  rules-effect (Kill s claim name) f =
       let among : Among = reach (checked st s claim) in
-      kept-removed (counted st s claim) (kept-counted st v s claim (f .admission)) (namedPlace st name among)
-      (stands-counted st s claim (f .admission) (isNamed name among) (named-more name among) (namedPlace st name among) (f .stands) .inside)
-  kept (SetWord s claim c word) f =
-      rules-grants (counted st s claim) (kept-counted st v s claim (f .admission)) c _ refl
+      kept-removed (counted st s claim) (kept-counted st v s claim (f .passed)) (namedPlace st name among)
+      (stands-counted st s claim (f .passed) (isNamed name among) (named-more name among) (namedPlace st name among) (f .stands) .inside)
+  rules-effect (SetWord s claim c word) f =
+      rules-grants (counted st s claim) (kept-counted st v s claim (f .passed)) c _ refl
 
 -- ---- a call, refused or not: by what it does where it is accepted, and by the claim counted where it is refused after it
 module _ (st : State) (call : Call) where
@@ -208,7 +208,7 @@ module _ (st : State) (call : Call) where
   unfolding step
   step-refused e = refusal-leaves st call e
 
-  module _ (P : State → Type 0) (p : P st) (c : (s : Session) (claim : Claim) → Admitted st s claim → P (counted st s claim)) where
+  module _ (P : State → Type 0) (p : P st) (c : (s : Session) (claim : Claim) → ClaimPassed st s claim → P (counted st s claim)) where
     by-charged : (w : Protection) → protectedNumber st w ≡ 0 → P (charged st w)
     unfolding charged protectedNumber
     by-charged Free e = p
@@ -225,4 +225,4 @@ module _ (st : State) (call : Call) where
         (λ e. subst P (sym (step-refused (eqb-false (number st call) 0 e))) by-left)
 
 pub rules-step : (st : State) (call : Call) → Rules st → Rules (step st call)
-rules-step st call v = step-by st call Rules v (kept-counted st v) (λ z. kept st v call (facts st call z))
+rules-step st call v = step-by st call Rules v (kept-counted st v) (λ z. rules-effect st v call (facts st call z))

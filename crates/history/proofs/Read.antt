@@ -7,6 +7,7 @@ use lib.ListN.{getD}
 use borrow.Author.Tests.{eqb-false}
 use Rattle.lists.proofs.Tests.{split}
 use Rattle.lists.proofs.Each.{each-at}
+use Rattle.rows.specs.Rows.{every}
 use Rattle.names.specs.declared.Session.{Session}
 use Rattle.table.specs.Table.{freePlace}
 use Rattle.table.specs.declared.Active.the-variants.{UserOf}
@@ -14,13 +15,13 @@ use Rattle.table.specs.declared.Process.{Process}
 use Rattle.table.proofs.Searched.{user-of}
 use Rattle.module_state.specs.Numbers.{_when_, _unless_, _▸_}
 use Rattle.module_state.specs.Module.{provisioned, hasActive, activePlace}
-use Rattle.module_state.specs.Claim.{phaseNumber, entered, claimed, claimView, turnNumber, checkNumber, checkOf, checked, admitted}
+use Rattle.module_state.specs.Claim.{phaseNumber, entered, sought, claimView, turnNumber, checkNumber, checkOf, checked, admitted}
 use Rattle.module_state.specs.declared.Claim.the-variants.{ByUser}
 use Rattle.module_state.specs.declared.State.{State}
 use Rattle.module_state.specs.declared.UserClaim.{UserClaim}
 use Rattle.module_state.proofs.Laws.{unless-true, by-when, by-unless, by-then, claim-stands, user-tests}
 use Rattle.calls.specs.Calls.{Call, Under, number, protection, aheadNumber, protectedNumber, passes}
-use Rattle.calls.proofs.Cut.{upTo, passed-claim, passed-number-by, number-stop, ahead-one}
+use Rattle.calls.proofs.Cut.{upTo, passed-claim, passed-number, number-stop, ahead-one}
 use Rattle.module_rules.specs.Facts.{processes, Rules}
 use Rattle.history.specs.Lives.{tellsPassed}
 use Rattle.history.proofs.Facts.{stands}
@@ -68,7 +69,7 @@ module _ (st : State) (call : Call) (s : Session) (u : UserClaim) (w : protectio
   claim-passed = rw w at (passed-claim st call p)
 
   pub active-passed : hasActive st (UserOf s (u .credential)) ≡ true
-  unfolding claimed
+  unfolding sought
   active-passed = claim-stands st s (ByUser u) claim-passed
 
 module _ (st : State) (v : Rules st) where
@@ -86,10 +87,10 @@ module _ (st : State) (v : Rules st) where
 
   -- where a user claim's process stands, a call under the claim is answered 1, 2, 3, 13, 9 or 8 exactly where the claim did not pass
   pub reading : (call : Call) (s : Session) (u : UserClaim) → protection call ≡ Under s (ByUser u) → hasActive st (UserOf s (u .credential)) ≡ true → tellsPassed (number st call) ≡ passes st call
-  unfolding tellsPassed
+  unfolding tellsPassed every
   reading call s u w h =
       split (passes st call)
-      (λ p. rw p (passed-number-by (λ n. tellsPassed n ≡ true) refl refl refl refl refl st call p))
+      (λ p. rw p (passed-number st tellsPassed refl call p))
       (λ p.
       let is : upTo st call ≡ aheadNumber st call ▸ admitted st s (ByUser u) = unfold protectedNumber in rw w in
       let some : upTo st call ≡ 0 → ⊥ = unfold passes in eqb-false (upTo st call) 0 p in

@@ -76,10 +76,10 @@ module _ (st : State) (v : Rules st) where
   -- one for which a version is chosen
   pub rules-chosen : (s : Session) → Rules (withPhase st s Chosen)
   unfolding provisioned phaseOf isChosen
-  rules-chosen s = record { few = v .few; each = each-imp seat (v .each); pairs = v .pairs }
+  rules-chosen s = record { few = v .few; each = each-imp chosen (v .each); pairs = v .pairs }
     where
-      seat : (p : Process) → Owned st p → Owned (withPhase st s Chosen) p
-      seat p o =
+      chosen : (p : Process) → Owned st p → Owned (withPhase st s Chosen) p
+      chosen p o =
           record {
             owner = o .owner;
             seated = λ k. passes-set (λ (x : SessionState). isChosen (x .phase)) (st .sessions) (s .0) (p .session .0) closedSession (record { phase = Chosen }) refl (o .seated k);

@@ -76,8 +76,8 @@ module _ (st : State) (v : Rules st) where
 
 -- ---- from any state that keeps the rules, told so, by any steps
 module _ {first last : State} {events : List Event} (k : Steps first events last) (rules : Rules first) (tell : Name → Life) (tells : Tells tell first) where
-  kept : Rules last
-  kept = rules-along k rules
+  rules-last : Rules last
+  rules-last = rules-along k rules
 
   told-is : (n : Name) → told tell events n ≡ look n (processes last)
   told-is n = told-along n k rules tell tells
@@ -85,19 +85,19 @@ module _ {first last : State} {events : List Event} (k : Steps first events last
   pub demand3-from : Demand3 tell events last
   demand3-from =
       record {
-        rules = kept;
-        numbers = numbers-told last kept (told tell events) told-is;
+        rules = rules-last;
+        numbers = numbers-told last rules-last (told tell events) told-is;
         once = once k rules tell tells;
-        listing = listing-fits last kept;
+        listing = listing-fits last rules-last;
       }
 
   -- the state that they come to is told so again: histories can go on from it
   pub tells-from : Tells (told tell events) last
-  tells-from = look-tells last kept (told tell events) told-is
+  tells-from = look-tells last rules-last (told tell events) told-is
 
   -- every number passed in its turn
   pub in-turn-from : (n : Name) → passed (told tell events n) ≡ down (count (told tell events n))
-  in-turn-from = in-turn last kept (told tell events) told-is
+  in-turn-from = in-turn last rules-last (told tell events) told-is
 
   -- counted from what was told before
   pub demand3-told : Demand3From tell events last
@@ -121,7 +121,7 @@ module _ {first last : State} {events : List Event} (k : Steps first events last
   module _ (s : Session) (u : UserClaim) (z : admitted last s (ByUser u) ≡ 0) where
     -- is one of the process that the search finds, by the history alone, and its number is the count so far
     pub claim-from : IsClaimOf (told tell events) s u (activeProcess last (UserOf s (u .credential)) .name)
-    claim-from = claim-told last kept (told tell events) told-is s u z
+    claim-from = claim-told last rules-last (told tell events) told-is s u z
 
     -- so its number is none of those that passed since the start
     pub new-from : Each (λ n. u .number ≢ n) (passed (told tell events (activeProcess last (UserOf s (u .credential)) .name)))

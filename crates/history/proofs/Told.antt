@@ -33,7 +33,7 @@ use Rattle.module_rules.proofs.Laws.{apart-turn}
 use Rattle.history.specs.Lives.{Life, Gone, Live, passed, count, down}
 use Rattle.history.specs.Demand.{life, lifeOf, look, Tells, IsClaimOf}
 use Rattle.history.proofs.Facts as Facts
-use Rattle.history.proofs.Facts.{Claimed}
+use Rattle.history.proofs.Facts.{UserPassed}
 use Rattle.history.proofs.Looked.{Distinct, look-none}
 
 pub live-not-gone : {s : Session} {c : Credential} {ns : List ℕ} → Live s c ns ≡ Gone → ⊥
@@ -164,7 +164,7 @@ module _ (st : State) (v : Rules st) (tell : Name → Life) (is : (n : Name) →
           only = λ other ns h. only other (look-live other (processes st) s (u .credential) ns (sym (is other) ∙ h));
         }
       where
-        f : Claimed st s u
+        f : UserPassed st s u
         f = Facts.passed st s (ByUser u) z
 
         only : (other : Name) → LiveAt other (processes st) s (u .credential) → other .bytes ≡ getD (processes st) (activePlace st (UserOf s (u .credential))) freePlace .name .bytes

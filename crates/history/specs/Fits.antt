@@ -6,7 +6,7 @@ use lib.ListN.{length}
 use Rattle.lists.specs.Each.{Each}
 use Rattle.names.specs.Names.{nameLength}
 use Rattle.names.specs.declared.Name.{Name}
-use Rattle.module_state.specs.Module.{credentialCount}
+use Rattle.module_state.specs.Module.{credentialCount, wordSize}
 use Rattle.module_state.specs.declared.Grants.{Grants}
 use Rattle.calls.specs.Calls.{Call, Open, Close, Drop, Select, Start, Continue, Elevate, End, Record, ListProcesses, Kill, SetWord}
 
@@ -14,7 +14,7 @@ abbrev pub IsWhole : Name → Type 0
 IsWhole name = length (name .bytes) ≡ nameLength
 
 abbrev pub IsWord : ℕ → Type 0
-IsWord word = word < 256 ^ 4
+IsWord word = word < 256 ^ wordSize
 
 abbrev pub Fits : Call → Type 0
 Fits (Open s) = Unit {0}

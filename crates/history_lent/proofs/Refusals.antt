@@ -18,7 +18,7 @@ use Rattle.table.specs.Table.{places, processAt}
 use Rattle.table.specs.declared.Active.the-variants.{UserOf}
 use Rattle.module_state.specs.Numbers.{_unless_, _▸_}
 use Rattle.module_state.specs.Module.{activePlace, activeProcess}
-use Rattle.module_state.specs.Claim.{admitted, claimed}
+use Rattle.module_state.specs.Claim.{admitted, sought}
 use Rattle.module_state.specs.declared.Claim.{Claim}
 use Rattle.module_state.specs.declared.Claim.the-variants.{Elevated, ByUser}
 use Rattle.module_state.specs.declared.State.{State}
@@ -66,7 +66,7 @@ module _ (b : List ℕ) (g : Bytes b) (h : holdsState b ≡ true) where
     at = activePlace st (UserOf s (u .credential))
 
     low : at < places
-    unfolding claimed
+    unfolding sought
     low = omega (arith, inside st (UserOf s (u .credential)) (claim-stands st s (ByUser u) z), holds-is b h g .rules .few)
 
     long : length b ≡ stateLength

@@ -40,7 +40,7 @@ use Rattle.calls.specs.Calls.{Call, Open, Close, Drop, Select, Start, Continue,
 use Rattle.calls.specs.Run.{step, run}
 use Rattle.module_rules.specs.Facts.{processes, Rules}
 use Rattle.module_rules.proofs.Laws.{apart-turn}
-use Rattle.history.proofs.Facts.{Added, Admitted, Facts, facts}
+use Rattle.history.proofs.Facts.{Added, ClaimPassed, Facts, facts}
 use Rattle.history.proofs.Keeping.{active-more, named-more, stands-counted, step-accepted, step-by}
 use Rattle.image.specs.declared.SavedRow.{SavedRow}
 use Rattle.image.specs.Image.{savedAt, isSavedOne, savedRow, savedOf, imageBytes, imageOf, stateImage}
@@ -132,7 +132,7 @@ module _ (st : State) where
       record { credentials = refl; saved = rw (standing-removed (st .table) i) (ap (map savedRow) (select-remove isSavedOne (processes st) i freePlace e)) }
 
   -- order 3's one number is an active process's
-  same-counted : (s : Session) (claim : Claim) → Admitted st s claim → Same st (counted st s claim)
+  same-counted : (s : Session) (claim : Claim) → ClaimPassed st s claim → Same st (counted st s claim)
   unfolding counted activeProcess processAt
   same-counted s Elevated f = record { credentials = refl; saved = refl }
   same-counted s (ByUser u) f =
@@ -181,8 +181,8 @@ module _ (st : State) where
       let i : ℕ = namedPlace st name among in
       let mid : State = counted st s claim in
       let x : Process = getD (processes mid) i freePlace in
-      let stands = stands-counted st s claim (f .admission) (unsavedNamed name among) (unsaved-more name among) i (unsaved-named name among h i (f .stands)) in
-      same-then (same-counted st s claim (f .admission))
+      let stands = stands-counted st s claim (f .passed) (unsavedNamed name among) (unsaved-more name among) i (unsaved-named name among h i (f .stands)) in
+      same-then (same-counted st s claim (f .passed))
       (same-removed mid i (not-true (isSavedOne x) (and-right (isNamed name among x) (not (isSavedOne x)) (stands .passes))))
 
   same-effect : (call : Call) → Facts st call → touchesImage st call ≡ false → Same st (effect st call)
@@ -264,9 +264,9 @@ module _ (st : State) (v : Rules st) where
       let there : Stands isIt l freePlace j = found isIt l freePlace h in
       let x : Process = getD l i freePlace in
       let y : Process = getD l j freePlace in
-      let kept : isSavedOne y ≡ true = and-left (isSavedOne y) (sameName (y .name) name) (there .passes) in
+      let is-saved : isSavedOne y ≡ true = and-left (isSavedOne y) (sameName (y .name) name) (there .passes) in
       split (eqb i j)
-      (λ e. record { inside = f .inside; passes = rw (eqb-true i j e) kept })
+      (λ e. record { inside = f .inside; passes = rw (eqb-true i j e) is-saved })
       (λ e.
       absurd
       (pairs-at apart-turn i j freePlace (f .inside) (there .inside) (eqb-false i j e) (v .pairs)
@@ -279,9 +279,9 @@ module _ (st : State) (v : Rules st) where
       let among : Among = reach (checked st s claim) in
       let i : ℕ = namedPlace st name among in
       let mid : State = counted st s claim in
-      let stands = stands-counted st s claim (f .admission) isSavedOne (λ p. refl) i (kept-there name among h i (f .stands)) in
+      let stands = stands-counted st s claim (f .passed) isSavedOne (λ p. refl) i (kept-there name among h i (f .stands)) in
       let rows = rw (stands .passes) at (rows-removed mid i (stands .inside)) in
-      omega (arith, rows, ap length (same-counted st s claim (f .admission) .saved))
+      omega (arith, rows, ap length (same-counted st s claim (f .passed) .saved))
 
   rows-effect : (call : Call) → Facts st call → touchesImage st call ≡ true → RowsChange call (length (savedOf st)) (length (savedOf (effect st call)))
   unfolding touchesImage
@@ -296,7 +296,7 @@ module _ (st : State) (v : Rules st) where
   rows-effect (Record s claim class) f h = clash h refl
   rows-effect (ListProcesses s claim wanted room) f h = clash h refl
   rows-effect (Kill s claim name) f h = rows-killed s claim name f h
-  rows-effect (SetWord s claim c word) f h = unfold effect savedOf in ap length (same-counted st s claim (f .admission) .saved)
+  rows-effect (SetWord s claim c word) f h = unfold effect savedOf in ap length (same-counted st s claim (f .passed) .saved)
 
   pub rows-changed : (call : Call) → changesImage st call (number st call) ≡ true → RowsChange call (length (savedOf st)) (length (savedOf (step st call)))
   rows-changed call h =

@@ -98,14 +98,14 @@ examples =
     }
 
 -- ---- a power cycle more: P is saved, Q is active; the image tells of P what was told, and of Q nothing
-abbrev kept : List Call
-kept = continued ++ (End (session 0) (userYes 0 4) true ∷ Start (session 0) (credential 0) Q ∷ recorded 0 ∷ [])
+abbrev saved-again : List Call
+saved-again = continued ++ (End (session 0) (userYes 0 4) true ∷ Start (session 0) (credential 0) Q ∷ recorded 0 ∷ [])
 
 pub record Cycled : Type 0 where
-  pub of-P : told (toldBy image) (history (restored image) kept) P ≡ SavedBy (credential 0) (4 ∷ 3 ∷ 2 ∷ 1 ∷ 0 ∷ [])
-  pub of-Q : told (toldBy image) (history (restored image) kept) Q ≡ Live (session 0) (credential 0) (0 ∷ [])
-  pub then-P : toldBy (stateImage (run (restored image) kept)) P ≡ SavedBy (credential 0) (4 ∷ 3 ∷ 2 ∷ 1 ∷ 0 ∷ [])
-  pub then-Q : toldBy (stateImage (run (restored image) kept)) Q ≡ Gone
+  pub of-P : told (toldBy image) (history (restored image) saved-again) P ≡ SavedBy (credential 0) (4 ∷ 3 ∷ 2 ∷ 1 ∷ 0 ∷ [])
+  pub of-Q : told (toldBy image) (history (restored image) saved-again) Q ≡ Live (session 0) (credential 0) (0 ∷ [])
+  pub then-P : toldBy (stateImage (run (restored image) saved-again)) P ≡ SavedBy (credential 0) (4 ∷ 3 ∷ 2 ∷ 1 ∷ 0 ∷ [])
+  pub then-Q : toldBy (stateImage (run (restored image) saved-again)) Q ≡ Gone
 
 pub cycled : Cycled
 unfolding opened

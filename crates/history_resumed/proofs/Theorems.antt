@@ -23,7 +23,7 @@ use Rattle.table.specs.Table.{isSaved}
 use Rattle.table.specs.declared.Active.the-variants.{UserOf}
 use Rattle.table.specs.declared.Process.{Process}
 use Rattle.table.proofs.Laws.{standing-of}
-use Rattle.module_state.specs.Module.{provisioned, activeProcess}
+use Rattle.module_state.specs.Module.{provisioned, activeProcess, wordSize}
 use Rattle.module_state.specs.Claim.{admitted}
 use Rattle.module_state.specs.declared.Claim.the-variants.{ByUser}
 use Rattle.module_state.specs.declared.Grants.{Grants}
@@ -44,7 +44,7 @@ use Rattle.history.proofs.Calls.{steps}
 use Rattle.history.proofs.Since.{follow-gone}
 use Rattle.history.proofs.Theorems.{tells-from, in-turn-from, demand3-told, claim-told-from}
 use Rattle.image.specs.declared.SavedRow.{SavedRow}
-use Rattle.image.specs.Image.{Image, isSavedOne, savedOf, savedIn, imageIn, savedProcess, isImage, restored, cycled, numbersBytes, wordSize, imageOf, imageBytes, stateImage}
+use Rattle.image.specs.Image.{Image, isSavedOne, savedOf, savedIn, imageIn, savedProcess, isImage, restored, cycled, numbersBytes, imageOf, imageBytes, stateImage}
 use Rattle.image.proofs.Rows.{select-reject}
 use Rattle.image.proofs.Laws.{each-map, stands-is, image-back, image-state, state-fit, state-image, state-restored, stands-cycled}
 use Rattle.history_resumed.specs.Resumed.{toldBy, FromImage, cut}
@@ -169,8 +169,8 @@ module _ (first : State) (v : IsState first) (tell : Name → Life) (tells : Tel
       above (Raised t d) is turn = each-nil
       above (SavedBy d ns) is turn =
           let low : count (toldBy image name) ≤ u .number = after .not-below old in
-          let kept : toldBy image name ≡ SavedBy d ns = told-through name ∙ rw is in
-          subst (λ (l : List ℕ). Each (λ n. n < u .number) l) (sym turn) (down-below (length ns) (u .number) (rw kept at low))
+          let as-saved : toldBy image name ≡ SavedBy d ns = told-through name ∙ rw is in
+          subst (λ (l : List ℕ). Each (λ n. n < u .number) l) (sym turn) (down-below (length ns) (u .number) (rw as-saved at low))
 
       -- so of a process that was saved then, no number that passed before passes after
       pub claim-through : Each (λ n. n < u .number) (passed (told tell (history first calls) name))

@@ -13,7 +13,7 @@ use Rattle.names.specs.declared.Kind.{Kind}
 use Rattle.names.specs.declared.Kind.the-variants.{User, Saved}
 use Rattle.table.specs.Table.{standing, tableOf}
 use Rattle.table.specs.declared.Process.{Process}
-use Rattle.module_state.specs.Module.{closedSession, unprovisioned}
+use Rattle.module_state.specs.Module.{lastSession, closedModule, closedSession, unprovisioned}
 use Rattle.module_state.specs.declared.Grants.{Grants}
 use Rattle.module_state.specs.declared.Phase.the-variants.{Chosen}
 use Rattle.module_state.specs.declared.State.{State}
@@ -41,7 +41,7 @@ two = record { provisioned = true; word = 15 } ∷ record { provisioned = true; 
 abbrev drawn : State
 drawn =
     record {
-      sessions = record { phase = Chosen } ∷ replicate 3 closedSession;
+      sessions = record { phase = Chosen } ∷ replicate lastSession closedSession;
       credentials = two;
       table = tableOf (process 0 Saved 3 P ∷ process 1 User 2 R ∷ process 1 Saved 300 Q ∷ []);
     }
@@ -59,12 +59,7 @@ bytes =
 
 -- what it makes: the sessions closed, R gone
 abbrev made : State
-made =
-    record {
-      sessions = replicate 4 closedSession;
-      credentials = two;
-      table = tableOf (process 0 Saved 3 P ∷ process 1 Saved 300 Q ∷ []);
-    }
+made = closedModule two (tableOf (process 0 Saved 3 P ∷ process 1 Saved 300 Q ∷ []))
 
 pub record Drawn : Type 0 where
   pub written : stateImage drawn ≡ bytes

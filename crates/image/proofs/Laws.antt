@@ -33,14 +33,14 @@ use Rattle.table.specs.declared.Active.{Active}
 use Rattle.table.specs.declared.Active.the-variants.{UserOf, ElevationIn}
 use Rattle.table.specs.declared.Process.{Process}
 use Rattle.table.proofs.Laws.{standing-of, whole-of}
-use Rattle.module_state.specs.Module.{closedSession, provisioned, sessionCount, credentialCount}
+use Rattle.module_state.specs.Module.{closedSession, provisioned, sessionCount, credentialCount, wordSize}
 use Rattle.module_state.specs.declared.Grants.{Grants}
 use Rattle.module_state.specs.declared.State.{State}
 use Rattle.module_rules.specs.Facts.{processes, Owned, Apart, FormedGrants, FormedProcess, IsState, WideGrants, Wide}
 use Rattle.module_rules.proofs.Laws.{provisioned-low}
 use Rattle.image.specs.declared.ImageHead.{ImageHead}
 use Rattle.image.specs.declared.SavedRow.{SavedRow}
-use Rattle.image.specs.Image.{maskAt, wordCountAt, wordOffsetAt, rowCountAt, rowOffsetAt, wordsAt, wordSize, savedAt, savedSize, isRowOffset, imageLong, Image, numbersBytes, numbersIn, headNumbers, maskOf, wordIn, savedBytes, imageBytes, headIn, grantsSaid, grantsIn, savedFrom, savedIn, imageIn, isOwner, isKeepable, differ, keep, headFits, wordFits, imageFits, isImage, savedProcess, moduleOf, restored, savedRow, isSavedOne, savedOf, imageOf, stateImage, cycled, imageRoom, SavedLie}
+use Rattle.image.specs.Image.{maskAt, wordCountAt, wordOffsetAt, rowCountAt, rowOffsetAt, wordsAt, savedAt, savedSize, isRowOffset, imageLong, Image, numbersBytes, numbersIn, headNumbers, maskOf, wordIn, savedBytes, imageBytes, headIn, grantsSaid, grantsIn, savedFrom, savedIn, imageIn, isOwner, isKeepable, differ, keep, headFits, wordFits, imageFits, isImage, savedProcess, moduleOf, restored, savedRow, isSavedOne, savedOf, imageOf, stateImage, cycled, imageRoom, SavedLie}
 use Rattle.image.proofs.Rows.{every-anything, Small, number-codec, mask-small, word-small, word-fits, grants-back, mask-back, grants-formed, words-back, grants-length, RowFits, rows-long, saved-codec, each-select, pairs-select}
 
 -- ---- lists made by a function

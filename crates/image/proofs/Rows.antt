@@ -20,6 +20,7 @@ use Rattle.rows.proofs.Bytes.{length-bytes, number-back, number-forth, number-s
 use Rattle.rows.proofs.Rows.{Codec}
 use Rattle.names.specs.Names.{nameLength, readName}
 use Rattle.names.proofs.Laws.{name-last}
+use Rattle.module_state.specs.Module.{wordSize}
 use Rattle.module_state.specs.declared.Grants.{Grants}
 use Rattle.module_rules.specs.Facts.{FormedGrants, WideGrants}
 use Rattle.image.specs.declared.SavedRow.{SavedRow}
@@ -72,15 +73,15 @@ mask-small (g ∷ l) = rw pow-suc (digits-lt (mask-small l) (bit-low (g .provisi
 -- the word of a credential that is not provisioned is written as 0, and was 0
 word-is : (g : Grants) → FormedGrants g → wordIn g ≡ g .word
 unfolding wordIn
-word-is g v = split (g .provisioned) (λ e. rw e) (λ e. rw e (sym (v .kept e)))
+word-is g v = split (g .provisioned) (λ e. rw e) (λ e. rw e (sym (v .zero e)))
 
-pub word-small : (g : Grants) → WideGrants g → wordIn g < 256 ^ 4
+pub word-small : (g : Grants) → WideGrants g → wordIn g < 256 ^ wordSize
 unfolding wordIn
 word-small g v = split (g .provisioned) (λ e. rw e (v .word)) (λ e. rw e (omega arith))
 
 pub word-fits : (g : Grants) → FormedGrants g → wordFits g ≡ true
 unfolding wordFits
-word-fits g v = split (g .provisioned) (λ e. rw e) (λ e. rw (e, v .kept e))
+word-fits g v = split (g .provisioned) (λ e. rw e) (λ e. rw (e, v .zero e))
 
 word-kept : (g : Grants) → wordFits g ≡ true → g .provisioned ≡ false → g .word ≡ 0
 unfolding wordFits
@@ -105,7 +106,7 @@ mask-back m (w ∷ ws) h =
 pub grants-formed : (m : ℕ) (ws : List ℕ) → Each (Small 4) ws → Each (λ g. wordFits g ≡ true) (grantsSaid m ws) → Each FormedGrants (grantsSaid m ws)
 unfolding grantsSaid
 grants-formed m [] s e = each-nil
-grants-formed m (w ∷ ws) (each-cons p s) (each-cons q e) = each-cons (record { word = p; kept = word-kept _ q }) (grants-formed (m / 2) ws s e)
+grants-formed m (w ∷ ws) (each-cons p s) (each-cons q e) = each-cons (record { word = p; zero = word-kept _ q }) (grants-formed (m / 2) ws s e)
 
 pub words-back : (m : ℕ) (ws : List ℕ) → Each FormedGrants (grantsSaid m ws) → map wordIn (grantsSaid m ws) ≡ ws
 unfolding grantsSaid

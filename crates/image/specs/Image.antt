@@ -14,8 +14,7 @@ use Rattle.names.specs.declared.Credential.{Credential}
 use Rattle.names.specs.declared.Kind.the-variants.{Saved}
 use Rattle.table.specs.Table.{standing, tableOf, isSaved, places}
 use Rattle.table.specs.declared.Process.{Process}
-use Rattle.table.specs.declared.Table.{Table}
-use Rattle.module_state.specs.Module.{unprovisioned, credentialCount, closedModule}
+use Rattle.module_state.specs.Module.{unprovisioned, credentialCount, closedModule, wordSize}
 use Rattle.module_state.specs.declared.Grants.{Grants}
 use Rattle.module_state.specs.declared.State.{State}
 use Rattle.image.specs.declared.ImageHead.{ImageHead}
@@ -41,9 +40,6 @@ rowOffsetAt = rowCountAt + 2
 
 abbrev pub wordsAt : ℕ
 wordsAt = rowOffsetAt + 2
-
-abbrev pub wordSize : ℕ
-wordSize = 4
 
 abbrev pub savedAt : ℕ
 savedAt = wordsAt + credentialCount * wordSize

@@ -3,6 +3,7 @@
 use module_state::CREDENTIALS;
 use module_state::Grants;
 use module_state::State;
+use module_state::WORD_SIZE;
 use names::Credential;
 use names::NAME_LENGTH;
 use names::Name;
@@ -22,8 +23,6 @@ pub const ROW_OFFSET_AT: usize = ROW_COUNT_AT + 2;
 // ---- the words, and the rows where they begin
 
 pub const WORDS_AT: usize = ROW_OFFSET_AT + 2;
-
-pub const WORD_SIZE: usize = 4;
 
 pub const SAVED_AT: usize = WORDS_AT + CREDENTIALS * WORD_SIZE;
 

@@ -16,10 +16,10 @@ use Rattle.lists.proofs.Loops.{Copied, copied-none, copied-more, copied-all}
 use Rattle.rows.specs.Bytes.{numberOf, numberAt}
 use Rattle.rows.proofs.Loops.{FilledBy, filled-begin, filled-next, filled-done, and-false}
 use Rattle.table.specs.Table.{places}
-use Rattle.module_state.specs.Module.{credentialCount}
+use Rattle.module_state.specs.Module.{credentialCount, wordSize}
 use Rattle.module_state.specs.declared.Grants.{Grants}
 use Rattle.image.specs.declared.ImageHead.{ImageHead}
-use Rattle.image.specs.Image.{maskAt, wordCountAt, wordOffsetAt, rowCountAt, rowOffsetAt, wordsAt, wordSize, savedAt, isRowOffset, numbersIn, headIn, grantsSaid, headFits}
+use Rattle.image.specs.Image.{maskAt, wordCountAt, wordOffsetAt, rowCountAt, rowOffsetAt, wordsAt, savedAt, isRowOffset, numbersIn, headIn, grantsSaid, headFits}
 use Rattle.image.proofs.Rows.{grants-length}
 
 -- ---- the numbers

@@ -1,8 +1,8 @@
 // The head of an image: its five numbers tested, and the credentials that its mask and its words say. docs/IMAGE.md draws it.
 ghost use mathlib.Core.Path.{_≡_};
 ghost use lib.ListN.{drop};
-ghost use Rattle.module_state.specs.Module.{credentialCount};
-ghost use Rattle.image.specs.Image.{wordsAt, wordSize, numbersIn, headIn, grantsSaid, headFits};
+ghost use Rattle.module_state.specs.Module.{credentialCount, wordSize};
+ghost use Rattle.image.specs.Image.{wordsAt, numbersIn, headIn, grantsSaid, headFits};
 use image::ImageHead;
 use image::MASK_AT;
 use image::ROW_COUNT_AT;
@@ -10,11 +10,11 @@ use image::ROW_OFFSET_AT;
 use image::SAVED_AT;
 use image::WORD_COUNT_AT;
 use image::WORD_OFFSET_AT;
-use image::WORD_SIZE;
 use image::WORDS_AT;
 use module_state::CREDENTIALS;
 use module_state::Grants;
 use module_state::UNPROVISIONED;
+use module_state::WORD_SIZE;
 use table::PLACES;
 
 // ---- the numbers

@@ -3,7 +3,6 @@ ghost use mathlib.Core.Path.{_≡_};
 ghost use mathlib.Core.List.{map};
 ghost use lib.ListN.{length};
 ghost use Rattle.table.specs.Table.{tableOf};
-ghost use Rattle.module_state.specs.Module.{closedModule};
 ghost use Rattle.image.specs.Image.{savedSize, savedFrom, savedAmong, savedProcess, readImage, SavedLie};
 use image::ImageRead;
 use image::SAVED_NAME_AT;
@@ -12,11 +11,6 @@ use image::SAVED_OWNER_AT;
 use image::SAVED_SIZE;
 use image::SavedRow;
 use module_state::CREDENTIALS;
-use module_state::Grants;
-use module_state::Phase;
-use module_state::SESSIONS;
-use module_state::SessionState;
-use module_state::State;
 use module_state::UNPROVISIONED;
 use names::Credential;
 use names::Kind;
@@ -76,29 +70,15 @@ fn read_saved(b: &[u8], offset: usize, n: usize) -> Table
 
 // ---- the module
 
-fn module_of(grants: [Grants; CREDENTIALS], t: Table) -> State
-    ensures { λ r. ⌜ r ≡ closedModule grants t ⌝ }
-{
-    let closed = SessionState {
-        phase: Phase::Closed,
-    };
-    State {
-        sessions: [closed; SESSIONS],
-        credentials: grants,
-        table: t,
-    }
-}
-
 // The module that bytes make, and whether they are an image.
 pub fn read_image(b: &[u8]) -> ImageRead
     ensures { λ r. ⌜ r ≡ readImage (now (b .entry)) ⌝ }
 {
     let tested = image_test::test_image(b);
     if !tested.fits {
-        let empty = table::empty();
         return ImageRead {
             fits: false,
-            state: module_of([UNPROVISIONED; CREDENTIALS], empty),
+            state: module_state::closed_module([UNPROVISIONED; CREDENTIALS], table::empty()),
         };
     }
     let head = tested.head;
@@ -106,6 +86,6 @@ pub fn read_image(b: &[u8]) -> ImageRead
     let saved = read_saved(b, head.offset, head.rows);
     ImageRead {
         fits: true,
-        state: module_of(grants, saved),
+        state: module_state::closed_module(grants, saved),
     }
 }

@@ -18,12 +18,12 @@ use Rattle.rows.proofs.Loops.{EveryFrom, every-begin, every-on, every-fail, eve
 use Rattle.names.specs.Names.{readName, sameName}
 use Rattle.names.specs.declared.Credential.{Credential}
 use Rattle.names.specs.declared.NameRead.{NameRead}
-use Rattle.module_state.specs.Module.{unprovisioned, credentialCount}
+use Rattle.module_state.specs.Module.{unprovisioned, credentialCount, wordSize}
 use Rattle.module_state.specs.declared.Grants.{Grants}
 use Rattle.image.specs.declared.ImageHead.{ImageHead}
 use Rattle.image.specs.declared.ImageTest.{ImageTest}
 use Rattle.image.specs.declared.SavedRow.{SavedRow}
-use Rattle.image.specs.Image.{wordsAt, wordSize, savedSize, savedOwnerAt, savedNextAt, savedNameAt, imageLong, numbersIn, headIn, grantsSaid, grantsIn, savedFrom, savedAmong, savedIn, imageIn, isOwner, isKeepable, differ, headFits, wordFits, imageFits, isImage, imageTest, SavedLie}
+use Rattle.image.specs.Image.{wordsAt, savedSize, savedOwnerAt, savedNextAt, savedNameAt, imageLong, numbersIn, headIn, grantsSaid, grantsIn, savedFrom, savedAmong, savedIn, imageIn, isOwner, isKeepable, differ, headFits, wordFits, imageFits, isImage, imageTest, SavedLie}
 use Rattle.image.proofs.Rows.{saved-name}
 use Rattle.image.proofs.Laws.{offset-low, head-has, rowAt, saved-room, saved-part, saved-fits, saved-ends}
 use Rattle.image_test.specs.Tests.{restFits}

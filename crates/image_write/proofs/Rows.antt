@@ -14,10 +14,10 @@ use Rattle.rows.specs.Rows.{over, Put}
 use Rattle.rows.proofs.Bytes.{length-bytes}
 use Rattle.rows.proofs.Over.{over-part}
 use Rattle.rows.proofs.Loops.{Wrote, wrote-begin, wrote-length, wrote-room, wrote-part, wrote-on, wrote-all}
-use Rattle.module_state.specs.Module.{unprovisioned, credentialCount}
+use Rattle.module_state.specs.Module.{unprovisioned, credentialCount, wordSize}
 use Rattle.module_state.specs.declared.Grants.{Grants}
 use Rattle.image.proofs.Rows.{mask-small}
-use Rattle.image.specs.Image.{wordsAt, wordSize, savedAt, numbersBytes, maskOf, wordIn}
+use Rattle.image.specs.Image.{wordsAt, savedAt, numbersBytes, maskOf, wordIn}
 
 -- ---- the mask, from the last credential on: those from `left` on are in it
 pub record Masked (l : List Grants) (mask left : ℕ) : Type 0 where

@@ -13,7 +13,6 @@ use mir.Syntax.{w16, w64}
 use lib.ListN.{length, getD, take, drop, length-map, length-take, length-drop}
 use Rattle.lists.specs.Lists.{select, join}
 use Rattle.lists.proofs.Lists.{length-mapped, length-select}
-use Rattle.lists.proofs.Loops.{Counted, counted-none, counted-more, counted-not}
 use Rattle.rows.specs.Bytes.{bytesOf}
 use Rattle.rows.specs.Rows.{over, Put}
 use Rattle.rows.proofs.Bytes.{length-bytes}
@@ -26,11 +25,12 @@ use Rattle.table.specs.declared.Process.{Process}
 use Rattle.table.specs.declared.Table.{Table}
 use Rattle.table.proofs.Laws.{standing-few}
 use Rattle.table.proofs.Rules.{noProcess, front, small}
-use Rattle.module_state.specs.Module.{unprovisioned, credentialCount}
+use Rattle.table.proofs.Counting.{Counting, count-begin, count-on, count-not, count-all}
+use Rattle.module_state.specs.Module.{unprovisioned, credentialCount, wordSize}
 use Rattle.module_state.specs.declared.Grants.{Grants}
 use Rattle.module_state.specs.declared.State.{State}
 use Rattle.image.specs.declared.SavedRow.{SavedRow}
-use Rattle.image.specs.Image.{maskAt, wordCountAt, wordOffsetAt, rowCountAt, rowOffsetAt, wordsAt, wordSize, savedAt, savedOwnerAt, savedNextAt, savedNameAt, savedSize, imageLong, numbersBytes, headNumbers, maskOf, wordIn, savedBytes, imageBytes, savedRow, isSavedOne, savedRows, savedOf, imageOf, stateImage, imageRoom, lacksRoom, ImageWritten}
+use Rattle.image.specs.Image.{maskAt, wordCountAt, wordOffsetAt, rowCountAt, rowOffsetAt, wordsAt, savedAt, savedOwnerAt, savedNextAt, savedNameAt, savedSize, imageLong, numbersBytes, headNumbers, maskOf, wordIn, savedBytes, imageBytes, savedRow, isSavedOne, savedRows, savedOf, imageOf, stateImage, imageRoom, lacksRoom, ImageWritten}
 use Rattle.image_write.proofs.Rows.{Masked, masked-none, masked-low, masked-on, masked-all, worded-none, worded-length, worded-on, worded-all}
 
 -- ---- the mask
@@ -85,27 +85,8 @@ unfolding wordIn
 word-none g e = rw e
 
 -- ---- those counted that are saved
-pub record Counting (l : List Process) (n k i : ℕ) : Type 0 where
-  pub small : n ≤ places
-  pub counted : Counted isSavedOne l n k i
-
-module _ (t : Table) {n : ℕ} (e : n ≡ size t) where
-  pub count-begin : length (t .places) ≡ places → Counting (t .places) n 0 0
-  count-begin h =
-      let k : n ≤ places = small t e h in
-      record { small = k; counted = counted-none isSavedOne (t .places) n (omega arith) }
-
-  pub count-all : {k i : ℕ} → Counting (t .places) n k i → n ≤ i → k ≡ length (savedRows (standing t))
-  count-all {k} {i} v h =
-      let q : i ≡ n = omega (arith, v .counted .low) in
-      v .counted .is ∙ rw (q, front t e, length-map)
-
-module _ {l : List Process} {n k k′ i : ℕ} {b : Bool} (v : Counting l n k i) (h : i < n) (e : b ≡ isSavedOne (getD l i noProcess)) where
-  pub count-on : b ≡ true → k′ ≡ k + 1 → Counting l n k′ (i + 1)
-  count-on q g = rw g (record { small = v .small; counted = counted-more noProcess (v .counted) h (sym e ∙ q) })
-
-  pub count-not : b ≡ false → k′ ≡ k → Counting l n k′ (i + 1)
-  count-not q g = rw g (record { small = v .small; counted = counted-not noProcess (v .counted) h (sym e ∙ q) })
+pub saved-all : (t : Table) {n k i : ℕ} → n ≡ size t → Counting isSavedOne (t .places) n k i → n ≤ i → k ≡ length (savedRows (standing t))
+saved-all t e v h = count-all isSavedOne t e v h ∙ sym (length-map (select isSavedOne (standing t)) savedRow)
 
 -- ---- a row
 pub row-made : (p : Process) → _≡_ {A = SavedRow} (record { owner = p .credential; next = p .next; name = p .name }) (savedRow p)
@@ -200,4 +181,4 @@ module _ (st : State) (old : List ℕ) {saved : ℕ} (e : saved ≡ length (save
 pub image-written : {st : State} {old new : List ℕ} {long : ℕ} → long ≡ cond (lacksRoom st (length old)) 0 (imageRoom st) → new ≡ over 0 (imageRoom st) (stateImage st) old → ImageWritten st old long new
 image-written l b = record { length-is = l; bytes-are = b }
 
-pub ruleset rules = (needs, length-mapped, masked-none, mask-double, mask-more, mask-hit, mask-miss, masked-all, head-put, word-is, word-none, worded-none, worded-length, worded-on, worded-all, count-begin, count-on, count-not, count-all, saved-put, row-made, rows-begin, rows-end, chosen-room, chosen-part, rows-on, chosen-over, chosen-length, rows-fit, image-fits, saved-fits, short-length, short-stays, image-length, rows-start, image-put, image-written)
+pub ruleset rules = (needs, length-mapped, masked-none, mask-double, mask-more, mask-hit, mask-miss, masked-all, head-put, word-is, word-none, worded-none, worded-length, worded-on, worded-all, count-begin, count-on, count-not, saved-all, saved-put, row-made, rows-begin, rows-end, chosen-room, chosen-part, rows-on, chosen-over, chosen-length, rows-fit, image-fits, saved-fits, short-length, short-stays, image-length, rows-start, image-put, image-written)

@@ -13,6 +13,7 @@ use Rattle.lists.specs.Lists.{select}
 use Rattle.rows.proofs.Over.{over-room}
 use Rattle.lists.specs.Each.{Each, each-nil, each-cons}
 use Rattle.lists.proofs.Tests.{split}
+use Rattle.names.specs.Names.{rowLength}
 use Rattle.names.specs.declared.Row.{Row}
 use Rattle.names.specs.declared.Session.{Session}
 use Rattle.names.proofs.Laws.{RowFits}
@@ -23,7 +24,7 @@ use Rattle.module_state.specs.declared.State.{State}
 use Rattle.module_state.proofs.Laws.{clear-rest, clear-when}
 use Rattle.calls.specs.Calls.{ListProcesses, isShort, protection, listTests, tests, number, listed}
 use Rattle.calls.proofs.Cut.{accepted}
-use Rattle.calls.specs.Listing.{amongOf, rowOf, rowsOf, messageLength, listing}
+use Rattle.calls.specs.Listing.{headLength, amongOf, rowOf, rowsOf, messageLength, listing}
 use Rattle.calls.specs.declared.Listed.{Listed}
 use Rattle.calls.specs.declared.Wanted.{Wanted}
 use Rattle.listing_messages.specs.Wire.{rowsAmong, listingOver, listedBytes}
@@ -93,5 +94,5 @@ module _ (st : State) (s : Session) (claim : Claim) (wanted : Wanted) (old : Lis
     unfolding messageLength
     list-stays h =
         split (eqb (number st (ListProcesses s claim wanted (length old))) 0)
-        (λ e. let some : decided .length ≡ 4 + 51 * length (rowsOf st wanted) = long ∙ rw e in absurd (omega arith))
+        (λ e. let some : decided .length ≡ headLength + rowLength * length (rowsOf st wanted) = long ∙ rw e in absurd (omega arith))
         (λ e. sym (list-refused (eqb-false (number st (ListProcesses s claim wanted (length old))) 0 e)))

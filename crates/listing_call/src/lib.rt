@@ -6,11 +6,13 @@ ghost use Rattle.table.specs.Table.{isAmong, standing};
 ghost use Rattle.calls.specs.Calls.{listed};
 ghost use Rattle.calls.specs.Listing.{amongOf, rowOf, messageLength};
 ghost use Rattle.listing_messages.specs.Wire.{rowsAmong, rowsOver, listingOver, listedBytes};
+use calls::HEAD_LENGTH;
 use calls::Listed;
 use calls::Wanted;
 use listing_messages::AUTH_PROCESSES;
 use module_state::Claim;
 use module_state::State;
+use names::ROW_LENGTH;
 use names::Row;
 use names::Session;
 use table::Process;
@@ -18,7 +20,7 @@ use table::Table;
 
 // ---- the rows of a table
 
-fn is_wanted(p: Process, wanted: Wanted) -> bool
+fn is_listed(p: Process, wanted: Wanted) -> bool
     ensures { λ r. ⌜ r ≡ isAmong (amongOf wanted) p ⌝ }
 {
     let among = calls_list_tests::among_of(wanted);
@@ -33,7 +35,7 @@ fn row_of(p: Process) -> Row
     let name = p.name;
     Row {
         credential: credential,
-        kind: listing_row::type_of(kind),
+        kind: names::type_of(kind),
         name: name,
     }
 }
@@ -49,9 +51,9 @@ fn put_rows(buffer: &mut [u8], t: Table, wanted: Wanted) -> usize
     let mut i: usize = 0;
     while i < n {
         let p = places[i];
-        if is_wanted(p, wanted) {
-            let start = 4 + k * 51;
-            let end = start + 51;
+        if is_listed(p, wanted) {
+            let start = HEAD_LENGTH + k * ROW_LENGTH;
+            let end = start + ROW_LENGTH;
             listing_row::put_row(&mut buffer[start..end], row_of(p));
             k += 1;
         }

@@ -18,13 +18,13 @@ use Rattle.rows.proofs.Rows.{array-long, array-row, array-fits}
 use Rattle.lists.specs.Each.{Each}
 use Rattle.lists.proofs.Each.{each-at}
 use Rattle.lists.proofs.Tests.{and-both}
-use Rattle.names.specs.Names.{rowBytes, isRow}
+use Rattle.names.specs.Names.{rowLength, rowBytes, isRow}
 use Rattle.names.specs.declared.Row.{Row}
 use Rattle.names.proofs.Laws.{RowFits, row-codec}
 use Rattle.module_state.specs.Numbers.{_unless_}
 use Rattle.module_state.proofs.Laws.{pass, unless-true, unless-false}
 use Rattle.calls.specs.Calls.{number}
-use Rattle.calls.specs.Listing.{authProcesses, messageLength, listing}
+use Rattle.calls.specs.Listing.{headNumberSize, headLength, authProcesses, messageLength, listing}
 use Rattle.listing_messages.specs.Wire.{head, isHeaded, headNumber, getAuthProcesses, request, requestNumber, readRequest, rowPart, isListing, countNumber, readCount, zeroRow, rowNumber, readRowAt}
 
 -- ---- "Byte 1 is reserved: .. ignored on reading": whichever byte stands there, a message is read alike
@@ -35,7 +35,7 @@ module _ (code byte other : ℕ) (rest : List ℕ) where
 
   part-same : (at : ℕ) → rowPart (code ∷ byte ∷ rest) at ≡ rowPart (code ∷ other ∷ rest) at
   unfolding rowPart
-  part-same at = rw (← drop-drop (at * 51) 4 (code ∷ byte ∷ rest), ← drop-drop (at * 51) 4 (code ∷ other ∷ rest))
+  part-same at = rw (← drop-drop (at * rowLength) headLength (code ∷ byte ∷ rest), ← drop-drop (at * rowLength) headLength (code ∷ other ∷ rest))
 
   number-same : countNumber (code ∷ byte ∷ rest) ≡ countNumber (code ∷ other ∷ rest)
   unfolding countNumber isListing isHeaded headNumber numberAt
@@ -50,13 +50,13 @@ module _ (code byte other : ℕ) (rest : List ℕ) where
   row-reserved at = rw (number-same, part-same at)
 
 -- ---- the request
-pub length-request : (credential : ℕ) → length (request credential) ≡ 4
+pub length-request : (credential : ℕ) → length (request credential) ≡ headLength
 unfolding request head bytesOf
 length-request credential = refl
 
 request-number : (credential : ℕ) → credential < 65536 → headNumber (request credential) ≡ credential
 unfolding request head headNumber
-request-number credential h = rw append-nil at (number-in 2 credential (getAuthProcesses ∷ 0 ∷ []) [] h)
+request-number credential h = rw append-nil at (number-in headNumberSize credential (getAuthProcesses ∷ 0 ∷ []) [] h)
 
 pub request-back : (credential : ℕ) → credential < 65536 → readRequest (request credential) ≡ record { number = 0; credential = credential }
 unfolding readRequest requestNumber isHeaded request head bytesOf _unless_
@@ -75,7 +75,7 @@ module _ (rows : List Row) (g : Each RowFits rows) where
   -- the part of each row holds it
   part-back : (at : ℕ) → at < length rows → rowPart (listing rows) at ≡ rowBytes (getD rows at zeroRow)
   unfolding rowPart listing bytesOf
-  part-back at h = rw (← drop-drop (at * 51) 4 (listing rows)) (rw append-nil at (array-row row-codec [] g at zeroRow h))
+  part-back at h = rw (← drop-drop (at * rowLength) headLength (listing rows)) (rw append-nil at (array-row row-codec [] g at zeroRow h))
 
   row-fits : (at : ℕ) → at < length rows → RowFits (getD rows at zeroRow)
   row-fits at h = each-at at zeroRow h g
@@ -83,7 +83,7 @@ module _ (rows : List Row) (g : Each RowFits rows) where
   module _ (small : length rows ≤ 65535) where
     count-is : headNumber (listing rows) ≡ length rows
     unfolding headNumber listing
-    count-is = number-in 2 (length rows) (authProcesses ∷ 0 ∷ []) (join (map rowBytes rows)) (omega arith)
+    count-is = number-in headNumberSize (length rows) (authProcesses ∷ 0 ∷ []) (join (map rowBytes rows)) (omega arith)
 
     taken : isListing (listing rows) ≡ true
     unfolding isListing isHeaded listing bytesOf
@@ -95,7 +95,7 @@ module _ (rows : List Row) (g : Each RowFits rows) where
         code : eqb (getD (listing rows) 0 0) authProcesses ≡ true
         code = eq-eqb (getD (listing rows) 0 0) authProcesses (code-is rows)
 
-        each : every isRow (R.rows (headNumber (listing rows)) 51 (drop 4 (listing rows))) ≡ true
+        each : every isRow (R.rows (headNumber (listing rows)) rowLength (drop headLength (listing rows))) ≡ true
         each = rw count-is (rw append-nil at (array-fits row-codec [] g))
 
     numbered : countNumber (listing rows) ≡ 0

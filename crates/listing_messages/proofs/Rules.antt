@@ -18,12 +18,12 @@ use Rattle.rows.proofs.Over.{over-short, put-byte, put-length, put-next}
 use Rattle.rows.proofs.Rows.{row-passes}
 use Rattle.rows.proofs.Loops as Loops
 use Rattle.lists.proofs.Tests.{split, and-left, and-right}
-use Rattle.names.specs.Names.{isRow, readRow}
+use Rattle.names.specs.Names.{rowLength, isRow, readRow}
 use Rattle.names.specs.declared.RowRead.{RowRead}
 use Rattle.names.proofs.Laws.{row-read}
 use Rattle.module_state.specs.Numbers.{_unless_}
 use Rattle.module_state.proofs.Laws.{stop, pass, when-true, when-false, unless-true, unless-false}
-use Rattle.calls.specs.Listing.{authProcesses, messageLength}
+use Rattle.calls.specs.Listing.{headNumberAt, headNumberSize, headLength, authProcesses, messageLength}
 use Rattle.listing_messages.specs.Wire.{head, isHeaded, headNumber, request, getAuthProcesses, requestNumber, readRequest, requestRoom, rowPart, isListing, countNumber, readCount, refusedRow, rowNumber, readRowAt}
 use Rattle.listing_messages.specs.declared.CountRead.{CountRead}
 use Rattle.listing_messages.specs.declared.RequestRead.{RequestRead}
@@ -39,32 +39,32 @@ module _ (code long : ℕ) (message : List ℕ) where
   unfolding isHeaded
   headed-length h = rw (ne-eqb (length message) long h)
 
-pub head-number : (message : List ℕ) {n : ℕ} → n ≡ numberAt 2 2 message → n ≡ headNumber message
+pub head-number : (message : List ℕ) {n : ℕ} → n ≡ numberAt headNumberSize headNumberAt message → n ≡ headNumber message
 unfolding headNumber
 head-number message e = e
 
-module _ (old : List ℕ) (code byte n : ℕ) (h : 4 ≤ length old) {new : List ℕ} (q : new ≡ over 2 2 (bytesOf 2 n) (set (set old 0 code) 1 byte)) where
-  number-put : Put 2 2 (bytesOf 2 n) (set (set old 0 code) 1 byte) new
-  number-put = record { long = length-bytes 2 n; is = q }
+module _ (old : List ℕ) (code byte n : ℕ) (h : headLength ≤ length old) {new : List ℕ} (q : new ≡ over headNumberAt headNumberSize (bytesOf headNumberSize n) (set (set old 0 code) 1 byte)) where
+  number-put : Put headNumberAt headNumberSize (bytesOf headNumberSize n) (set (set old 0 code) 1 byte) new
+  number-put = record { long = length-bytes headNumberSize n; is = q }
 
   pub head-same : length new ≡ length old
   head-same = put-length number-put ∙ simp length-set
 
-  pub head-put : byte ≡ 0 → new ≡ over 0 4 (head code n) old
+  pub head-put : byte ≡ 0 → new ≡ over 0 headLength (head code n) old
   unfolding head
   head-put e =
       let code-put : Put 0 1 (code ∷ []) old (set old 0 code) = put-byte 0 code old (omega arith) in
       let byte-put : Put 1 1 (byte ∷ []) (set old 0 code) (set (set old 0 code) 1 byte) = put-byte 1 byte (set old 0 code) (simp length-set (omega arith)) in
       put-next (put-next code-put byte-put (omega arith)) number-put (omega arith) .is ∙ rw e
 
-pub head-reach : (k : ℕ) (l : List ℕ) → 4 ≤ length l → k < 4 → k < length l
+pub head-reach : (k : ℕ) (l : List ℕ) → headLength ≤ length l → k < headLength → k < length l
 head-reach k l h i = omega arith
 
 pub over-stays : (at n : ℕ) (bytes old : List ℕ) → length old < at + n → old ≡ over at n bytes old
 over-stays at n bytes old h = sym (over-short at n bytes old h)
 
 -- ---- the request
-module _ (message : List ℕ) {b : Bool} (e : b ≡ isHeaded getAuthProcesses 4 message) where
+module _ (message : List ℕ) {b : Bool} (e : b ≡ isHeaded getAuthProcesses headLength message) where
   pub request-refused : not b ≡ true → _≡_ {A = RequestRead} (record { number = 14; credential = 0 }) (readRequest message)
   unfolding readRequest requestNumber
   request-refused t = rw (unless-false 14 (sym e ∙ not-true b t))
@@ -74,38 +74,38 @@ module _ (message : List ℕ) {b : Bool} (e : b ≡ isHeaded getAuthProcesses 4 
   request-got t q = rw (unless-true 14 (sym e ∙ not-false b t), q)
 
 module _ (old : List ℕ) where
-  pub room-short : length old < 4 → 15 ≡ requestRoom old
+  pub room-short : length old < headLength → 15 ≡ requestRoom old
   unfolding requestRoom
-  room-short h = sym (when-true 15 (lt-ltb (length old) 4 h))
+  room-short h = sym (when-true 15 (lt-ltb (length old) headLength h))
 
-  pub room-enough : 4 ≤ length old → 0 ≡ requestRoom old
+  pub room-enough : headLength ≤ length old → 0 ≡ requestRoom old
   unfolding requestRoom
-  room-enough h = sym (when-false 15 (le-ltb (length old) 4 h))
+  room-enough h = sym (when-false 15 (le-ltb (length old) headLength h))
 
-  pub request-put : (credential : ℕ) {new : List ℕ} → new ≡ over 0 4 (head getAuthProcesses credential) old → new ≡ over 0 4 (request credential) old
+  pub request-put : (credential : ℕ) {new : List ℕ} → new ≡ over 0 headLength (head getAuthProcesses credential) old → new ≡ over 0 headLength (request credential) old
   unfolding request
   request-put credential e = e
 
 -- ---- the rows of a response
 module _ (message : List ℕ) (count : ℕ) (h : length message ≡ messageLength count) where
-  pub rows-reach : (at : ℕ) → at < count → 4 + at * 51 + 51 ≤ length message
+  pub rows-reach : (at : ℕ) → at < count → headLength + at * rowLength + rowLength ≤ length message
   unfolding messageLength
   rows-reach at k = omega arith
 
-  pub rows-fits : (at : ℕ) → at < count → Fits w16 count → Fits w64 (4 + at * 51 + 51)
+  pub rows-fits : (at : ℕ) → at < count → Fits w16 count → Fits w64 (headLength + at * rowLength + rowLength)
   rows-fits at k w = omega arith
 
 -- ---- the response
-module _ (message : List ℕ) {n : ℕ} {a : Bool} (c : n ≡ headNumber message) (e : a ≡ isHeaded authProcesses (4 + 51 * n) message) where
+module _ (message : List ℕ) {n : ℕ} {a : Bool} (c : n ≡ headNumber message) (e : a ≡ isHeaded authProcesses (headLength + rowLength * n) message) where
   headed : a ≡ isHeaded authProcesses (messageLength (headNumber message)) message
   unfolding messageLength
   headed = e ∙ rw c
 
   pub listing-long : a ≡ true → length message ≡ messageLength n
   unfolding isHeaded messageLength
-  listing-long t = eqb-true (length message) (4 + 51 * n) (and-left (eqb (length message) (4 + 51 * n)) (eqb (getD message 0 0) authProcesses) (sym e ∙ t))
+  listing-long t = eqb-true (length message) (headLength + rowLength * n) (and-left (eqb (length message) (headLength + rowLength * n)) (eqb (getD message 0 0) authProcesses) (sym e ∙ t))
 
-  pub listing-rows : {b : Bool} → a ≡ true → b ≡ every isRow (rows n 51 (drop 4 message)) → b ≡ isListing message
+  pub listing-rows : {b : Bool} → a ≡ true → b ≡ every isRow (rows n rowLength (drop headLength message)) → b ≡ isListing message
   unfolding isListing
   listing-rows t q = q ∙ rw (sym headed ∙ t, c)
 
@@ -139,19 +139,19 @@ module _ (message : List ℕ) where
   module _ (t : isListing message ≡ true) where
     taken-headed : isHeaded authProcesses (messageLength (headNumber message)) message ≡ true
     unfolding isListing
-    taken-headed = and-left (isHeaded authProcesses (messageLength (headNumber message)) message) (every isRow (rows (headNumber message) 51 (drop 4 message))) t
+    taken-headed = and-left (isHeaded authProcesses (messageLength (headNumber message)) message) (every isRow (rows (headNumber message) rowLength (drop headLength message))) t
 
-    taken-long : length message ≡ 4 + 51 * headNumber message
+    taken-long : length message ≡ headLength + rowLength * headNumber message
     unfolding isHeaded messageLength
     taken-long =
-        eqb-true (length message) (4 + 51 * headNumber message)
-        (and-left (eqb (length message) (4 + 51 * headNumber message)) (eqb (getD message 0 0) authProcesses) taken-headed)
+        eqb-true (length message) (headLength + rowLength * headNumber message)
+        (and-left (eqb (length message) (headLength + rowLength * headNumber message)) (eqb (getD message 0 0) authProcesses) taken-headed)
 
     taken-row : (at : ℕ) → at < headNumber message → isRow (rowPart message at) ≡ true
     unfolding isListing rowPart
     taken-row at h =
-        row-passes isRow (headNumber message) 51 4 message
-        (and-right (isHeaded authProcesses (messageLength (headNumber message)) message) (every isRow (rows (headNumber message) 51 (drop 4 message))) t)
+        row-passes isRow (headNumber message) rowLength headLength message
+        (and-right (isHeaded authProcesses (messageLength (headNumber message)) message) (every isRow (rows (headNumber message) rowLength (drop headLength message))) t)
         at h
 
 -- ---- a row of the response, by what `read_count` answered
@@ -189,14 +189,14 @@ module _ (message : List ℕ) (at : ℕ) {counted : CountRead} (e : counted ≡ 
         q ∙ rw one
 
     module _ (k : at < counted .count) where
-      pub row-inside : 4 + at * 51 + 51 ≤ length message
+      pub row-inside : headLength + at * rowLength + rowLength ≤ length message
       row-inside = omega (arith, counts, taken-long message listed)
 
-      pub row-answer : {read : RowRead} → read ≡ readRow (take (4 + at * 51 + 51 - (4 + at * 51)) (drop (4 + at * 51) message)) → _≡_ {A = RowAnswer} (record { number = 0; row = read .row }) (readRowAt message at)
+      pub row-answer : {read : RowRead} → read ≡ readRow (take (headLength + at * rowLength + rowLength - (headLength + at * rowLength)) (drop (headLength + at * rowLength) message)) → _≡_ {A = RowAnswer} (record { number = 0; row = read .row }) (readRowAt message at)
       unfolding readRowAt rowPart
       row-answer q =
           let none : rowNumber message at ≡ 0 = asked ∙ unless-true 1 (lt-ltb at (headNumber message) (omega (arith, counts))) in
-          let whole : 4 + at * 51 + 51 - (4 + at * 51) ≡ 51 = omega arith in
-          rw (none, q, whole, row-read (take 51 (drop (4 + at * 51) message)) (taken-row message listed at (omega (arith, counts))))
+          let whole : headLength + at * rowLength + rowLength - (headLength + at * rowLength) ≡ rowLength = omega arith in
+          rw (none, q, whole, row-read (take rowLength (drop (headLength + at * rowLength) message)) (taken-row message listed at (omega (arith, counts))))
 
 pub ruleset rules = (needs, headed-code, headed-length, head-number, head-same, head-put, head-reach, over-stays, request-refused, request-got, room-short, room-enough, request-put, rows-reach, rows-fits, Loops.rows-begin, Loops.rows-on, Loops.rows-fail, Loops.rows-all, listing-long, listing-rows, listing-not, count-refused, count-got, row-refused, row-past, row-inside, row-answer)

@@ -18,22 +18,13 @@ use Rattle.module_state.specs.Numbers.{_when_, _unless_, _▸_}
 use Rattle.module_state.specs.declared.Claim.{Claim}
 use Rattle.module_state.specs.declared.State.{State}
 use Rattle.calls.specs.Calls.{ListProcesses, number}
-use Rattle.calls.specs.Listing.{amongOf, rowOf, rowsOf, authProcesses, messageLength, listing}
+use Rattle.calls.specs.Listing.{headNumberAt, headNumberSize, headLength, amongOf, rowOf, rowsOf, authProcesses, messageLength, listing}
 use Rattle.calls.specs.declared.Wanted.{Wanted}
 use Rattle.listing_messages.specs.declared.CountRead.{CountRead}
 use Rattle.listing_messages.specs.declared.RequestRead.{RequestRead}
 use Rattle.listing_messages.specs.declared.RowAnswer.{RowAnswer}
 
 -- ---- what both messages begin with. "Byte 1 is reserved: written zero": a code, the reserved byte and a number of two bytes
-abbrev pub headNumberAt : ℕ
-headNumberAt = 2
-
-abbrev pub headNumberSize : ℕ
-headNumberSize = 2
-
-abbrev pub headLength : ℕ
-headLength = headNumberAt + headNumberSize
-
 unfoldable pub head : ℕ → ℕ → List ℕ
 head code n = code ∷ 0 ∷ bytesOf headNumberSize n
 

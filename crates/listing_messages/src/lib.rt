@@ -3,9 +3,10 @@ ghost use mathlib.Core.Path.{_≡_};
 ghost use lib.ListN.{length, drop};
 ghost use Rattle.rows.specs.Rows.{rows, every, over};
 ghost use Rattle.names.specs.Names.{rowLength, isRow};
-ghost use Rattle.calls.specs.Listing.{messageLength};
-ghost use Rattle.listing_messages.specs.Wire.{headLength, head, isHeaded, headNumber, request, readRequest, requestRoom, isListing, readCount, refusedRow, readRowAt};
-use listing_row::ROW_LENGTH;
+ghost use Rattle.calls.specs.Listing.{headLength, messageLength};
+ghost use Rattle.listing_messages.specs.Wire.{head, isHeaded, headNumber, request, readRequest, requestRoom, isListing, readCount, refusedRow, readRowAt};
+use calls::HEAD_LENGTH;
+use calls::HEAD_NUMBER_AT;
 use module_state::ARGUMENT;
 use module_state::DONE;
 use module_state::MESSAGE;
@@ -13,6 +14,7 @@ use module_state::ROOM;
 use names::Credential;
 use names::NAME_LENGTH;
 use names::Name;
+use names::ROW_LENGTH;
 use names::Row;
 use names::RowType;
 
@@ -20,11 +22,6 @@ use names::RowType;
 pub const GET_AUTH_PROCESSES: u8 = 0x8e;
 
 pub const AUTH_PROCESSES: u8 = 0x0e;
-
-// The code, the reserved byte and a number stand before the rows.
-const NUMBER_AT: usize = 2;
-
-pub const HEAD_LENGTH: usize = NUMBER_AT + 2;
 
 // What a request says. Where it is refused, the credential is 0.
 pub struct RequestRead {
@@ -57,7 +54,7 @@ fn is_headed(message: &[u8], code: u8, long: usize) -> bool
 fn head_number(message: &[u8]) -> u16
     ensures { λ r. ⌜ r ≡ headNumber (now (message .entry)) ⌝ }
 {
-    rows::number16(message, NUMBER_AT)
+    rows::number16(message, HEAD_NUMBER_AT)
 }
 
 // A code, the reserved byte and a number, at the front of a buffer that has room for them.
@@ -67,7 +64,7 @@ pub fn put_message_head(buffer: &mut [u8], code: u8, number: u16)
     if HEAD_LENGTH <= buffer.len() {
         buffer[0] = code;
         buffer[1] = 0;
-        rows::put_number16(buffer, NUMBER_AT, number);
+        rows::put_number16(buffer, HEAD_NUMBER_AT, number);
     }
 }
 

@@ -1,7 +1,7 @@
 -- The laws that close the needs of this crate's functions by `search rules`: each premise is as a place's record has it.
 -- Assumes nothing.
-use Prim.Native.Nat.{ℕ, zero, suc, _<_, _≤_}
-use mathlib.Core.Path.{_≡_, refl, sym, _∙_}
+use Prim.Native.Nat.{ℕ, _<_, _≤_}
+use mathlib.Core.Path.{_≡_, sym, _∙_}
 use mathlib.Core.Bool.{Bool, true, false, not}
 use mathlib.Core.List.{List, [], _∷_, _++_, append-assoc}
 use native.Mathlib.Omega.{arith}
@@ -19,25 +19,18 @@ use Rattle.names.specs.declared.NameRead.{NameRead}
 use Rattle.names.specs.declared.Row.{Row}
 use Rattle.names.specs.declared.RowRead.{RowRead}
 use Rattle.names.specs.declared.RowType.{RowType}
-use Rattle.names.specs.declared.RowType.the-variants.{SavedUser}
-use Rattle.names.specs.Names.{readName, nameIn, typeNumber, typeNumbered, rowIn, isRow, noRow, readRow}
+use Rattle.names.specs.Names.{nameLength, readName, nameIn, typeNumber, typeNumbered, lastType, rowCredentialAt, rowCredentialSize, rowTypeAt, rowNameAt, rowLength, rowIn, isRow, noRow, readRow}
 use Rattle.names.proofs.Laws.{name-read, name-in, RowShaped, row-shaped, row-read, row-in, row-not-in}
-
--- ---- types
-pub type-saved : (n : ℕ) → (n ≡ 0 → ⊥) → (n ≡ 1 → ⊥) → SavedUser ≡ typeNumbered n
-type-saved zero a b = absurd (a refl)
-type-saved (suc zero) a b = absurd (b refl)
-type-saved (suc (suc n)) a b = refl
 
 -- ---- rows
 module _ (part : List ℕ) where
-  pub row-long : length part ≡ 51 → leb (getD part 2 0) 2 ≡ isRow part
+  pub row-long : length part ≡ rowLength → leb (getD part rowTypeAt 0) lastType ≡ isRow part
   unfolding isRow
-  row-long h = rw (eq-eqb (length part) 51 h)
+  row-long h = rw (eq-eqb (length part) rowLength h)
 
-  pub row-short : (length part ≡ 51 → ⊥) → eqb (length part) 51 ≡ isRow part
+  pub row-short : (length part ≡ rowLength → ⊥) → eqb (length part) rowLength ≡ isRow part
   unfolding isRow
-  row-short h = rw (ne-eqb (length part) 51 h)
+  row-short h = rw (ne-eqb (length part) rowLength h)
 
   module _ {b : Bool} (e : b ≡ isRow part) where
     pub row-none : {r : RowRead} → not b ≡ true → r ≡ noRow → r ≡ readRow part
@@ -48,47 +41,47 @@ module _ (part : List ℕ) where
       shaped : RowShaped part
       shaped = row-shaped part (sym e ∙ not-false b t)
 
-      pub row-reach : {k : ℕ} → k ≤ 51 → k ≤ length part
+      pub row-reach : {k : ℕ} → k ≤ rowLength → k ≤ length part
       row-reach h = omega (arith, shaped .long)
 
       pub row-got : {n : ℕ} {kind : RowType} {read : NameRead}
-          → read ≡ readName (take 48 (drop 3 part)) → n ≡ numberAt 2 0 part → kind ≡ typeNumbered (getD part 2 0)
+          → read ≡ readName (take nameLength (drop rowNameAt part)) → n ≡ numberAt rowCredentialSize rowCredentialAt part → kind ≡ typeNumbered (getD part rowTypeAt 0)
           → _≡_ {A = RowRead} (record { fits = true; row = record { credential = record { 0 = n }; kind = kind; name = read .name } }) (readRow part)
       row-got a c d =
-          let l : length (drop 3 part) ≡ 48 = rw length-drop (omega (arith, shaped .long)) in
-          let w : take 48 (drop 3 part) ≡ drop 3 part = take-all 48 (drop 3 part) (omega arith) in
-          rw (a, w, name-read (drop 3 part) l, c, d) (sym (row-read part (sym e ∙ not-false b t)))
+          let l : length (drop rowNameAt part) ≡ nameLength = rw length-drop (omega (arith, shaped .long)) in
+          let w : take nameLength (drop rowNameAt part) ≡ drop rowNameAt part = take-all nameLength (drop rowNameAt part) (omega arith) in
+          rw (a, w, name-read (drop rowNameAt part) l, c, d) (sym (row-read part (sym e ∙ not-false b t)))
 
 -- the fields of a row, written one after another
-module _ (part : List ℕ) (row : Row) {a : List ℕ} (h : length part ≡ 51) (p : a ≡ over 0 2 (bytesOf 2 (row .credential .0)) part) where
-  credential-put : Put 0 2 (bytesOf 2 (row .credential .0)) part a
-  credential-put = record { long = length-bytes 2 (row .credential .0); is = p }
+module _ (part : List ℕ) (row : Row) {a : List ℕ} (h : length part ≡ rowLength) (p : a ≡ over rowCredentialAt rowCredentialSize (bytesOf rowCredentialSize (row .credential .0)) part) where
+  credential-put : Put rowCredentialAt rowCredentialSize (bytesOf rowCredentialSize (row .credential .0)) part a
+  credential-put = record { long = length-bytes rowCredentialSize (row .credential .0); is = p }
 
-  long : length a ≡ 51
+  long : length a ≡ rowLength
   long = put-length credential-put ∙ h
 
-  pub row-inside : (k : ℕ) → k < 51 → k < length a
+  pub row-inside : (k : ℕ) → k < rowLength → k < length a
   row-inside k l = omega (arith, long)
 
-  pub row-end : (i x : ℕ) → 51 ≤ length (set a i x)
+  pub row-end : (i x : ℕ) → rowLength ≤ length (set a i x)
   row-end i x = simp length-set (omega (arith, long))
 
-  pub row-same : (ys : List ℕ) (i x : ℕ) → length ys ≡ length (take 48 (drop 3 (set a i x))) → length (putMid 3 48 (set a i x) ys) ≡ length part
-  row-same ys i x g = same-len-mid 3 48 (set a i x) ys g ∙ length-set a i x ∙ put-length credential-put
+  pub row-same : (ys : List ℕ) (i x : ℕ) → length ys ≡ length (take nameLength (drop rowNameAt (set a i x))) → length (putMid rowNameAt nameLength (set a i x) ys) ≡ length part
+  row-same ys i x g = same-len-mid rowNameAt nameLength (set a i x) ys g ∙ length-set a i x ∙ put-length credential-put
 
-  pub row-put : {c : ℕ} {ys : List ℕ} → c ≡ typeNumber (row .kind) → ys ≡ nameIn (take 48 (drop 3 (set a 2 c))) (row .name) → length ys ≡ length (take 48 (drop 3 (set a 2 c)))
-      → putMid 3 48 (set a 2 c) ys ≡ rowIn part row
+  pub row-put : {c : ℕ} {ys : List ℕ} → c ≡ typeNumber (row .kind) → ys ≡ nameIn (take nameLength (drop rowNameAt (set a rowTypeAt c))) (row .name) → length ys ≡ length (take nameLength (drop rowNameAt (set a rowTypeAt c)))
+      → putMid rowNameAt nameLength (set a rowTypeAt c) ys ≡ rowIn part row
   row-put {c} {ys} r e g =
-      let set-long : length (set a 2 c) ≡ 51 = length-set a 2 c ∙ long in
-      let behind : length (take 48 (drop 3 (set a 2 c))) ≡ 48 = simp (length-take, length-drop) (omega arith) in
-      let type-put : Put 2 1 (c ∷ []) a (set a 2 c) = put-byte 2 c a (omega (arith, long)) in
-      let name-put : Put 3 48 ys (set a 2 c) (putMid 3 48 (set a 2 c) ys) = record { long = g ∙ behind; is = over-part 3 48 ys (set a 2 c) (omega arith) } in
-      let all : putMid 3 48 (set a 2 c) ys ≡ (bytesOf 2 (row .credential .0) ++ (c ∷ [])) ++ ys =
+      let set-long : length (set a rowTypeAt c) ≡ rowLength = length-set a rowTypeAt c ∙ long in
+      let behind : length (take nameLength (drop rowNameAt (set a rowTypeAt c))) ≡ nameLength = simp (length-take, length-drop) (omega arith) in
+      let type-put : Put rowTypeAt 1 (c ∷ []) a (set a rowTypeAt c) = put-byte rowTypeAt c a (omega (arith, long)) in
+      let name-put : Put rowNameAt nameLength ys (set a rowTypeAt c) (putMid rowNameAt nameLength (set a rowTypeAt c) ys) = record { long = g ∙ behind; is = over-part rowNameAt nameLength ys (set a rowTypeAt c) (omega arith) } in
+      let all : putMid rowNameAt nameLength (set a rowTypeAt c) ys ≡ (bytesOf rowCredentialSize (row .credential .0) ++ (c ∷ [])) ++ ys =
       put-whole (put-next (put-next credential-put type-put (omega arith)) name-put (omega arith)) h
       in
-      all ∙ rw (e, name-in (take 48 (drop 3 (set a 2 c))) (row .name) behind, r, append-assoc) (sym (row-in part row h))
+      all ∙ rw (e, name-in (take nameLength (drop rowNameAt (set a rowTypeAt c))) (row .name) behind, r, append-assoc) (sym (row-in part row h))
 
-pub row-stays : (part : List ℕ) (row : Row) → (length part ≡ 51 → ⊥) → part ≡ rowIn part row
+pub row-stays : (part : List ℕ) (row : Row) → (length part ≡ rowLength → ⊥) → part ≡ rowIn part row
 row-stays part row h = sym (row-not-in part row h)
 
-pub ruleset rules = (needs, type-saved, row-long, row-short, row-none, row-reach, row-got, row-inside, row-end, row-same, row-put, row-stays)
+pub ruleset rules = (needs, row-long, row-short, row-none, row-reach, row-got, row-inside, row-end, row-same, row-put, row-stays)

@@ -9,10 +9,6 @@ use Rattle.listing_row.proofs.is_row.Kinds as is-row-kinds
 use Rattle.listing_row.proofs.is_row.Reads as is-row
 use Rattle.listing_row.proofs.read_row.Kinds as read-row-kinds
 use Rattle.listing_row.proofs.read_row.Reads as read-row
-use Rattle.listing_row.proofs.type_number.Kinds as type-number-kinds
-use Rattle.listing_row.proofs.type_number.Reads as type-number
-use Rattle.listing_row.proofs.type_of.Kinds as type-of-kinds
-use Rattle.listing_row.proofs.type_of.Reads as type-of
 
 pub put-row-once : OneContent 1 put-row-kinds.ps put-row-kinds.r put-row.Post (λ κs s. now (s .0))
 put-row-once κs a x y s t p q = p ∙ sym q
@@ -22,9 +18,3 @@ is-row-once κs a x y s t p q = p ∙ sym q
 
 pub read-row-once : OneAnswer 1 read-row-kinds.ps read-row-kinds.r read-row.Post
 read-row-once κs a x y s t p q = p ∙ sym q
-
-pub type-number-once : OneAnswer 0 type-number-kinds.ps type-number-kinds.r type-number.Post
-type-number-once κs a x y s t p q = p ∙ sym q
-
-pub type-of-once : OneAnswer 0 type-of-kinds.ps type-of-kinds.r type-of.Post
-type-of-once κs a x y s t p q = p ∙ sym q

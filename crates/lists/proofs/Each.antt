@@ -1,5 +1,5 @@
 -- A fact of each element, and of each two, through every operation on a list; what stands at a place, and a place that was replaced.
--- "Every other element" is what `removeAt` leaves. Assumes nothing.
+-- Every other element than one is what `removeAt` leaves. Assumes nothing.
 use Prim.Native.Nat.{ℕ, zero, suc, _<_}
 use mathlib.Core.Path.{_≡_, refl, _∙_}
 use mathlib.Core.Bool.{Bool, true, false}

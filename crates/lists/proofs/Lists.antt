@@ -5,7 +5,7 @@ use mathlib.Core.Path.{_≡_, refl, sym, _∙_}
 use mathlib.Core.Bool.{Bool, true, false, cond}
 use mathlib.Core.List.{List, [], _∷_, _++_, map, append-nil}
 use native.Mathlib.Omega.{arith}
-use lib.ListN.{length, getD, take, length-take, length-drop, drop-of-length-le, length-map, length-append, length-replicate}
+use lib.ListN.{length, getD, replicate, take, length-take, length-drop, drop-of-length-le, length-map, length-append, length-replicate}
 use lib.Seq.{take-all, take-at}
 use Rattle.lists.specs.Lists.{any, firstIndex, reject, select, removeAt, padded}
 use Rattle.lists.proofs.Tests.{split, below, clash}
@@ -43,6 +43,12 @@ module _ {A : Type 0} where
 
   pub first-inside : (f : A → Bool) (l : List A) → any f l ≡ true → firstIndex f l < length l
   first-inside f l h = below (firstIndex f l) (length l) (λ k. k) (λ past. clash h (any-past f l past))
+
+  -- ---- as many times the same, which stands past the end too
+  pub getD-same : (n i : ℕ) (x : A) → getD (replicate n x) i x ≡ x
+  getD-same zero i x = refl
+  getD-same (suc n) zero x = refl
+  getD-same (suc n) (suc i) x = getD-same n i x
 
   -- ---- removeAt
   pub length-remove : (at : ℕ) (l : List A) → at < length l → suc (length (removeAt at l)) ≡ length l

@@ -1,7 +1,7 @@
 -- The definitions of this crate, for those who use them: seven fields, as many values, as many bytes as the fields have, which are few; and the
 -- first of the fields from a place on. Assumes nothing.
 use Prim.Native.Nat.{ℕ, zero, suc, _+_, _*_, _-_, _<_, _≤_}
-use mathlib.Core.Path.{_≡_, refl, ap, _∙_}
+use mathlib.Core.Path.{_≡_, refl, _∙_}
 use mathlib.Core.List.{List, [], _∷_, _++_}
 use native.Mathlib.Numerals.{add-one}
 use native.Mathlib.Omega.{arith}
@@ -13,9 +13,9 @@ use Rattle.rows.proofs.Bytes.{length-bytes}
 use Rattle.message_formats.specs.declared.Field.{Field}
 use Rattle.message_formats.specs.declared.Field.the-variants.{Unused}
 use Rattle.message_formats.specs.declared.Shape.{Shape}
-use Rattle.message_formats.specs.Formats.{formOf, fieldsOf}
+use Rattle.message_formats.specs.Formats.{fieldsOf}
 use Rattle.message_formats.proofs.Laws.{width-most, few-fields}
-use Rattle.message_fields.specs.Fields.{fields, longOf, valuesIn, fieldBytes}
+use Rattle.message_fields.specs.Fields.{fields, longOf, fieldBytes}
 
 -- what stands past the end of a list may be written there
 getD-padded : {A : Type 0} (z : A) (l : List A) (k i : ℕ) → getD (l ++ replicate k z) i z ≡ getD l i z
@@ -36,11 +36,6 @@ module _ (l : Shape) where
   fields-from at h =
       let k : at < length (fields l) = rw length-fields h in
       drop-cons (fields l) at Unused k ∙ rw (getD-padded Unused (fieldsOf l) (7 - length (fieldsOf l)) at, add-one)
-
-pub values-length : (fs : List Field) (b : List ℕ) → length (valuesIn fs b) ≡ length fs
-unfolding valuesIn
-values-length [] b = refl
-values-length (f ∷ fs) b = ap suc (values-length fs (drop (formOf f .width) b))
 
 pub bytes-length : (fs : List Field) (values : List ℕ) → length (fieldBytes fs values) ≡ longOf fs
 unfolding fieldBytes longOf

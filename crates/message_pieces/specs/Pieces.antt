@@ -1,7 +1,7 @@
 -- What follows the fields of a message: bytes, or the parts of a list. A part is one piece or two, each with fields and the bytes that they say.
 use Prim.Native.Nat.{ℕ, zero, suc, _+_}
 use mathlib.Core.Bool.{Bool, true, false, cond, _&&_}
-use mathlib.Core.List.{List, []}
+use mathlib.Core.List.{List}
 use lib.Dec.{eqb, leb}
 use lib.ListN.{length, getD, drop, replicate}
 use Rattle.message_formats.specs.declared.Shape.{Shape}

@@ -19,7 +19,7 @@ use Rattle.table.specs.declared.Active.the-variants.{UserOf, ElevationIn}
 use Rattle.table.specs.declared.Process.{Process}
 use Rattle.table.proofs.Laws.{standing-few}
 use Rattle.table.proofs.Searched.{of-user, in-elevation}
-use Rattle.module_state.specs.Module.{closedSession, phaseOf, isChosen, unprovisioned, provisioned, sessionCount, credentialCount, lastHandle, lastCredential}
+use Rattle.module_state.specs.Module.{closedSession, phaseOf, isChosen, unprovisioned, provisioned, sessionCount, credentialCount, lastSession, lastCredential}
 use Rattle.module_state.specs.declared.Grants.{Grants}
 use Rattle.module_state.specs.declared.SessionState.{SessionState}
 use Rattle.module_state.specs.declared.State.{State}
@@ -72,7 +72,7 @@ module _ (st : State) where
   unfolding provisioned
   provisioned-low c h e = omega (arith, inside (λ (g : Grants). g .provisioned) (st .credentials) (c .0) unprovisioned refl e, h)
 
-  pub chosen-low : (s : Session) → length (st .sessions) ≡ sessionCount → isChosen (phaseOf st s) ≡ true → s .0 ≤ lastHandle
+  pub chosen-low : (s : Session) → length (st .sessions) ≡ sessionCount → isChosen (phaseOf st s) ≡ true → s .0 ≤ lastSession
   unfolding phaseOf isChosen
   chosen-low s h e = omega (arith, inside (λ (x : SessionState). isChosen (x .phase)) (st .sessions) (s .0) closedSession refl e, h)
 

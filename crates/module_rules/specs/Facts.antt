@@ -1,4 +1,4 @@
--- What holds of a state, said once. Every call keeps it (history), and a lent slice is tested for it (layout).
+-- What holds of a state, said once. Every call keeps it (history), and a lent slice is tested for it (state_layout).
 use Prim.Native.Nat.{ℕ, _^_, _<_, _≤_}
 use mathlib.Core.Path.{_≡_}
 use mathlib.Core.Logic.{_≢_}
@@ -12,7 +12,7 @@ use Rattle.table.specs.Table.{standing, size, processAt, tableOf, isUser, isEle
 use Rattle.table.specs.Table as T
 use Rattle.table.specs.declared.Active.{Active}
 use Rattle.table.specs.declared.Process.{Process}
-use Rattle.module_state.specs.Module.{phaseOf, isChosen, provisioned, sessionCount, credentialCount, lastHandle, lastCredential}
+use Rattle.module_state.specs.Module.{phaseOf, isChosen, provisioned, sessionCount, credentialCount, lastSession, lastCredential, wordSize}
 use Rattle.module_state.specs.declared.Grants.{Grants}
 use Rattle.module_state.specs.declared.State.{State}
 use Rattle.names.specs.Names.{nameLength}
@@ -65,13 +65,13 @@ pub record RulesByPlaces (st : State) : Type 0 where
 -- ---- the form: no field out of its range, and zero what is kept zero
 pub record FormedGrants (g : Grants) : Type 0 where
   -- "a grant word of 32 bits"
-  pub word : g .word < 256 ^ 4
+  pub word : g .word < 256 ^ wordSize
   -- "an unprovisioned credential's word is taken as zero"
-  pub kept : g .provisioned ≡ false → g .word ≡ 0
+  pub zero : g .provisioned ≡ false → g .word ≡ 0
 
 pub record FormedProcess (p : Process) : Type 0 where
   pub credential : p .credential .0 ≤ lastCredential
-  pub session : p .session .0 ≤ lastHandle
+  pub session : p .session .0 ≤ lastSession
   -- "The number has 16 bits."
   pub next : p .next < 256 ^ 2
   pub name : length (p .name .bytes) ≡ nameLength
@@ -98,7 +98,7 @@ pub record IsState (st : State) : Type 0 where
 
 -- ---- what the types of the fields tell of any state that a function has
 pub record WideGrants (g : Grants) : Type 0 where
-  pub word : g .word < 256 ^ 4
+  pub word : g .word < 256 ^ wordSize
 
 pub record WideProcess (p : Process) : Type 0 where
   pub next : p .next < 256 ^ 2

@@ -5,7 +5,7 @@ use mathlib.Core.Path.{_≡_, refl, sym, ap, _∙_}
 use mathlib.Core.Bool.{Bool, true, false, not}
 use native.Mathlib.Omega.{arith}
 use lib.Dec.{T, eqb, ltb, ltb→lt}
-use borrow.Author.Tests.{eq-eqb, ne-eqb, eqb-true}
+use borrow.Author.Tests.{eq-eqb, ne-eqb, eqb-true, eqb-false}
 use Rattle.lists.proofs.Tests.{split}
 use lib.ListN.{List·getD-eq-default}
 use Rattle.lists.proofs.Tests.{clash, and-left}
@@ -30,8 +30,8 @@ use Rattle.module_state.specs.declared.Phase.{Phase}
 use Rattle.module_state.specs.declared.State.{State}
 use Rattle.module_state.specs.declared.UserClaim.{UserClaim}
 use Rattle.module_state.specs.Numbers.{_when_, _unless_, _▸_}
-use Rattle.module_state.specs.Module.{isHandle, phaseOf, isClosed, isChosen, grantsOf, provisioned, lookup, hasActive, activePlace, activeProcess}
-use Rattle.module_state.specs.Claim.{phaseNumber, entered, claimed, speaksFor, speaker, processFound, claimView, isClaim, isFound, isSpent, turnNumber, claimNumber, checkNumber, checkOf, checked, admitted, lookupNumber, grantNumber, passedBy}
+use Rattle.module_state.specs.Module.{isSession, phaseOf, isClosed, isChosen, grantsOf, provisioned, lookup, hasActive, activePlace, activeProcess}
+use Rattle.module_state.specs.Claim.{phaseNumber, entered, sought, speaksFor, speaker, processFound, claimView, isInRange, isFound, isSpent, turnNumber, claimNumber, checkNumber, checkOf, checked, admitted, lookupNumber, grantNumber, passedBy}
 
 -- ---- a row of tests
 module _ {n : ℕ} (m : ℕ) where
@@ -101,6 +101,25 @@ clear-first n m e = split (eqb n 0) (λ q. eqb-true n 0 q) (λ q. rw q at e)
 pub clear-rest : (n m : ℕ) → n ▸ m ≡ 0 → m ≡ 0
 clear-rest n m e = sym (pass m (clear-first n m e)) ∙ e
 
+-- ---- a number in three parts, of the tests ahead of a claim's, of the claim's, and of those after it: the claim passed where the first two are 0
+module _ (ahead claim after : ℕ) where
+  in-two : ahead ▸ claim ▸ after ≡ (ahead ▸ claim) ▸ after
+  in-two = sym (rows ahead claim after)
+
+  module _ (p : eqb (ahead ▸ claim) 0 ≡ true) where
+    pub three-passed : ahead ▸ claim ▸ after ≡ after
+    three-passed = in-two ∙ pass after (eqb-true (ahead ▸ claim) 0 p)
+
+  module _ (p : eqb (ahead ▸ claim) 0 ≡ false) where
+    pub three-stop : ahead ▸ claim ▸ after ≡ ahead ▸ claim
+    three-stop = in-two ∙ stop after (eqb-false (ahead ▸ claim) 0 p)
+
+    pub three-stopped : ahead ▸ claim ▸ after ≡ 0 → ⊥
+    three-stopped z = eqb-false (ahead ▸ claim) 0 p (sym three-stop ∙ z)
+
+  pub three-done : ahead ▸ claim ▸ after ≡ 0 → eqb (ahead ▸ claim) 0 ≡ true
+  three-done z = split (eqb (ahead ▸ claim) 0) (λ p. p) (λ p. absurd (three-stopped p z))
+
 -- a number that is some test's is not 0
 module _ (n : ℕ) (some : T (ltb 0 n)) where
   pub clear-when : (b : Bool) → n when b ≡ 0 → b ≡ false
@@ -152,16 +171,16 @@ module _ (st : State) (which : Active) where
 
 -- a view that was put together from what single readers answered
 pub view-of : (st : State) (s : Session) (claim : Claim) {a : Active} {f : Found} {owner c : Credential} {next : ℕ} {phase : Phase} {g : Grants}
-    → a ≡ claimed s claim → f ≡ firstPlace (isActive a) (standing (st .table))
+    → a ≡ sought s claim → f ≡ firstPlace (isActive a) (standing (st .table))
     → owner ≡ processFound (st .table) f .credential → next ≡ processFound (st .table) f .next → c ≡ speaksFor claim owner
     → phase ≡ phaseOf st s → g ≡ grantsOf st c
     → _≡_ {A = ClaimView} (record { phase = phase; found = f; next = next; credential = c; grants = g }) (claimView st s claim)
 unfolding claimView speaker
 view-of st s claim {a} {f} {owner} {c} {next} ea ef eo en ec h eg =
-    let ff : f ≡ firstPlace (isActive (claimed s claim)) (standing (st .table)) = rw (← ea) ef in
-    let p : processFound (st .table) f ≡ activeProcess st (claimed s claim) = process-found st (claimed s claim) f ff in
-    let cc : c ≡ speaksFor claim (activeProcess st (claimed s claim) .credential) = ec ∙ ap (speaksFor claim) (eo ∙ ap (λ (q : Process). q .credential) p) in
-    let nn : next ≡ activeProcess st (claimed s claim) .next = en ∙ ap (λ (q : Process). q .next) p in
+    let ff : f ≡ firstPlace (isActive (sought s claim)) (standing (st .table)) = rw (← ea) ef in
+    let p : processFound (st .table) f ≡ activeProcess st (sought s claim) = process-found st (sought s claim) f ff in
+    let cc : c ≡ speaksFor claim (activeProcess st (sought s claim) .credential) = ec ∙ ap (speaksFor claim) (eo ∙ ap (λ (q : Process). q .credential) p) in
+    let nn : next ≡ activeProcess st (sought s claim) .next = en ∙ ap (λ (q : Process). q .next) p in
     rw (h, eg, nn, ff, cc)
 
 -- and what its check answers
@@ -172,23 +191,23 @@ checked-is st s claim e q = q ∙ rw e
 -- ---- the check, of a state: its tests
 module _ (st : State) (s : Session) where
   pub elevated-tests : claimNumber Elevated (claimView st s Elevated) ≡ 6 unless hasActive st (ElevationIn s)
-  unfolding claimNumber claimView claimed
+  unfolding claimNumber claimView sought
   elevated-tests = rw (found-active st (ElevationIn s) (findActive (st .table) (ElevationIn s)) refl)
 
   pub user-tests : (u : UserClaim)
       → claimNumber (ByUser u) (claimView st s (ByUser u))
       ≡ 5 unless provisioned st (u .credential) ▸ 6 unless hasActive st (UserOf s (u .credential)) ▸ turnNumber (activeProcess st (UserOf s (u .credential)) .next) u
-  unfolding claimNumber claimView claimed speaker provisioned
+  unfolding claimNumber claimView sought speaker provisioned
   user-tests u = rw (found-active st (UserOf s (u .credential)) (findActive (st .table) (UserOf s (u .credential))) refl)
 
 -- ---- what a claim that passed it says
 module _ (st : State) (s : Session) where
   pub record PassedCheck (claim : Claim) : Type 0 where
-    pub range : isClaim claim ≡ true
-    pub handle : isHandle s ≡ true
+    pub range : isInRange claim ≡ true
+    pub handle : isSession s ≡ true
     pub opened : isClosed (phaseOf st s) ≡ false
     pub chosen : isChosen (phaseOf st s) ≡ true
-    pub active : hasActive st (claimed s claim) ≡ true
+    pub active : hasActive st (sought s claim) ≡ true
 
   pub record PassedUser (u : UserClaim) : Type 0 where
     pub owner : provisioned st (u .credential) ≡ true
@@ -204,8 +223,8 @@ module _ (st : State) (s : Session) where
   unfolding admitted checked checkOf checkNumber
   claim-of claim z = clear-rest _ _ (clear-rest _ _ z)
 
-  active-of : (claim : Claim) → claimNumber claim (claimView st s claim) ≡ 0 → hasActive st (claimed s claim) ≡ true
-  unfolding claimed
+  active-of : (claim : Claim) → claimNumber claim (claimView st s claim) ≡ 0 → hasActive st (sought s claim) ≡ true
+  unfolding sought
   active-of Elevated z = clear-unless 6 tt _ (sym (elevated-tests st s) ∙ z)
   active-of (ByUser u) z = clear-unless 6 tt _ (clear-first _ _ (clear-rest _ _ (sym (user-tests st s u) ∙ z)))
 
@@ -233,7 +252,7 @@ module _ (st : State) (s : Session) where
         yes = clear-unless 8 tt _ (clear-rest _ _ (clear-rest _ _ turn));
       }
 
-pub claim-stands : (st : State) (s : Session) (claim : Claim) → admitted st s claim ≡ 0 → hasActive st (claimed s claim) ≡ true
+pub claim-stands : (st : State) (s : Session) (claim : Claim) → admitted st s claim ≡ 0 → hasActive st (sought s claim) ≡ true
 claim-stands st s claim z = passed-check st s claim z .active
 
 -- ---- what it hands on
@@ -242,17 +261,17 @@ module _ (st : State) (s : Session) (claim : Claim) {by : Checked} (e : by ≡ c
   unfolding admitted
   checked-number = rw e
 
-  pub checked-next : by .next ≡ activeProcess st (claimed s claim) .next
+  pub checked-next : by .next ≡ activeProcess st (sought s claim) .next
   unfolding checked checkOf claimView
   checked-next = rw e
 
-  pub checked-place : by .number ≡ 0 → by .place ≡ activePlace st (claimed s claim)
+  pub checked-place : by .number ≡ 0 → by .place ≡ activePlace st (sought s claim)
   unfolding checked checkOf claimView admitted
   checked-place z =
       let n : admitted st s claim ≡ 0 = sym checked-number ∙ z in
       rw (e, n)
-      (place-found st (claimed s claim) (findActive (st .table) (claimed s claim)) refl
-      (found-active st (claimed s claim) (findActive (st .table) (claimed s claim)) refl ∙ claim-stands st s claim n))
+      (place-found st (sought s claim) (findActive (st .table) (sought s claim)) refl
+      (found-active st (sought s claim) (findActive (st .table) (sought s claim)) refl ∙ claim-stands st s claim n))
 
 -- a claim that passed its check was admitted
 pub passed-admitted : (by : Checked) (n : ℕ) {passed : Bool} → passed ≡ passedBy by n → passed ≡ true → by .number ≡ 0

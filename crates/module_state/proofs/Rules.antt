@@ -23,7 +23,7 @@ use Rattle.module_state.specs.declared.Phase.the-variants.{Closed, Opene
 use Rattle.names.specs.declared.Credential.{Credential}
 use Rattle.names.specs.declared.Session.{Session}
 use Rattle.module_state.specs.Numbers.{_when_, _unless_, _▸_}
-use Rattle.module_state.specs.Module.{isHandle, closedSession, phaseOf, isClosed, isChosen, isCredential, unprovisioned, grantsOf, provisioned, wordGrants, lookup}
+use Rattle.module_state.specs.Module.{lastSession, sessionCount, isSession, closedSession, phaseOf, isClosed, isChosen, lastCredential, credentialCount, isCredential, unprovisioned, grantsOf, provisioned, wordGrants, lookup}
 use Rattle.module_state.specs.Claim.{phaseNumber, entered, placed, lookupNumber, grantNumber}
 use Rattle.module_state.proofs.Laws.{stop, pass, when-true, when-false, unless-true, unless-false}
 
@@ -66,11 +66,11 @@ module _ {n a : ℕ} (m : ℕ) (e : n ≡ a) where
   part-pass z q = q ∙ sym (pass m (sym e ∙ z))
 
 -- ---- ranges
-pub handle-is : (s : Session) → leb (s .0) 3 ≡ isHandle s
-unfolding isHandle
-handle-is s = refl
+pub session-is : (s : Session) → leb (s .0) lastSession ≡ isSession s
+unfolding isSession
+session-is s = refl
 
-pub credential-is : (c : Credential) → leb (c .0) 7 ≡ isCredential c
+pub credential-is : (c : Credential) → leb (c .0) lastCredential ≡ isCredential c
 unfolding isCredential
 credential-is c = refl
 
@@ -80,7 +80,7 @@ module _ (st : State) (s : Session) where
   unfolding phaseOf
   phase-in = refl
 
-  pub phase-out : length (st .sessions) ≡ 4 → 4 ≤ s .0 → Closed ≡ phaseOf st s
+  pub phase-out : length (st .sessions) ≡ sessionCount → sessionCount ≤ s .0 → Closed ≡ phaseOf st s
   unfolding phaseOf
   phase-out h k = ap (λ (x : SessionState). x .phase) (sym (List·getD-eq-default (st .sessions) closedSession (omega arith)))
 
@@ -102,7 +102,7 @@ module _ (st : State) (c : Credential) where
   unfolding grantsOf
   grants-in = refl
 
-  pub grants-out : length (st .credentials) ≡ 8 → 8 ≤ c .0 → unprovisioned ≡ grantsOf st c
+  pub grants-out : length (st .credentials) ≡ credentialCount → credentialCount ≤ c .0 → unprovisioned ≡ grantsOf st c
   unfolding grantsOf
   grants-out h k = sym (List·getD-eq-default (st .credentials) unprovisioned (omega arith))
 
@@ -163,7 +163,7 @@ module _ (m at : ℕ) where
     placed-on n q e = q ∙ rw e
 
 -- ---- a session, by its phase
-module _ (s : Session) (phase : Phase) {b : Bool} (e : b ≡ isHandle s) where
+module _ (s : Session) (phase : Phase) {b : Bool} (e : b ≡ isSession s) where
   pub phase-argument : not b ≡ true → 1 ≡ phaseNumber s phase
   unfolding phaseNumber
   phase-argument h = unless-stop 1 e _ tt h
@@ -185,4 +185,4 @@ pub entered-is : (st : State) (s : Session) {phase : Phase} {n : ℕ} → phase 
 unfolding entered
 entered-is st s e q = q ∙ rw e
 
-pub ruleset rules = (needs, length-mapped, when-hit, when-miss, unless-hit, unless-miss, when-stop, when-pass, unless-stop, unless-pass, part-stop, part-pass, handle-is, credential-is, phase-in, phase-out, closed-closed, closed-opened, closed-chosen, phase-argument, phase-closed, phase-opened, phase-chosen, entered-is, grants-in, grants-out, provisioned-of, grants-not, grants-is, lookup-granted, lookup-not, number-granted, number-not, grant-is, placed-found, refused-placed, number-placed, placed-on)
+pub ruleset rules = (needs, length-mapped, when-hit, when-miss, unless-hit, unless-miss, when-stop, when-pass, unless-stop, unless-pass, part-stop, part-pass, session-is, credential-is, phase-in, phase-out, closed-closed, closed-opened, closed-chosen, phase-argument, phase-closed, phase-opened, phase-chosen, entered-is, grants-in, grants-out, provisioned-of, grants-not, grants-is, lookup-granted, lookup-not, number-granted, number-not, grant-is, placed-found, refused-placed, number-placed, placed-on)

@@ -2,8 +2,8 @@
 -- Assumes nothing.
 use mathlib.Core.Path.{sym, _∙_}
 use Rattle.lists.proofs.Once.{OneAnswer}
-use Rattle.module_state.proofs.is_handle.Kinds as is-handle-kinds
-use Rattle.module_state.proofs.is_handle.Reads as is-handle
+use Rattle.module_state.proofs.is_session.Kinds as is-session-kinds
+use Rattle.module_state.proofs.is_session.Reads as is-session
 use Rattle.module_state.proofs.is_credential.Kinds as is-credential-kinds
 use Rattle.module_state.proofs.is_credential.Reads as is-credential
 use Rattle.module_state.proofs.phase_of.Kinds as phase-of-kinds
@@ -12,10 +12,8 @@ use Rattle.module_state.proofs.is_closed.Kinds as is-closed-kinds
 use Rattle.module_state.proofs.is_closed.Reads as is-closed
 use Rattle.module_state.proofs.grants_of.Kinds as grants-of-kinds
 use Rattle.module_state.proofs.grants_of.Reads as grants-of
-use Rattle.module_state.proofs.look_up.Kinds as look-up-kinds
-use Rattle.module_state.proofs.look_up.Reads as look-up
-use Rattle.module_state.proofs.lookup_number.Kinds as lookup-number-kinds
-use Rattle.module_state.proofs.lookup_number.Reads as lookup-number
+use Rattle.module_state.proofs.closed_module.Kinds as closed-module-kinds
+use Rattle.module_state.proofs.closed_module.Reads as closed-module
 use Rattle.module_state.proofs.grant_number.Kinds as grant-number-kinds
 use Rattle.module_state.proofs.grant_number.Reads as grant-number
 use Rattle.module_state.proofs.phase_number.Kinds as phase-number-kinds
@@ -25,8 +23,8 @@ use Rattle.module_state.proofs.refused.Reads as refused
 use Rattle.module_state.proofs.entered.Kinds as entered-kinds
 use Rattle.module_state.proofs.entered.Reads as entered
 
-pub is-handle-once : OneAnswer 0 is-handle-kinds.ps is-handle-kinds.r is-handle.Post
-is-handle-once κs a x y s t p q = p ∙ sym q
+pub is-session-once : OneAnswer 0 is-session-kinds.ps is-session-kinds.r is-session.Post
+is-session-once κs a x y s t p q = p ∙ sym q
 
 pub is-credential-once : OneAnswer 0 is-credential-kinds.ps is-credential-kinds.r is-credential.Post
 is-credential-once κs a x y s t p q = p ∙ sym q
@@ -40,11 +38,8 @@ is-closed-once κs a x y s t p q = p ∙ sym q
 pub grants-of-once : OneAnswer 0 grants-of-kinds.ps grants-of-kinds.r grants-of.Post
 grants-of-once κs a x y s t p q = p ∙ sym q
 
-pub look-up-once : OneAnswer 0 look-up-kinds.ps look-up-kinds.r look-up.Post
-look-up-once κs a x y s t p q = p ∙ sym q
-
-pub lookup-number-once : OneAnswer 0 lookup-number-kinds.ps lookup-number-kinds.r lookup-number.Post
-lookup-number-once κs a x y s t p q = p ∙ sym q
+pub closed-module-once : OneAnswer 0 closed-module-kinds.ps closed-module-kinds.r closed-module.Post
+closed-module-once κs a x y s t p q = p ∙ sym q
 
 pub grant-number-once : OneAnswer 0 grant-number-kinds.ps grant-number-kinds.r grant-number.Post
 grant-number-once κs a x y s t p q = p ∙ sym q

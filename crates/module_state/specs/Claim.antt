@@ -24,12 +24,12 @@ use Rattle.module_state.specs.declared.State.{State}
 use Rattle.module_state.specs.declared.UserClaim.{UserClaim}
 use Rattle.module_state.specs.Numbers as No
 use Rattle.module_state.specs.Numbers.{_when_, _unless_, _▸_}
-use Rattle.module_state.specs.Module.{isHandle, phaseOf, isClosed, isChosen, isCredential, grantsOf, lookup, activeProcess}
+use Rattle.module_state.specs.Module.{isSession, phaseOf, isClosed, isChosen, isCredential, grantsOf, lookup, activeProcess}
 
 -- "Argument errors (1) come first everywhere, then session (2). All but open, close and select then check 3."
 unfoldable pub phaseNumber : Session → Phase → ℕ
 phaseNumber s phase =
-    No.argument unless isHandle s
+    No.argument unless isSession s
     ▸ No.session when isClosed phase
     ▸ No.noVersion unless isChosen phase
 
@@ -39,9 +39,9 @@ entered st s = phaseNumber s (phaseOf st s)
 -- ---- what a state tells of a claim
 
 -- the active process under which a claim is made: that credential's active user process in that session, or the session's active elevation
-unfoldable pub claimed : Session → Claim → Active
-claimed s Elevated = ElevationIn s
-claimed s (ByUser u) = UserOf s (u .credential)
+unfoldable pub sought : Session → Claim → Active
+sought s Elevated = ElevationIn s
+sought s (ByUser u) = UserOf s (u .credential)
 
 -- whom a claim speaks for, the owner of that process given: "the credential is that process's"; a user claim names its own
 abbrev pub speaksFor : Claim → Credential → Credential
@@ -49,7 +49,7 @@ speaksFor Elevated owner = owner
 speaksFor (ByUser u) owner = u .credential
 
 unfoldable pub speaker : State → Session → Claim → Credential
-speaker st s claim = speaksFor claim (activeProcess st (claimed s claim) .credential)
+speaker st s claim = speaksFor claim (activeProcess st (sought s claim) .credential)
 
 -- the process that a search of a table found; a free place where it found none
 unfoldable pub processFound : Table → Found → Process
@@ -61,8 +61,8 @@ unfoldable pub claimView : State → Session → Claim → ClaimView
 claimView st s claim =
     record {
       phase = phaseOf st s;
-      found = findActive (st .table) (claimed s claim);
-      next = activeProcess st (claimed s claim) .next;
+      found = findActive (st .table) (sought s claim);
+      next = activeProcess st (sought s claim) .next;
       credential = speaker st s claim;
       grants = grantsOf st (speaker st s claim);
     }
@@ -70,9 +70,9 @@ claimView st s claim =
 -- ---- the check
 
 -- an elevated claim has no credential that could be out of range
-unfoldable pub isClaim : Claim → Bool
-isClaim Elevated = true
-isClaim (ByUser u) = isCredential (u .credential)
+unfoldable pub isInRange : Claim → Bool
+isInRange Elevated = true
+isInRange (ByUser u) = isCredential (u .credential)
 
 abbrev pub isFound : Found → Bool
 isFound (At at) = true
@@ -101,7 +101,7 @@ claimNumber (ByUser u) view =
 -- what every protected call begins with
 unfoldable pub checkNumber : Session → Claim → ClaimView → ℕ
 checkNumber s claim view =
-    No.argument unless isClaim claim
+    No.argument unless isInRange claim
     ▸ phaseNumber s (view .phase)
     ▸ claimNumber claim view
 

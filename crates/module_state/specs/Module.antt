@@ -21,14 +21,14 @@ use Rattle.module_state.specs.declared.SessionState.{SessionState}
 use Rattle.module_state.specs.declared.State.{State}
 
 -- ---- "Four sessions, handles 0 to 3. Each is closed, or open without a version, or open with version 1.0."
-abbrev pub lastHandle : ℕ
-lastHandle = 3
+abbrev pub lastSession : ℕ
+lastSession = 3
 
 abbrev pub sessionCount : ℕ
-sessionCount = lastHandle + 1
+sessionCount = lastSession + 1
 
-unfoldable pub isHandle : Session → Bool
-isHandle s = leb (s .0) lastHandle
+unfoldable pub isSession : Session → Bool
+isSession s = leb (s .0) lastSession
 
 abbrev pub closedSession : SessionState
 closedSession = record { phase = Closed }
@@ -55,6 +55,10 @@ credentialCount = lastCredential + 1
 
 unfoldable pub isCredential : Credential → Bool
 isCredential c = leb (c .0) lastCredential
+
+-- its bytes
+abbrev pub wordSize : ℕ
+wordSize = 4
 
 abbrev pub unprovisioned : Grants
 unprovisioned = record { provisioned = false; word = 0 }

@@ -1,6 +1,6 @@
 // What the module holds, and whom it grants what; the types of a claim and of its check.
 ghost use mathlib.Core.Path.{_≡_};
-ghost use Rattle.module_state.specs.Module.{isHandle, isCredential, phaseOf, isClosed, grantsOf, wordGrants, lookup};
+ghost use Rattle.module_state.specs.Module.{isSession, isCredential, phaseOf, isClosed, grantsOf, closedModule, wordGrants, lookup};
 ghost use Rattle.module_state.specs.Claim.{phaseNumber, entered, lookupNumber, grantNumber};
 use names::Credential;
 use names::Session;
@@ -52,14 +52,17 @@ pub const SAVE_OWN: u8 = 2;
 
 pub const SET_WORDS: u8 = 3;
 
-// Handles are 0 to 3, credentials 0 to 7.
-pub const SESSIONS: usize = 4;
+// Sessions are 0 to 3, credentials 0 to 7.
+pub const LAST_SESSION: u8 = 3;
 
-pub const LAST_HANDLE: u8 = 3;
-
-pub const CREDENTIALS: usize = 8;
+pub const SESSIONS: usize = LAST_SESSION as usize + 1;
 
 pub const LAST_CREDENTIAL: u16 = 7;
+
+pub const CREDENTIALS: usize = LAST_CREDENTIAL as usize + 1;
+
+// Bytes of a grant word.
+pub const WORD_SIZE: usize = 4;
 
 pub enum Phase {
     Closed,
@@ -130,10 +133,10 @@ pub struct Placed {
     pub place: usize,
 }
 
-pub fn is_handle(s: Session) -> bool
-    ensures { λ r. ⌜ r ≡ isHandle s ⌝ }
+pub fn is_session(s: Session) -> bool
+    ensures { λ r. ⌜ r ≡ isSession s ⌝ }
 {
-    s.0 <= LAST_HANDLE
+    s.0 <= LAST_SESSION
 }
 
 pub fn is_credential(c: Credential) -> bool
@@ -179,6 +182,20 @@ pub fn grants_of(st: State, c: Credential) -> Grants
     }
 }
 
+// A module with these credentials and this table, and all sessions closed.
+pub fn closed_module(credentials: [Grants; CREDENTIALS], t: Table) -> State
+    ensures { λ r. ⌜ r ≡ closedModule credentials t ⌝ }
+{
+    let closed = SessionState {
+        phase: Phase::Closed,
+    };
+    State {
+        sessions: [closed; SESSIONS],
+        credentials: credentials,
+        table: t,
+    }
+}
+
 // Whether a grant word grants a class.
 fn word_grants(word: u32, class: Class) -> bool
     ensures { λ r. ⌜ r ≡ wordGrants word class ⌝ }
@@ -190,7 +207,7 @@ fn word_grants(word: u32, class: Class) -> bool
     (word >> bit) % 2 == 1
 }
 
-pub fn look_up(grants: Grants, class: Class) -> Lookup
+fn look_up(grants: Grants, class: Class) -> Lookup
     ensures { λ r. ⌜ r ≡ lookup grants class ⌝ }
 {
     if word_grants(grants.word, class) {
@@ -201,7 +218,7 @@ pub fn look_up(grants: Grants, class: Class) -> Lookup
 }
 
 // The number of each answer of the lookup, for a claim.
-pub fn lookup_number(claim: Claim, answer: Lookup) -> u8
+fn lookup_number(claim: Claim, answer: Lookup) -> u8
     ensures { λ r. ⌜ r ≡ lookupNumber claim answer ⌝ }
 {
     match answer {
@@ -223,7 +240,7 @@ pub fn grant_number(by: Checked, class: Class) -> u8
 pub fn phase_number(s: Session, phase: Phase) -> u8
     ensures { λ r. ⌜ r ≡ phaseNumber s phase ⌝ }
 {
-    if !is_handle(s) {
+    if !is_session(s) {
         return ARGUMENT;
     }
     match phase {

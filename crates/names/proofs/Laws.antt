@@ -22,7 +22,7 @@ use Rattle.names.specs.declared.Row.{Row}
 use Rattle.names.specs.declared.RowRead.{RowRead}
 use Rattle.names.specs.declared.RowType.{RowType}
 use Rattle.names.specs.declared.RowType.the-variants.{ActiveUser, ActiveElevation, SavedUser}
-use Rattle.names.specs.Names.{nameLength, sameBytes, sameName, readName, nameIn, userType, elevationType, lastType, typeNumber, typeNumbered, typeOf, kindNumber, kindNumbered, rowCredentialAt, rowCredentialSize, rowTypeAt, rowLength, rowBytes, rowIn, isRow, rowFrom, readRow}
+use Rattle.names.specs.Names.{nameLength, sameBytes, sameName, readName, nameIn, userType, elevationType, lastType, typeNumber, typeNumbered, typeOf, kindOf, kindNumber, kindNumbered, rowCredentialAt, rowCredentialSize, rowTypeAt, rowLength, rowBytes, rowIn, isRow, rowFrom, readRow}
 
 -- ---- names
 pub same→eq : (a b : List ℕ) → sameBytes a b ≡ true → a ≡ b
@@ -117,10 +117,13 @@ kind-forth (suc (suc n)) h = omega arith
 pub kind-low : (k : Kind) → kindNumber k ≤ lastType
 kind-low k = type-low (typeOf k)
 
+pub type-saved : (n : ℕ) → (n ≡ userType → ⊥) → (n ≡ elevationType → ⊥) → SavedUser ≡ typeNumbered n
+type-saved zero a b = absurd (a refl)
+type-saved (suc zero) a b = absurd (b refl)
+type-saved (suc (suc n)) a b = refl
+
 pub kind-saved : (n : ℕ) → (n ≡ userType → ⊥) → (n ≡ elevationType → ⊥) → Saved ≡ kindNumbered n
-kind-saved zero a b = absurd (a refl)
-kind-saved (suc zero) a b = absurd (b refl)
-kind-saved (suc (suc n)) a b = refl
+kind-saved n a b = ap kindOf (type-saved n a b)
 
 -- what a row's fields hold: a credential of two bytes, a name of 48
 pub record RowFits (row : Row) : Type 0 where

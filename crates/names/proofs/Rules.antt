@@ -22,7 +22,7 @@ use Rattle.names.specs.declared.Name.{Name}
 use Rattle.names.specs.declared.NameRead.{NameRead}
 use Rattle.names.specs.Names.{nameLength, sameBytes, sameName, zeroName, readName, nameIn}
 use Rattle.names.specs.Words.{stride, Word, turned, stirred, stirredIn, digestOf}
-use Rattle.names.proofs.Laws.{same→eq, same-refl, same-append, name-read, name-in, name-not-in}
+use Rattle.names.proofs.Laws.{same→eq, same-refl, same-append, name-read, name-in, name-not-in, type-saved}
 
 -- ---- a word, as `word` makes it of eight bytes
 byte-next : (k at : ℕ) (l : List ℕ) {b : ℕ} (next : ℕ) → next ≡ suc at → at < length l → Widened (getD l at 0) b → take (suc k) (drop at l) ≡ b ∷ take k (drop next l)
@@ -219,4 +219,4 @@ name-put {part} name v h k = copied-all v (omega arith) ∙ sym (name-in part na
 pub name-stays : (part : List ℕ) (name : Name) → (length part ≡ nameLength → ⊥) → part ≡ nameIn part name
 name-stays part name h = sym (name-not-in part name h)
 
-pub ruleset rules = (needs, word-said, word-room, compared-none, compared-on, compared-all, same-said, round-fits, stirred-said, stirred-none, stirred-on, stirred-all, copy, copy-on, put-on, name-wrong, name-got, name-put, name-stays)
+pub ruleset rules = (needs, type-saved, word-said, word-room, compared-none, compared-on, compared-all, same-said, round-fits, stirred-said, stirred-none, stirred-on, stirred-all, copy, copy-on, put-on, name-wrong, name-got, name-put, name-stays)

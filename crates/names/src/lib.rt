@@ -2,7 +2,7 @@
 ghost use mathlib.Core.Path.{_≡_};
 ghost use Prim.Native.Nat.{_+_, _≤_};
 ghost use Rattle.rows.specs.Bytes.{isZero};
-ghost use Rattle.names.specs.Names.{nameLength, sameBytes, sameName, readName, nameIn};
+ghost use Rattle.names.specs.Names.{nameLength, sameBytes, sameName, readName, nameIn, typeNumber, typeNumbered, typeOf, kindOf};
 ghost use Rattle.names.specs.Words.{stride, Word, stirred, digestOf};
 
 // A session handle. A credential cannot stand for it, nor it for a credential.
@@ -35,6 +35,15 @@ pub const LAST_TYPE: u8 = SAVED_TYPE;
 
 pub const NAME_LENGTH: usize = 48;
 
+// Where the fields of a row begin, and its length: the credential, the type, the name.
+pub const ROW_CREDENTIAL_AT: usize = 0;
+
+pub const ROW_TYPE_AT: usize = ROW_CREDENTIAL_AT + 2;
+
+pub const ROW_NAME_AT: usize = ROW_TYPE_AT + 1;
+
+pub const ROW_LENGTH: usize = ROW_NAME_AT + NAME_LENGTH;
+
 // How many bytes of a name are read at a time.
 const STRIDE: usize = 8;
 
@@ -59,6 +68,56 @@ pub struct RowRead {
     pub fits: bool,
     pub row: Row,
 }
+
+// ---- types: the number of each is 004 Table 46's, on the wire and in the state
+
+// The type of the row of a process.
+pub fn type_of(kind: Kind) -> RowType
+    ensures { λ r. ⌜ r ≡ typeOf kind ⌝ }
+{
+    match kind {
+        Kind::User => RowType::ActiveUser,
+        Kind::Elevation => RowType::ActiveElevation,
+        Kind::Saved => RowType::SavedUser,
+    }
+}
+
+// The type's number.
+pub fn type_number(kind: RowType) -> u8
+    ensures { λ r. ⌜ r ≡ typeNumber kind ⌝ }
+{
+    match kind {
+        RowType::ActiveUser => USER_TYPE,
+        RowType::ActiveElevation => ELEVATION_TYPE,
+        RowType::SavedUser => SAVED_TYPE,
+    }
+}
+
+// The type of a number; a number that is no type's is taken for the last.
+pub fn type_numbered(number: u8) -> RowType
+    ensures { λ r. ⌜ r ≡ typeNumbered number ⌝ }
+{
+    if number == USER_TYPE {
+        return RowType::ActiveUser;
+    }
+    if number == ELEVATION_TYPE {
+        return RowType::ActiveElevation;
+    }
+    RowType::SavedUser
+}
+
+// The kind of a process that has a type.
+pub fn kind_of(t: RowType) -> Kind
+    ensures { λ r. ⌜ r ≡ kindOf t ⌝ }
+{
+    match t {
+        RowType::ActiveUser => Kind::User,
+        RowType::ActiveElevation => Kind::Elevation,
+        RowType::SavedUser => Kind::Saved,
+    }
+}
+
+// ---- names
 
 // Eight bytes from an index on, as one number, the lowest first: one load.
 fn word(bytes: [u8; NAME_LENGTH], at: usize) -> u64

@@ -20,7 +20,7 @@ use Rattle.rows.proofs.Loops.{rows-begin, rows-on, rows-fail, rows-all, map-par
 use Rattle.names.specs.Names.{userType, elevationType, savedType, lastType, kindNumbered}
 use Rattle.names.proofs.Laws.{kind-saved}
 use Rattle.table.specs.Table.{standing, isUser, isElevation, isActiveIn, places}
-use Rattle.module_state.specs.Module.{closedSession, unprovisioned, provisioned, phaseOf, isChosen, sessionCount, credentialCount, lastHandle, lastCredential}
+use Rattle.module_state.specs.Module.{closedSession, unprovisioned, provisioned, phaseOf, isChosen, sessionCount, credentialCount, lastSession, lastCredential}
 use Rattle.module_state.specs.declared.Grants.{Grants}
 use Rattle.state_layout.specs.Layout.{credentialSize, ownerAt, kindAt, sessionAt, nextAt, nextSize, placeSize, chosenByte, setFlag, sessionsAt, sessionSize, credentialsAt, countAt, placesAt, stateLength, phaseFrom, sessionFrom, grantsFrom, kindFits, processFrom, processFits, countIn, placesIn, stateOf, isOwned, restIsFree, ownersFit, shaped}
 use Rattle.state_fields.specs.Stands.{stands, allFit}
@@ -39,14 +39,14 @@ module _ (x : List ℕ) where
     process-type h = rw (le-leb (getD x ownerAt 0) lastCredential c, lt-leb (getD x kindAt 0) lastType h)
 
     module _ (t : getD x kindAt 0 ≤ lastType) where
-      pub process-session : lastHandle < getD x sessionAt 0 → false ≡ processFits x
+      pub process-session : lastSession < getD x sessionAt 0 → false ≡ processFits x
       unfolding processFits
-      process-session h = rw (le-leb (getD x ownerAt 0) lastCredential c, le-leb (getD x kindAt 0) lastType t, lt-leb (getD x sessionAt 0) lastHandle h)
+      process-session h = rw (le-leb (getD x ownerAt 0) lastCredential c, le-leb (getD x kindAt 0) lastType t, lt-leb (getD x sessionAt 0) lastSession h)
 
-      module _ (s : getD x sessionAt 0 ≤ lastHandle) where
+      module _ (s : getD x sessionAt 0 ≤ lastSession) where
         in-range : processFits x ≡ kindFits (kindNumbered (getD x kindAt 0)) (getD x sessionAt 0) (numberAt nextSize nextAt x)
         unfolding processFits
-        in-range = rw (le-leb (getD x ownerAt 0) lastCredential c, le-leb (getD x kindAt 0) lastType t, le-leb (getD x sessionAt 0) lastHandle s)
+        in-range = rw (le-leb (getD x ownerAt 0) lastCredential c, le-leb (getD x kindAt 0) lastType t, le-leb (getD x sessionAt 0) lastSession s)
 
         pub process-user : getD x kindAt 0 ≡ userType → true ≡ processFits x
         process-user e = sym (in-range ∙ rw e)

@@ -8,7 +8,7 @@ ghost use Rattle.state_layout.specs.Layout.{placeSize, placesAt, stateLength, p
 ghost use Rattle.state_fields.specs.Stands.{stands, allFit};
 use module_state::CREDENTIALS;
 use module_state::LAST_CREDENTIAL;
-use module_state::LAST_HANDLE;
+use module_state::LAST_SESSION;
 use module_state::SESSIONS;
 use names::ELEVATION_TYPE;
 use names::LAST_TYPE;
@@ -31,25 +31,25 @@ use state_layout::SET_FLAG;
 // A credential is a byte there.
 const LAST_OWNER: u8 = LAST_CREDENTIAL as u8;
 
-fn process_fits(row: &[u8]) -> bool
-    requires { ⌜ length (now row) ≡ placeSize ⌝ }
-    ensures { λ r. ⌜ r ≡ processFits (now (row .entry)) ⌝ }
+fn process_fits(place: &[u8]) -> bool
+    requires { ⌜ length (now place) ≡ placeSize ⌝ }
+    ensures { λ r. ⌜ r ≡ processFits (now (place .entry)) ⌝ }
 {
-    let kind = row[KIND_AT];
-    let session = row[SESSION_AT];
-    if LAST_OWNER < row[OWNER_AT] {
+    let kind = place[KIND_AT];
+    let session = place[SESSION_AT];
+    if LAST_OWNER < place[OWNER_AT] {
         return false;
     }
     if LAST_TYPE < kind {
         return false;
     }
-    if LAST_HANDLE < session {
+    if LAST_SESSION < session {
         return false;
     }
     if kind == USER_TYPE {
         return true;
     }
-    let next = rows::number16(row, NEXT_AT);
+    let next = rows::number16(place, NEXT_AT);
     if kind == ELEVATION_TYPE {
         return next == 0;
     }
@@ -60,14 +60,14 @@ fn process_fits(row: &[u8]) -> bool
 }
 
 // Whether the owner of a place is provisioned, and its session open with version 1.0 where it is active.
-fn is_owned<'a>(s: &'a [u8], row: &'a [u8]) -> bool
+fn is_owned<'a>(s: &'a [u8], place: &'a [u8]) -> bool
     requires { ⌜ length (now s) ≡ stateLength ⌝ }
-    requires { ⌜ length (now row) ≡ placeSize ⌝ }
-    ensures { λ r. ⌜ r ≡ isOwned (stateOf (now (s .entry))) (processFrom (now (row .entry))) ⌝ }
+    requires { ⌜ length (now place) ≡ placeSize ⌝ }
+    ensures { λ r. ⌜ r ≡ isOwned (stateOf (now (s .entry))) (processFrom (now (place .entry))) ⌝ }
 {
-    let credential = rows::wide(row[OWNER_AT]);
-    let kind = row[KIND_AT];
-    let session = rows::wide(row[SESSION_AT]);
+    let credential = rows::wide(place[OWNER_AT]);
+    let kind = place[KIND_AT];
+    let session = rows::wide(place[SESSION_AT]);
     if CREDENTIALS <= credential {
         return false;
     }
@@ -84,15 +84,15 @@ fn is_owned<'a>(s: &'a [u8], row: &'a [u8]) -> bool
 }
 
 // Whether a place may stand by itself: its fields in their ranges, its owner and its session as they must be.
-fn stands<'a>(s: &'a [u8], row: &'a [u8]) -> bool
+fn stands<'a>(s: &'a [u8], place: &'a [u8]) -> bool
     requires { ⌜ length (now s) ≡ stateLength ⌝ }
-    requires { ⌜ length (now row) ≡ placeSize ⌝ }
-    ensures { λ r. ⌜ r ≡ stands (now (s .entry)) (now (row .entry)) ⌝ }
+    requires { ⌜ length (now place) ≡ placeSize ⌝ }
+    ensures { λ r. ⌜ r ≡ stands (now (s .entry)) (now (place .entry)) ⌝ }
 {
-    if !process_fits(row) {
+    if !process_fits(place) {
         return false;
     }
-    is_owned(s, row)
+    is_owned(s, place)
 }
 
 fn all_stand(s: &[u8], n: usize) -> bool

@@ -3,17 +3,17 @@
 use Prim.Native.Nat.{ℕ, zero, suc, _+_, _-_, _*_, _<_, _≤_}
 use mathlib.Core.Path.{_≡_, refl, sym, ap, _∙_}
 use mathlib.Core.Bool.{Bool, true, false}
-use mathlib.Core.List.{List, [], _∷_, map}
+use mathlib.Core.List.{List, [], map}
 use native.Mathlib.Omega.{arith}
 use native.Mathlib.Nat.{add-zero}
 use borrow.Author.Needs.{needs}
 use borrow.Author.Tests.{eq-eqb, ne-eqb, lt-ltb, ltb-true}
 use lib.Dec.{eqb}
-use lib.ListN.{length, take, drop, getD, replicate, List·getD-eq-default, length-map}
+use lib.ListN.{length, take, drop, getD, List·getD-eq-default, length-map}
 use lib.Seq.{getD-take, getD-drop}
 use Rattle.rows.specs.Bytes.{numberAt, Widened}
 use Rattle.lists.specs.Lists.{firstIndex}
-use Rattle.lists.proofs.Lists.{length-mapped, first-inside}
+use Rattle.lists.proofs.Lists.{length-mapped, getD-same, first-inside}
 use Rattle.rows.specs.Rows.{rows}
 use Rattle.rows.proofs.Bytes.{number-part}
 use Rattle.rows.proofs.Rows.{rows-length}
@@ -21,7 +21,7 @@ use Rattle.rows.proofs.Loops.{map-part}
 use Rattle.names.specs.Names.{kindNumbered}
 use Rattle.names.specs.declared.Credential.{Credential}
 use Rattle.names.specs.declared.Session.{Session}
-use Rattle.table.specs.Table.{standing, freePlace, size, isUser, isElevation, isActive, firstPlace, processAt, places}
+use Rattle.table.specs.Table.{standing, size, isUser, isElevation, isActive, firstPlace, processAt, places}
 use Rattle.table.specs.declared.Active.{Active}
 use Rattle.table.specs.declared.Active.the-variants.{UserOf, ElevationIn}
 use Rattle.table.specs.declared.Found.{Found}
@@ -41,10 +41,10 @@ use Rattle.module_state.specs.declared.Phase.{Phase}
 use Rattle.module_state.specs.declared.Phase.the-variants.{Closed}
 use Rattle.module_state.specs.declared.SessionState.{SessionState}
 use Rattle.module_state.proofs.Laws.{view-of}
-use Rattle.state_layout.specs.Layout.{kindAt, sessionAt, wordAt, credentialSize, nextAt, placeSize, sessionsAt, sessionSize, credentialsAt, countAt, placesAt, stateLength, phaseFrom, sessionFrom, grantsFrom, processFrom, countIn, placesIn, nothingHeld, stateOf}
+use Rattle.state_layout.specs.Layout.{ownerAt, kindAt, sessionAt, credentialSize, nextAt, nextSize, placeSize, sessionsAt, sessionSize, credentialsAt, countAt, placesAt, stateLength, phaseFrom, sessionFrom, grantsFrom, processFrom, countIn, placesIn, nothingHeld, stateOf}
 use Rattle.state_layout.proofs.Laws.{state-in, state-not-in}
 use Rattle.state_find.specs.Found.{isStanding}
-use Rattle.state_layout.proofs.Parts.{grants-part, place-part}
+use Rattle.state_layout.proofs.Parts.{place-part}
 
 -- ---- sessions and credentials
 module _ (s : List ℕ) (session : Session) where
@@ -86,19 +86,9 @@ module _ (s : List ℕ) (c : Credential) where
       grants-at : getD (stateOf s .credentials) (c .0) unprovisioned ≡ grantsFrom grants-row
       grants-at = rw (state-in s h) (map-part grantsFrom credentialCount credentialSize credentialsAt s (c .0) unprovisioned k)
 
-      grants-byte : (j : ℕ) → j < credentialSize → getD grants-row j 0 ≡ getD s (credentialsAt + c .0 * credentialSize + j) 0
-      grants-byte j l =
-          let u : j < credentialsAt + c .0 * credentialSize + credentialSize - (credentialsAt + c .0 * credentialSize) = omega arith in
-          getD-take (credentialsAt + c .0 * credentialSize + credentialSize - (credentialsAt + c .0 * credentialSize)) (drop (credentialsAt + c .0 * credentialSize) s) j 0 u ∙ getD-drop (credentialsAt + c .0 * credentialSize) s j 0
-
-      pub grants-read : {word : ℕ} → word ≡ numberAt 4 (credentialsAt + c .0 * credentialSize + wordAt) s
-          → _≡_ {A = Grants} (record { provisioned = eqb (getD s (credentialsAt + c .0 * credentialSize) 0) 1; word = word }) (grantsOf (stateOf s) c)
-      unfolding grantsOf grantsFrom
-      grants-read q =
-          let first : getD grants-row 0 0 ≡ getD s (credentialsAt + c .0 * credentialSize) 0 = rw add-zero at (grants-byte 0 (omega arith)) in
-          let in-row : wordAt + 4 ≤ credentialsAt + c .0 * credentialSize + credentialSize - (credentialsAt + c .0 * credentialSize) = omega arith in
-          let word = number-part 4 wordAt (credentialsAt + c .0 * credentialSize + credentialSize - (credentialsAt + c .0 * credentialSize)) (credentialsAt + c .0 * credentialSize) s in-row in
-          rw (q, ← first, ← word) (sym grants-at)
+      pub grants-read : {g : Grants} → g ≡ grantsFrom grants-row → g ≡ grantsOf (stateOf s) c
+      unfolding grantsOf
+      grants-read q = q ∙ sym grants-at
 
 -- ---- a place
 not-user : (k : ℕ) → (k ≡ 0 → ⊥) → isUser (kindNumbered k) ≡ false
@@ -190,17 +180,15 @@ module _ (s : List ℕ) where
       process-read : processFrom (place at) ≡ processAt (stateOf s .table) at
       process-read = sym (place-at at place-low) ∙ process-got (stateOf s .table) {n = size (stateOf s .table)} refl k places-long
 
-      pub owner-read : {r : ℕ} → Widened (getD s (placesAt + at * placeSize) 0) r → _≡_ {A = Credential} (record { 0 = r }) (processAt (stateOf s .table) at .credential)
+      pub owner-read : {r : ℕ} → Widened (getD s (placesAt + at * placeSize + ownerAt) 0) r → _≡_ {A = Credential} (record { 0 = r }) (processAt (stateOf s .table) at .credential)
       unfolding processFrom
-      owner-read w =
-          let first : getD (place at) 0 0 ≡ getD s (placesAt + at * placeSize) 0 = rw add-zero at (place-byte at 0 (omega arith)) in
-          rw (w .is, ← first) (ap (λ (p : Process). p .credential) process-read)
+      owner-read w = rw (w .is, ← place-byte at ownerAt (omega arith)) (ap (λ (p : Process). p .credential) process-read)
 
-      pub next-read : {r : ℕ} → r ≡ numberAt 2 (placesAt + at * placeSize + nextAt) s → r ≡ processAt (stateOf s .table) at .next
+      pub next-read : {r : ℕ} → r ≡ numberAt nextSize (placesAt + at * placeSize + nextAt) s → r ≡ processAt (stateOf s .table) at .next
       unfolding processFrom
       next-read q =
-          let in-row : nextAt + 2 ≤ placesAt + at * placeSize + placeSize - (placesAt + at * placeSize) = omega arith in
-          let next : numberAt 2 nextAt (place at) ≡ numberAt 2 (placesAt + at * placeSize + nextAt) s = number-part 2 nextAt (placesAt + at * placeSize + placeSize - (placesAt + at * placeSize)) (placesAt + at * placeSize) s in-row in
+          let inside : nextAt + nextSize ≤ placesAt + at * placeSize + placeSize - (placesAt + at * placeSize) = omega arith in
+          let next : numberAt nextSize nextAt (place at) ≡ numberAt nextSize (placesAt + at * placeSize + nextAt) s = number-part nextSize nextAt (placesAt + at * placeSize + placeSize - (placesAt + at * placeSize)) (placesAt + at * placeSize) s inside in
           q ∙ sym next ∙ ap (λ (p : Process). p .next) process-read
 
 -- ---- the process that the search found
@@ -239,18 +227,13 @@ module _ (t : Table) {f : Found} where
   standing-at {k} h e = ltb-true k (size t) (rw e at h)
 
 -- ---- a slice of another length
-same-everywhere : {A : Type 0} (n i : ℕ) (x : A) → getD (replicate n x) i x ≡ x
-same-everywhere zero i x = refl
-same-everywhere (suc n) zero x = refl
-same-everywhere (suc n) (suc i) x = same-everywhere n i x
-
 pub told-nothing : (session : Session) (claim : Claim) {c : Credential} → c ≡ speaksFor claim noOwner
     → _≡_ {A = ClaimView} (record { phase = Closed; found = Nothing; next = 0; credential = c; grants = unprovisioned }) (claimView nothingHeld session claim)
 unfolding phaseOf grantsOf processFound firstPlace firstIndex
 told-nothing session claim {c} e =
     view-of nothingHeld session claim refl (rw (standing-of [])) refl refl e
-    (ap (λ (x : SessionState). x .phase) (sym (same-everywhere sessionCount (session .0) closedSession)))
-    (sym (same-everywhere credentialCount (c .0) unprovisioned))
+    (ap (λ (x : SessionState). x .phase) (sym (getD-same sessionCount (session .0) closedSession)))
+    (sym (getD-same credentialCount (c .0) unprovisioned))
 
 pub told-short : (s : List ℕ) (session : Session) (claim : Claim) {r : ClaimView} → r ≡ claimView nothingHeld session claim → (length s ≡ stateLength → ⊥) → r ≡ claimView (stateOf s) session claim
 told-short s session claim e n = e ∙ rw (state-not-in s n)

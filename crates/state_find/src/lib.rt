@@ -16,7 +16,9 @@ use module_state::Phase;
 use module_state::SESSIONS;
 use module_state::UNPROVISIONED;
 use names::Credential;
+use names::ELEVATION_TYPE;
 use names::Session;
+use names::USER_TYPE;
 use state_layout::COUNT_AT;
 use state_layout::CREDENTIAL_SIZE;
 use state_layout::CREDENTIALS_AT;
@@ -27,7 +29,6 @@ use state_layout::PLACE_SIZE;
 use state_layout::PLACES_AT;
 use state_layout::SESSION_AT;
 use state_layout::STATE_LENGTH;
-use state_layout::WORD_AT;
 use table::Active;
 use table::Found;
 use table::PLACES;
@@ -56,10 +57,8 @@ fn grants_of(s: &[u8], c: Credential) -> Grants
         return UNPROVISIONED;
     }
     let a = CREDENTIALS_AT + at * CREDENTIAL_SIZE;
-    Grants {
-        provisioned: s[a] == 1,
-        word: rows::number32(s, a + WORD_AT),
-    }
+    let e = a + CREDENTIAL_SIZE;
+    state_read::grants_from(&s[a..e])
 }
 
 // ---- processes
@@ -73,24 +72,24 @@ fn size_in(s: &[u8]) -> usize
     if count < PLACES { count } else { PLACES }
 }
 
-fn is_active(row: &[u8], which: Active) -> bool
-    requires { ⌜ length (now row) ≡ placeSize ⌝ }
-    ensures { λ r. ⌜ r ≡ isActive which (processFrom (now (row .entry))) ⌝ }
+fn is_active(place: &[u8], which: Active) -> bool
+    requires { ⌜ length (now place) ≡ placeSize ⌝ }
+    ensures { λ r. ⌜ r ≡ isActive which (processFrom (now (place .entry))) ⌝ }
 {
-    let kind = row[KIND_AT];
-    let session = row[SESSION_AT];
+    let kind = place[KIND_AT];
+    let session = place[SESSION_AT];
     match which {
         Active::UserOf(s, c) => {
-            if kind != 0 {
+            if kind != USER_TYPE {
                 return false;
             }
             if session != s.0 {
                 return false;
             }
-            rows::wide16(row[OWNER_AT]) == c.0
+            rows::wide16(place[OWNER_AT]) == c.0
         }
         Active::ElevationIn(s) => {
-            if kind != 1 {
+            if kind != ELEVATION_TYPE {
                 return false;
             }
             session == s.0
@@ -137,7 +136,7 @@ fn credential_at(s: &[u8], at: usize) -> Credential
     ensures { λ r. ⌜ r ≡ processAt (stateOf (now (s .entry)) .table) at .credential ⌝ }
 {
     let a = PLACES_AT + at * PLACE_SIZE;
-    Credential(rows::wide16(s[a]))
+    Credential(rows::wide16(s[a + OWNER_AT]))
 }
 
 // ---- what the check of a claim asks
@@ -183,7 +182,7 @@ pub fn claim_view(s: &[u8], session: Session, claim: Claim) -> ClaimView
     if s.len() != STATE_LENGTH {
         return nothing_told(session, claim);
     }
-    let found = find_active(s, claim_check::claimed(session, claim));
+    let found = find_active(s, claim_check::sought(session, claim));
     let next = next_found(s, found);
     let c = claim_check::speaks_for(claim, owner_found(s, found));
     ClaimView {

@@ -1,6 +1,6 @@
 -- The layout, worked by hand: the state that docs/STATE.md draws, and what one changed byte of it breaks.
 -- Assumes nothing.
-use Prim.Native.Nat.{ℕ}
+use Prim.Native.Nat.{ℕ, _+_, _-_, _*_}
 use mathlib.Core.Path.{_≡_, refl}
 use mathlib.Core.Bool.{Bool, true, false}
 use mathlib.Core.List.{List, [], _∷_, _++_}
@@ -13,10 +13,10 @@ use Rattle.names.specs.declared.Kind.{Kind}
 use Rattle.names.specs.declared.Kind.the-variants.{User, Elevation, Saved}
 use Rattle.table.specs.Table.{standing, tableOf, isActive, isActiveIn}
 use Rattle.table.specs.declared.Process.{Process}
-use Rattle.module_state.specs.Module.{closedSession, unprovisioned, provisioned, phaseOf, isChosen}
+use Rattle.module_state.specs.Module.{lastSession, closedSession, unprovisioned, provisioned, phaseOf, isChosen}
 use Rattle.module_state.specs.declared.Phase.the-variants.{Opened, Chosen}
 use Rattle.module_state.specs.declared.State.{State}
-use Rattle.state_layout.specs.Layout.{sessionBytes, sessionFrom, sessionFits, grantsBytes, grantsFrom, grantsFit, processBytes, processFrom, processFits, countIn, placesIn, stateBytes, nothingHeld, stateOf, isOwned, areRivals, areApart, sound, ownersFit, restIsFree, shaped, holdsState}
+use Rattle.state_layout.specs.Layout.{flagAt, wordAt, credentialSize, ownerAt, kindAt, sessionAt, nextAt, nameAt, placeSize, sessionsAt, credentialsAt, countAt, placesAt, stateLength, sessionBytes, sessionFrom, sessionFits, grantsBytes, grantsFrom, grantsFit, processBytes, processFrom, processFits, countIn, placesIn, stateBytes, nothingHeld, stateOf, isOwned, areRivals, areApart, sound, ownersFit, restIsFree, shaped, holdsState}
 
 -- document 01: "P is 16 zero bytes then 32 of 0x11; Q is 16 zero bytes then 32 of 0x22; R is P with its last byte 0x12."
 abbrev P : List ℕ
@@ -63,12 +63,22 @@ pub record Drawn : Type 0 where
   pub read : stateOf bytes ≡ drawn
   pub long : length bytes ≡ 681
   pub held : holdsState bytes ≡ true
-  pub nothing-held : holdsState (replicate 681 0) ≡ true
-  pub nothing-written : stateBytes nothingHeld ≡ replicate 681 0
+  pub nothing-held : holdsState (replicate stateLength 0) ≡ true
+  pub nothing-written : stateBytes nothingHeld ≡ replicate stateLength 0
 
 pub drawn-is : Drawn
 unfolding join padded bytesOf numberOf numberAt rows every pairwise sameBytes sameName standing tableOf isActive isActiveIn provisioned phaseOf isChosen byteOf sessionBytes sessionFrom sessionFits grantsBytes grantsFrom grantsFit processBytes processFrom processFits countIn placesIn stateBytes stateOf isOwned areRivals areApart sound ownersFit restIsFree shaped holdsState
 drawn-is = record { written = refl; read = refl; long = refl; held = refl; nothing-held = refl; nothing-written = refl }
+
+-- where a credential and a place begin, and the last byte of a place's name
+abbrev credential : ℕ → ℕ
+credential c = credentialsAt + c * credentialSize
+
+abbrev place : ℕ → ℕ
+place i = placesAt + i * placeSize
+
+abbrev nameEnd : ℕ
+nameEnd = nameAt + 47
 
 -- a byte changed: the place, and what it holds then
 abbrev changed : ℕ → ℕ → Bool
@@ -76,36 +86,36 @@ changed at byte = holdsState (set bytes at byte)
 
 pub record Refused : Type 0 where
   -- "its length is another"
-  pub short : holdsState (take 680 bytes) ≡ false
+  pub short : holdsState (take (stateLength - 1) bytes) ≡ false
   pub long : holdsState (bytes ++ (0 ∷ [])) ≡ false
   -- "a field is out of its range"
-  pub phase-3 : changed 3 3 ≡ false
-  pub flag-2 : changed 4 2 ≡ false
-  pub count-13 : changed 44 13 ≡ false
-  pub credential-8 : changed 45 8 ≡ false
-  pub type-3 : changed 46 3 ≡ false
-  pub session-4 : changed 47 4 ≡ false
+  pub phase-3 : changed (sessionsAt + lastSession) 3 ≡ false
+  pub flag-2 : changed (credential 0 + flagAt) 2 ≡ false
+  pub count-13 : changed countAt 13 ≡ false
+  pub credential-8 : changed (place 0 + ownerAt) 8 ≡ false
+  pub type-3 : changed (place 0 + kindAt) 3 ≡ false
+  pub session-4 : changed (place 0 + sessionAt) 4 ≡ false
   -- "a field kept zero isn't zero (an unprovisioned credential's word too)"
-  pub word-unprovisioned : changed 18 1 ≡ false
-  pub saved-session : changed 100 1 ≡ false
-  pub elevation-next : changed 155 1 ≡ false
-  pub free-place : changed 680 1 ≡ false
-  pub count-too-low : changed 44 2 ≡ false
+  pub word-unprovisioned : changed (credential 2 + wordAt + 3) 1 ≡ false
+  pub saved-session : changed (place 1 + sessionAt) 1 ≡ false
+  pub elevation-next : changed (place 2 + nextAt + 1) 1 ≡ false
+  pub free-place : changed (stateLength - 1) 1 ≡ false
+  pub count-too-low : changed countAt 2 ≡ false
   -- "a slice with a saved process at next number 0"
-  pub saved-uncounted : holdsState (set (set (set bytes 44 4) 205 2) 256 7) ≡ false
+  pub saved-uncounted : holdsState (set (set (set bytes countAt 4) (place 3 + kindAt) 2) (place 3 + nameEnd) 7) ≡ false
   -- "or demand 3's rules .. are broken": an owner; a session; a name; two user processes; two elevations
-  pub owner : changed 45 2 ≡ false
-  pub session-without-version : changed 47 1 ≡ false
-  pub session-closed : changed 47 2 ≡ false
-  pub name-twice : changed 203 0x11 ≡ false
-  pub user-twice : holdsState (set (set bytes 98 0) 99 0) ≡ false
-  pub count-too-high : changed 44 4 ≡ false
-  pub elevation-twice : holdsState (set (set (set bytes 99 1) 101 0) 102 0) ≡ false
+  pub owner : changed (place 0 + ownerAt) 2 ≡ false
+  pub session-without-version : changed (place 0 + sessionAt) 1 ≡ false
+  pub session-closed : changed (place 0 + sessionAt) 2 ≡ false
+  pub name-twice : changed (place 2 + nameEnd) 0x11 ≡ false
+  pub user-twice : holdsState (set (set bytes (place 1 + ownerAt) 0) (place 1 + kindAt) 0) ≡ false
+  pub count-too-high : changed countAt 4 ≡ false
+  pub elevation-twice : holdsState (set (set (set bytes (place 1 + kindAt) 1) (place 1 + nextAt) 0) (place 1 + nextAt + 1) 0) ≡ false
 
 -- what breaks none: another credential's user process in that session; a fourth process, of a name of its own
 pub record Held : Type 0 where
-  pub user-of-another : changed 99 0 ≡ true
-  pub fourth-named : holdsState (set (set (set (set bytes 44 4) 205 2) 207 1) 256 7) ≡ true
+  pub user-of-another : changed (place 1 + kindAt) 0 ≡ true
+  pub fourth-named : holdsState (set (set (set (set bytes countAt 4) (place 3 + kindAt) 2) (place 3 + nextAt) 1) (place 3 + nameEnd) 7) ≡ true
 
 pub refused : Refused
 unfolding join padded bytesOf numberOf numberAt rows every pairwise sameBytes sameName standing tableOf isActive isActiveIn provisioned phaseOf isChosen byteOf sessionBytes sessionFrom sessionFits grantsBytes grantsFrom grantsFit processBytes processFrom processFits countIn placesIn stateBytes stateOf isOwned areRivals areApart sound ownersFit restIsFree shaped holdsState

@@ -22,9 +22,9 @@ use Rattle.table.specs.declared.Process.{Process}
 use Rattle.module_state.specs.declared.Grants.{Grants}
 use Rattle.module_state.specs.declared.Phase.{Phase}
 use Rattle.module_state.specs.declared.Phase.the-variants.{Closed, Opened, Chosen}
-use Rattle.state_layout.specs.Layout.{flagAt, wordAt, wordSize, credentialSize, ownerAt, kindAt, sessionAt, nextAt, nextSize, placeSize, sessionSize, lastPhase, phaseByte, phaseFrom, sessionBytes, sessionFrom, sessionFits, setFlag, flagNumber, grantsBytes, grantsFrom, grantsFit, processBytes, processFrom, kindFits, processFits}
+use Rattle.state_layout.specs.Layout.{flagAt, wordAt, credentialSize, ownerAt, kindAt, sessionAt, nextAt, nextSize, placeSize, sessionSize, lastPhase, phaseByte, phaseFrom, sessionBytes, sessionFrom, sessionFits, setFlag, flagNumber, grantsBytes, grantsFrom, grantsFit, processBytes, processFrom, kindFits, processFits}
 use Rattle.module_rules.specs.Facts.{WideGrants, WideProcess, FormedGrants, FormedProcess}
-use Rattle.module_state.specs.Module.{lastHandle, lastCredential}
+use Rattle.module_state.specs.Module.{lastSession, lastCredential, wordSize}
 
 -- ---- a session
 pub phase-forth : (b : ℕ) → b ≤ lastPhase → phaseByte (phaseFrom b) ≡ b
@@ -74,16 +74,16 @@ flag-forth (suc (suc x)) h = absurd (omega arith)
 grants-fits : (g : Grants) → FormedGrants g → (f : Bool) → g .provisioned ≡ f → grantsFit (grantsBytes g) ≡ true
 unfolding grantsFit grantsBytes bytesOf every
 grants-fits g v true e = rw e
-grants-fits g v false e = rw (e, v .kept e)
+grants-fits g v false e = rw (e, v .zero e)
 
 grants-word : (g : Grants) → g .word < 256 ^ wordSize → numberAt wordSize wordAt (grantsBytes g) ≡ g .word
 unfolding grantsBytes
 grants-word g h = rw append-nil at (number-in wordSize (g .word) (flagNumber (g .provisioned) ∷ []) [] h)
 
 -- a credential that is not provisioned is zeros behind its flag
-grants-clear : (row : List ℕ) → grantsFit row ≡ true → eqb (getD row flagAt 0) setFlag ≡ false → every isZero (drop wordAt row) ≡ true
+grants-clear : (part : List ℕ) → grantsFit part ≡ true → eqb (getD part flagAt 0) setFlag ≡ false → every isZero (drop wordAt part) ≡ true
 unfolding grantsFit
-grants-clear row e k = rw k at (and-right (leb (getD row flagAt 0) setFlag) (eqb (getD row flagAt 0) setFlag || every isZero (drop wordAt row)) e)
+grants-clear part e k = rw k at (and-right (leb (getD part flagAt 0) setFlag) (eqb (getD part flagAt 0) setFlag || every isZero (drop wordAt part)) e)
 
 pub grants-codec : Codec credentialSize grantsBytes grantsFrom grantsFit WideGrants FormedGrants
 unfolding grantsBytes grantsFrom grantsFit
@@ -102,7 +102,7 @@ grants-codec =
     only g v e =
         record {
           word = v .word;
-          kept = λ k. sym (grants-word g (v .word)) ∙ number-clear wordSize wordAt wordAt (grantsBytes g) (grants-clear (grantsBytes g) e (flag-back (g .provisioned) ∙ k)) (omega arith);
+          zero = λ k. sym (grants-word g (v .word)) ∙ number-clear wordSize wordAt wordAt (grantsBytes g) (grants-clear (grantsBytes g) e (flag-back (g .provisioned) ∙ k)) (omega arith);
         }
 
     forth : (b : List ℕ) → length b ≡ credentialSize → Bytes b → grantsFit b ≡ true → grantsBytes (grantsFrom b) ≡ b
@@ -111,7 +111,7 @@ grants-codec =
         rw (f, number-taken wordSize wordAt b h (omega arith), part-last wordSize wordAt b (omega arith)) (byte-front flagAt b (omega arith))
 
     good : (b : List ℕ) → length b ≡ credentialSize → Bytes b → grantsFit b ≡ true → FormedGrants (grantsFrom b)
-    good b n h e = record { word = number-low wordSize wordAt b h; kept = λ k. number-clear wordSize wordAt wordAt b (grants-clear b e k) (omega arith) }
+    good b n h e = record { word = number-low wordSize wordAt b h; zero = λ k. number-clear wordSize wordAt wordAt b (grants-clear b e k) (omega arith) }
 
 -- ---- a place
 kind-test : (k : Kind) (s n : ℕ) → (k ≡ Saved → s ≡ 0) → (k ≡ Elevation → n ≡ 0) → (k ≡ Saved → 1 ≤ n) → kindFits k s n ≡ true
@@ -132,19 +132,19 @@ kept-elevation s n e q = eqb-true n 0 (rw q at e)
 pub record PlaceFits (c k s n : ℕ) : Type 0 where
   pub credential : c ≤ lastCredential
   pub type : k ≤ lastType
-  pub session : s ≤ lastHandle
-  pub kept : kindFits (kindNumbered k) s n ≡ true
+  pub session : s ≤ lastSession
+  pub by-kind : kindFits (kindNumbered k) s n ≡ true
 
-place-fits : (row : List ℕ) → processFits row ≡ true → PlaceFits (getD row ownerAt 0) (getD row kindAt 0) (getD row sessionAt 0) (numberAt nextSize nextAt row)
+place-fits : (place : List ℕ) → processFits place ≡ true → PlaceFits (getD place ownerAt 0) (getD place kindAt 0) (getD place sessionAt 0) (numberAt nextSize nextAt place)
 unfolding processFits
-place-fits row e =
-    let e₁ = and-right (leb (getD row ownerAt 0) lastCredential) _ e in
-    let e₂ = and-right (leb (getD row kindAt 0) lastType) _ e₁ in
+place-fits place e =
+    let e₁ = and-right (leb (getD place ownerAt 0) lastCredential) _ e in
+    let e₂ = and-right (leb (getD place kindAt 0) lastType) _ e₁ in
     record {
-      credential = leb-true (getD row ownerAt 0) lastCredential (and-left (leb (getD row ownerAt 0) lastCredential) _ e);
-      type = leb-true (getD row kindAt 0) lastType (and-left (leb (getD row kindAt 0) lastType) _ e₁);
-      session = leb-true (getD row sessionAt 0) lastHandle (and-left (leb (getD row sessionAt 0) lastHandle) _ e₂);
-      kept = and-right (leb (getD row sessionAt 0) lastHandle) _ e₂;
+      credential = leb-true (getD place ownerAt 0) lastCredential (and-left (leb (getD place ownerAt 0) lastCredential) _ e);
+      type = leb-true (getD place kindAt 0) lastType (and-left (leb (getD place kindAt 0) lastType) _ e₁);
+      session = leb-true (getD place sessionAt 0) lastSession (and-left (leb (getD place sessionAt 0) lastSession) _ e₂);
+      by-kind = and-right (leb (getD place sessionAt 0) lastSession) _ e₂;
     }
 
 process-next : (p : Process) → p .next < 256 ^ nextSize → numberAt nextSize nextAt (processBytes p) ≡ p .next
@@ -174,7 +174,7 @@ process-codec =
     only : (p : Process) → WideProcess p → processFits (processBytes p) ≡ true → FormedProcess p
     only p v e =
         let t = place-fits (processBytes p) e in
-        let q : kindFits (p .kind) (p .session .0) (p .next) ≡ true = rw (kind-back (p .kind), process-next p (v .next)) at (t .kept) in
+        let q : kindFits (p .kind) (p .session .0) (p .next) ≡ true = rw (kind-back (p .kind), process-next p (v .next)) at (t .by-kind) in
         record {
           credential = byte-only (p .credential .0) lastCredential (omega arith) (t .credential);
           session = t .session;
@@ -193,7 +193,7 @@ process-codec =
     fits : (p : Process) → FormedProcess p → processFits (processBytes p) ≡ true
     fits p v =
         let c : byteOf (p .credential .0) ≡ p .credential .0 = byte-small (p .credential .0) (omega (arith, v .credential)) in
-        rw (process-next p (v .next), c, le-leb (p .credential .0) lastCredential (v .credential), le-leb (kindNumber (p .kind)) lastType (kind-low (p .kind)), le-leb (p .session .0) lastHandle (v .session), kind-back (p .kind))
+        rw (process-next p (v .next), c, le-leb (p .credential .0) lastCredential (v .credential), le-leb (kindNumber (p .kind)) lastType (kind-low (p .kind)), le-leb (p .session .0) lastSession (v .session), kind-back (p .kind))
         (kind-test (p .kind) (p .session .0) (p .next) (v .saved) (v .elevation) (v .counted))
 
     good : (b : List ℕ) → length b ≡ placeSize → Bytes b → processFits b ≡ true → FormedProcess (processFrom b)
@@ -204,9 +204,9 @@ process-codec =
           session = t .session;
           next = number-low nextSize nextAt b h;
           name = simp length-drop (omega arith);
-          saved = kept-saved (getD b sessionAt 0) (numberAt nextSize nextAt b) (t .kept);
-          elevation = kept-elevation (getD b sessionAt 0) (numberAt nextSize nextAt b) (t .kept);
-          counted = kept-counted (getD b sessionAt 0) (numberAt nextSize nextAt b) (t .kept);
+          saved = kept-saved (getD b sessionAt 0) (numberAt nextSize nextAt b) (t .by-kind);
+          elevation = kept-elevation (getD b sessionAt 0) (numberAt nextSize nextAt b) (t .by-kind);
+          counted = kept-counted (getD b sessionAt 0) (numberAt nextSize nextAt b) (t .by-kind);
         }
 
 -- ---- a free place is zeros, and the other way round

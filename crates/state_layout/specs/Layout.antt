@@ -14,7 +14,7 @@ use Rattle.names.specs.declared.Kind.the-variants.{User, Elevation, Saved}
 use Rattle.table.specs.Table.{standing, tableOf, processAt, replaced, isUser, isElevation, isActive, isActiveIn, places}
 use Rattle.table.specs.declared.Active.the-variants.{UserOf, ElevationIn}
 use Rattle.table.specs.declared.Process.{Process}
-use Rattle.module_state.specs.Module.{phaseOf, isChosen, unprovisioned, provisioned, sessionCount, credentialCount, lastHandle, lastCredential, closedModule}
+use Rattle.module_state.specs.Module.{phaseOf, isChosen, unprovisioned, provisioned, sessionCount, credentialCount, lastSession, lastCredential, closedModule, wordSize}
 use Rattle.module_state.specs.declared.Grants.{Grants}
 use Rattle.module_state.specs.declared.Phase.{Phase}
 use Rattle.module_state.specs.declared.Phase.the-variants.{Closed, Opened, Chosen}
@@ -27,9 +27,6 @@ flagAt = 0
 
 abbrev pub wordAt : ℕ
 wordAt = flagAt + 1
-
-abbrev pub wordSize : ℕ
-wordSize = 4
 
 abbrev pub credentialSize : ℕ
 credentialSize = wordAt + wordSize
@@ -108,10 +105,10 @@ unfoldable pub sessionBytes : SessionState → List ℕ
 sessionBytes s = phaseByte (s .phase) ∷ []
 
 unfoldable pub sessionFrom : List ℕ → SessionState
-sessionFrom row = record { phase = phaseFrom (getD row 0 0) }
+sessionFrom part = record { phase = phaseFrom (getD part 0 0) }
 
 unfoldable pub sessionFits : List ℕ → Bool
-sessionFits row = leb (getD row 0 0) lastPhase
+sessionFits part = leb (getD part 0 0) lastPhase
 
 -- ---- a credential: "Each is provisioned or not, and has a grant word of 32 bits". A flag, and the word, little endian
 abbrev pub setFlag : ℕ
@@ -125,11 +122,11 @@ unfoldable pub grantsBytes : Grants → List ℕ
 grantsBytes g = flagNumber (g .provisioned) ∷ bytesOf wordSize (g .word)
 
 unfoldable pub grantsFrom : List ℕ → Grants
-grantsFrom row = record { provisioned = eqb (getD row flagAt 0) setFlag; word = numberAt wordSize wordAt row }
+grantsFrom part = record { provisioned = eqb (getD part flagAt 0) setFlag; word = numberAt wordSize wordAt part }
 
 -- "a field kept zero isn't zero (an unprovisioned credential's word too)"
 unfoldable pub grantsFit : List ℕ → Bool
-grantsFit row = leb (getD row flagAt 0) setFlag && (eqb (getD row flagAt 0) setFlag || every isZero (drop wordAt row))
+grantsFit part = leb (getD part flagAt 0) setFlag && (eqb (getD part flagAt 0) setFlag || every isZero (drop wordAt part))
 
 -- ---- a place: "Each has a credential, a type .., the session when active, a next number, and a name of 48 bytes". The type is its number in 004
 -- Table 46, the next number is little endian
@@ -138,13 +135,13 @@ processBytes p =
     byteOf (p .credential .0) ∷ kindNumber (p .kind) ∷ p .session .0 ∷ (bytesOf nextSize (p .next) ++ p .name .bytes)
 
 unfoldable pub processFrom : List ℕ → Process
-processFrom row =
+processFrom place =
     record {
-      credential = record { 0 = getD row ownerAt 0 };
-      kind = kindNumbered (getD row kindAt 0);
-      session = record { 0 = getD row sessionAt 0 };
-      next = numberAt nextSize nextAt row;
-      name = record { bytes = drop nameAt row };
+      credential = record { 0 = getD place ownerAt 0 };
+      kind = kindNumbered (getD place kindAt 0);
+      session = record { 0 = getD place sessionAt 0 };
+      next = numberAt nextSize nextAt place;
+      name = record { bytes = drop nameAt place };
     }
 
 -- what a type asks of the session and of the next number. "An elevation's next number, a saved process's session .. mean nothing and are kept zero."
@@ -155,11 +152,11 @@ kindFits Elevation session next = eqb next 0
 kindFits Saved session next = eqb session 0 && leb 1 next
 
 unfoldable pub processFits : List ℕ → Bool
-processFits row =
-    leb (getD row ownerAt 0) lastCredential
-    && (leb (getD row kindAt 0) lastType
-    && (leb (getD row sessionAt 0) lastHandle
-    && kindFits (kindNumbered (getD row kindAt 0)) (getD row sessionAt 0) (numberAt nextSize nextAt row)))
+processFits place =
+    leb (getD place ownerAt 0) lastCredential
+    && (leb (getD place kindAt 0) lastType
+    && (leb (getD place sessionAt 0) lastSession
+    && kindFits (kindNumbered (getD place kindAt 0)) (getD place sessionAt 0) (numberAt nextSize nextAt place)))
 
 -- ---- the whole: where each part begins is where the one before it ends
 unfoldable pub countIn : List ℕ → ℕ

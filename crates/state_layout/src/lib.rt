@@ -2,6 +2,7 @@
 // same names, and which bytes hold a state. Each part begins where the one before it ends, and so does each field.
 use module_state::CREDENTIALS;
 use module_state::SESSIONS;
+use module_state::WORD_SIZE;
 use names::NAME_LENGTH;
 use table::PLACES;
 
@@ -24,8 +25,6 @@ pub const SET_FLAG: u8 = 1;
 pub const FLAG_AT: usize = 0;
 
 pub const WORD_AT: usize = FLAG_AT + 1;
-
-pub const WORD_SIZE: usize = 4;
 
 pub const CREDENTIAL_SIZE: usize = WORD_AT + WORD_SIZE;
 

@@ -18,8 +18,8 @@ use Rattle.lists.proofs.Tests.{split}
 use Rattle.rows.specs.Rows.{rows, every}
 use Rattle.rows.proofs.Loops.{RowsTo, rows-begin, rows-on, rows-fail, rows-all, or-zero, and-assoc, and-true, and-false}
 use Rattle.table.specs.Table.{places}
-use Rattle.module_state.specs.Module.{sessionCount, credentialCount}
-use Rattle.state_layout.specs.Layout.{lastPhase, setFlag, flagAt, wordAt, wordSize, credentialSize, placeSize, sessionsAt, sessionSize, credentialsAt, countAt, placesAt, stateLength, sessionFits, grantsFit, countIn, restIsFree, ownersFit}
+use Rattle.module_state.specs.Module.{sessionCount, credentialCount, wordSize}
+use Rattle.state_layout.specs.Layout.{lastPhase, setFlag, flagAt, wordAt, credentialSize, placeSize, sessionsAt, sessionSize, credentialsAt, countAt, placesAt, stateLength, sessionFits, grantsFit, countIn, restIsFree, ownersFit}
 use Rattle.state_layout.proofs.Parts.{grants-part}
 
 -- ---- tests in another order
@@ -167,7 +167,7 @@ module _ (x : List ℕ) where
       let word : eqb (numberOf (drop wordAt x)) 0 ≡ every isZero (drop wordAt x) = zero-number (drop wordAt x) in
       rw (e, le-leb (getD x flagAt 0) setFlag h, ne-eqb (getD x flagAt 0) setFlag n, take-all wordSize (drop wordAt x) few) word
 
--- ---- the rows of a slice of 681 bytes
+-- ---- the rows of a slice of a state's length
 module _ {s : List ℕ} {i : ℕ} (v : RowsTo sessionFits sessionCount sessionSize sessionsAt s i) (h : i < sessionCount) where
   at-row : sessionFits (take (sessionsAt + i * sessionSize + sessionSize - (sessionsAt + i * sessionSize)) (drop (sessionsAt + i * sessionSize) s)) ≡ leb (getD s i 0) lastPhase
   unfolding sessionFits

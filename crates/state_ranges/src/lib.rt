@@ -80,18 +80,18 @@ fn sessions_fit(s: &[u8]) -> bool
     true
 }
 
-fn grants_fit(row: &[u8]) -> bool
-    requires { ⌜ length (now row) ≡ credentialSize ⌝ }
-    ensures { λ r. ⌜ r ≡ grantsFit (now (row .entry)) ⌝ }
+fn grants_fit(part: &[u8]) -> bool
+    requires { ⌜ length (now part) ≡ credentialSize ⌝ }
+    ensures { λ r. ⌜ r ≡ grantsFit (now (part .entry)) ⌝ }
 {
-    let flag = row[FLAG_AT];
+    let flag = part[FLAG_AT];
     if SET_FLAG < flag {
         return false;
     }
     if flag == SET_FLAG {
         return true;
     }
-    rows::number32(row, WORD_AT) == 0
+    rows::number32(part, WORD_AT) == 0
 }
 
 fn credentials_fit(s: &[u8]) -> bool

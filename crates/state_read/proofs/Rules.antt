@@ -14,20 +14,20 @@ use Rattle.lists.proofs.Lists.{length-mapped}
 use Rattle.rows.specs.Rows.{rows}
 use Rattle.rows.proofs.Loops.{FilledBy, filled-begin, filled-from, filled-next, filled-done}
 use Rattle.names.specs.Names.{readName, nameLength, kindNumbered}
-use Rattle.names.proofs.Laws.{name-read, kind-saved}
+use Rattle.names.proofs.Laws.{name-read}
 use Rattle.state_layout.proofs.Parts.{grants-part, place-part}
 use Rattle.names.specs.declared.Kind.{Kind}
 use Rattle.names.specs.declared.NameRead.{NameRead}
 use Rattle.table.specs.Table.{tableOf, places}
 use Rattle.table.specs.declared.Process.{Process}
 use Rattle.table.specs.declared.Table.{Table}
-use Rattle.module_state.specs.Module.{closedSession, unprovisioned, sessionCount, credentialCount}
+use Rattle.module_state.specs.Module.{unprovisioned, closedModule, sessionCount, credentialCount, wordSize}
 use Rattle.module_state.specs.declared.Grants.{Grants}
 use Rattle.module_state.specs.declared.Phase.{Phase}
 use Rattle.module_state.specs.declared.Phase.the-variants.{Closed}
 use Rattle.module_state.specs.declared.SessionState.{SessionState}
 use Rattle.module_state.specs.declared.State.{State}
-use Rattle.state_layout.specs.Layout.{openedByte, chosenByte, setFlag, flagAt, ownerAt, kindAt, sessionAt, nameAt, wordAt, wordSize, credentialSize, nextAt, nextSize, placeSize, sessionsAt, sessionSize, credentialsAt, countAt, placesAt, stateLength, phaseFrom, sessionFrom, grantsFrom, processFrom, placesIn, countIn, nothingHeld, stateOf}
+use Rattle.state_layout.specs.Layout.{openedByte, chosenByte, setFlag, flagAt, ownerAt, kindAt, sessionAt, nameAt, wordAt, credentialSize, nextAt, nextSize, placeSize, sessionsAt, sessionSize, credentialsAt, countAt, placesAt, stateLength, phaseFrom, sessionFrom, grantsFrom, processFrom, placesIn, countIn, nothingHeld, stateOf}
 use Rattle.state_layout.proofs.Laws.{state-in, state-not-in}
 
 -- ---- a phase
@@ -50,10 +50,9 @@ module _ {s : List ℕ} {out₀ out : List SessionState} {i : ℕ} (v : FilledBy
   session-done h = filled-done v h
 
 -- ---- grants
-pub grants-read : (x : List ℕ) {w : ℕ} → w ≡ numberAt wordSize wordAt x
-    → _≡_ {A = Grants} (record { provisioned = eqb (getD x flagAt 0) setFlag; word = w }) (grantsFrom x)
+pub grants-read : (x : List ℕ) {f w : ℕ} → f ≡ getD x flagAt 0 → w ≡ numberAt wordSize wordAt x → _≡_ {A = Grants} (record { provisioned = eqb f setFlag; word = w }) (grantsFrom x)
 unfolding grantsFrom
-grants-read x e = rw e
+grants-read x e q = rw (e, q)
 
 -- ---- places
 pub process-read : (x : List ℕ) {c : ℕ} {k : Kind} {n : ℕ} {read : NameRead}
@@ -70,9 +69,8 @@ unfolding placesIn
 places-done v h = filled-done v h
 
 -- ---- the whole
-pub nothing : {t : Table} {c : SessionState} {g : Grants} → t ≡ tableOf [] → c ≡ closedSession → g ≡ unprovisioned
-    → _≡_ {A = State} (record { sessions = replicate sessionCount c; credentials = replicate credentialCount g; table = t }) nothingHeld
-nothing e f g = rw (e, f, g)
+pub nothing : {t : Table} {st : State} → t ≡ tableOf [] → st ≡ closedModule (replicate credentialCount unprovisioned) t → st ≡ nothingHeld
+nothing e q = q ∙ rw e
 
 pub read-other : (s : List ℕ) {st : State} → (length s ≡ stateLength → ⊥) → st ≡ nothingHeld → st ≡ stateOf s
 read-other s n e = e ∙ sym (state-not-in s n)
@@ -83,4 +81,4 @@ pub read-state : (s : List ℕ) {a : List SessionState} {g : List Grants} {p : L
 unfolding countIn
 read-state s h e f g w = rw (state-in s h, e, f, g, w .is)
 
-pub ruleset rules = (needs, length-mapped, phase-closed, kind-saved, session-next, session-done, grants-read, grants-part, process-read, place-part, places-done, nothing, read-other, read-state, filled-begin, filled-from, filled-next, filled-done)
+pub ruleset rules = (needs, length-mapped, phase-closed, session-next, session-done, grants-read, grants-part, process-read, place-part, places-done, nothing, read-other, read-state, filled-begin, filled-from, filled-next, filled-done)

@@ -1,4 +1,4 @@
-// The state that a slice of 681 bytes says, read into a value. docs/STATE.md draws the layout.
+// The state that a slice says, read into a value. docs/STATE.md draws the layout.
 ghost use mathlib.Core.Path.{_≡_};
 ghost use mathlib.Core.List.{map};
 ghost use lib.ListN.{length, drop};
@@ -14,10 +14,8 @@ use module_state::SessionState;
 use module_state::State;
 use module_state::UNPROVISIONED;
 use names::Credential;
-use names::ELEVATION_TYPE;
 use names::Kind;
 use names::Session;
-use names::USER_TYPE;
 use state_layout::CHOSEN_BYTE;
 use state_layout::COUNT_AT;
 use state_layout::CREDENTIAL_SIZE;
@@ -77,20 +75,13 @@ fn read_sessions(s: &[u8]) -> [SessionState; SESSIONS]
 
 // ---- a credential's grants
 
-fn unprovisioned() -> Grants
-    ensures { λ r. ⌜ r ≡ unprovisioned ⌝ }
+// A byte past the end counts as 0.
+pub fn grants_from(part: &[u8]) -> Grants
+    ensures { λ r. ⌜ r ≡ grantsFrom (now (part .entry)) ⌝ }
 {
-    UNPROVISIONED
-}
-
-fn grants_of(row: &[u8]) -> Grants
-    requires { ⌜ length (now row) ≡ credentialSize ⌝ }
-    ensures { λ r. ⌜ r ≡ grantsFrom (now (row .entry)) ⌝ }
-{
-    let word = rows::number32(row, WORD_AT);
     Grants {
-        provisioned: row[FLAG_AT] == SET_FLAG,
-        word: word,
+        provisioned: rows::byte_at(part, FLAG_AT) == SET_FLAG,
+        word: rows::number32(part, WORD_AT),
     }
 }
 
@@ -98,12 +89,12 @@ fn read_credentials(s: &[u8]) -> [Grants; CREDENTIALS]
     requires { ⌜ length (now s) ≡ stateLength ⌝ }
     ensures { λ r. ⌜ r ≡ map grantsFrom (rows credentialCount credentialSize (drop credentialsAt (now (s .entry)))) ⌝ }
 {
-    let mut out = [unprovisioned(); CREDENTIALS];
+    let mut out = [UNPROVISIONED; CREDENTIALS];
     let mut i: usize = 0;
     while i < CREDENTIALS {
         let a = CREDENTIALS_AT + i * CREDENTIAL_SIZE;
         let e = a + CREDENTIAL_SIZE;
-        let grants = grants_of(&s[a..e]);
+        let grants = grants_from(&s[a..e]);
         out[i] = grants;
         i += 1;
     }
@@ -112,28 +103,22 @@ fn read_credentials(s: &[u8]) -> [Grants; CREDENTIALS]
 
 // ---- a place
 
-// The kind that has the type of a number; a number that is no type's is taken for the last.
+// The kind that has the type of a number.
 fn kind_numbered(number: u8) -> Kind
     ensures { λ r. ⌜ r ≡ kindNumbered number ⌝ }
 {
-    if number == USER_TYPE {
-        return Kind::User;
-    }
-    if number == ELEVATION_TYPE {
-        return Kind::Elevation;
-    }
-    Kind::Saved
+    names::kind_of(names::type_numbered(number))
 }
 
-fn process_of(row: &[u8]) -> Process
-    requires { ⌜ length (now row) ≡ placeSize ⌝ }
-    ensures { λ r. ⌜ r ≡ processFrom (now (row .entry)) ⌝ }
+fn process_of(place: &[u8]) -> Process
+    requires { ⌜ length (now place) ≡ placeSize ⌝ }
+    ensures { λ r. ⌜ r ≡ processFrom (now (place .entry)) ⌝ }
 {
-    let credential = rows::wide16(row[OWNER_AT]);
-    let kind = kind_numbered(row[KIND_AT]);
-    let session = row[SESSION_AT];
-    let next = rows::number16(row, NEXT_AT);
-    let read = names::read_name(&row[NAME_AT..PLACE_SIZE]);
+    let credential = rows::wide16(place[OWNER_AT]);
+    let kind = kind_numbered(place[KIND_AT]);
+    let session = place[SESSION_AT];
+    let next = rows::number16(place, NEXT_AT);
+    let read = names::read_name(&place[NAME_AT..PLACE_SIZE]);
     let name = read.name;
     Process {
         credential: Credential(credential),
@@ -166,12 +151,7 @@ fn read_places(s: &[u8]) -> [Process; PLACES]
 fn nothing_held() -> State
     ensures { λ r. ⌜ r ≡ nothingHeld ⌝ }
 {
-    let empty = table::empty();
-    State {
-        sessions: [closed_session(); SESSIONS],
-        credentials: [unprovisioned(); CREDENTIALS],
-        table: empty,
-    }
+    module_state::closed_module([UNPROVISIONED; CREDENTIALS], table::empty())
 }
 
 // The state that a slice says, whatever its bytes are. A slice of another length says that nothing is held.

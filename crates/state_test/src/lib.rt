@@ -31,14 +31,14 @@ const NO_KEY: usize = USER_KEYS + SESSIONS;
 const KEY_COUNT: usize = NO_KEY + 1;
 
 // The key of a place, by remainders, so that any bytes have one.
-fn key_of(row: &[u8]) -> usize
-    requires { ⌜ length (now row) ≡ placeSize ⌝ }
-    ensures { λ r. ⌜ Key (keyOf (now (row .entry))) r ⌝ }
+fn key_of(place: &[u8]) -> usize
+    requires { ⌜ length (now place) ≡ placeSize ⌝ }
+    ensures { λ r. ⌜ Key (keyOf (now (place .entry))) r ⌝ }
 {
-    let kind = row[KIND_AT];
-    let session = rows::wide(row[SESSION_AT]) % SESSIONS;
+    let kind = place[KIND_AT];
+    let session = rows::wide(place[SESSION_AT]) % SESSIONS;
     if kind == USER_TYPE {
-        return session * CREDENTIALS + rows::wide(row[OWNER_AT]) % CREDENTIALS;
+        return session * CREDENTIALS + rows::wide(place[OWNER_AT]) % CREDENTIALS;
     }
     if kind == ELEVATION_TYPE {
         return USER_KEYS + session;
@@ -70,11 +70,11 @@ fn keys_meet(s: &[u8], n: usize) -> bool
 
 // ---- names
 
-fn name_of(row: &[u8]) -> Name
-    requires { ⌜ length (now row) ≡ placeSize ⌝ }
-    ensures { λ r. ⌜ r ≡ processFrom (now (row .entry)) .name ⌝ }
+fn name_of(place: &[u8]) -> Name
+    requires { ⌜ length (now place) ≡ placeSize ⌝ }
+    ensures { λ r. ⌜ r ≡ processFrom (now (place .entry)) .name ⌝ }
 {
-    let read = names::read_name(&row[NAME_AT..PLACE_SIZE]);
+    let read = names::read_name(&place[NAME_AT..PLACE_SIZE]);
     read.name
 }
 

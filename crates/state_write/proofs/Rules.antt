@@ -16,11 +16,11 @@ use Rattle.rows.specs.Rows.{over, Put}
 use Rattle.rows.proofs.Bytes.{length-bytes}
 use Rattle.rows.proofs.Over.{over-length, over-room, over-part, over-set, put-byte, put-length, put-next, put-whole}
 use Rattle.rows.proofs.Loops.{Wrote, wrote-begin, wrote-length, wrote-part, wrote-on, wrote-all}
-use Rattle.module_state.specs.Module.{closedSession, unprovisioned, sessionCount, credentialCount}
+use Rattle.module_state.specs.Module.{closedSession, unprovisioned, sessionCount, credentialCount, wordSize}
 use Rattle.module_state.specs.declared.Grants.{Grants}
 use Rattle.module_state.specs.declared.SessionState.{SessionState}
 use Rattle.module_state.specs.declared.State.{State}
-use Rattle.state_layout.specs.Layout.{setFlag, flagAt, wordAt, wordSize, credentialSize, placeSize, sessionsAt, sessionSize, credentialsAt, countAt, countSize, stateLength, phaseByte, sessionBytes, flagNumber, grantsBytes, processBytes, stateBytes, stateWritten}
+use Rattle.state_layout.specs.Layout.{setFlag, flagAt, wordAt, credentialSize, placeSize, sessionsAt, sessionSize, credentialsAt, countAt, countSize, stateLength, phaseByte, sessionBytes, flagNumber, grantsBytes, processBytes, stateBytes, stateWritten}
 use Rattle.state_layout.proofs.Laws.{state-written, state-not-written}
 use Rattle.table.specs.Table.{places}
 

@@ -1,4 +1,4 @@
-// The bytes of a state, written into a slice of 681. docs/STATE.md draws the layout.
+// The bytes of a state, written into a slice. docs/STATE.md draws the layout.
 ghost use mathlib.Core.Path.{_≡_};
 ghost use mathlib.Core.List.{map};
 ghost use Prim.Native.Nat.{_*_};
@@ -80,7 +80,7 @@ fn put_credentials(s: &mut [u8], l: [Grants; CREDENTIALS])
 
 // ---- the whole
 
-// The bytes of a state, in a slice of 681. A slice of another length stays.
+// The bytes of a state, in a slice of its length. One of another length stays.
 pub fn write(s: &mut [u8], st: State)
     ensures { λ r. ⌜ now (s .exit) ≡ stateWritten (now (s .entry)) st ⌝ }
 {

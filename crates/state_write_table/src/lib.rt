@@ -1,4 +1,4 @@
-// The table of a state, written into a slice of 681: all of it, or the next number of one place. docs/STATE.md draws the layout.
+// The table of a state, written into a slice: all of it, or the next number of one place. docs/STATE.md draws the layout.
 ghost use mathlib.Core.Path.{_≡_};
 ghost use mathlib.Core.List.{map, [], _∷_};
 ghost use Prim.Native.Nat.{_+_, _*_, _≤_};
@@ -9,10 +9,7 @@ ghost use Rattle.rows.specs.Rows.{over, Put};
 ghost use Rattle.names.specs.Names.{kindNumber};
 ghost use Rattle.table.specs.Table.{places};
 ghost use Rattle.state_layout.specs.Layout.{placeSize, countAt, countSize, placesAt, stateLength, processBytes, nextWritten};
-use names::ELEVATION_TYPE;
 use names::Kind;
-use names::SAVED_TYPE;
-use names::USER_TYPE;
 use state_layout::COUNT_AT;
 use state_layout::KIND_AT;
 use state_layout::NAME_AT;
@@ -32,11 +29,7 @@ use table::Table;
 fn kind_number(kind: Kind) -> u8
     ensures { λ r. ⌜ r ≡ kindNumber kind ⌝ }
 {
-    match kind {
-        Kind::User => USER_TYPE,
-        Kind::Elevation => ELEVATION_TYPE,
-        Kind::Saved => SAVED_TYPE,
-    }
+    names::type_number(names::type_of(kind))
 }
 
 fn put_process(part: &mut [u8], p: Process)
@@ -85,7 +78,7 @@ pub fn put_table(s: &mut [u8], t: Table)
     }
 }
 
-// The next number of a place, in a slice of 681, and nothing else. A slice of another length stays, and so does one where there is no such place.
+// The next number of a place, in a slice of a state's length, and nothing else. One of another length stays, and so does one where there is no such place.
 pub fn write_next(s: &mut [u8], at: usize, next: u16)
     ensures { λ r. ⌜ now (s .exit) ≡ nextWritten (now (s .entry)) at next ⌝ }
 {

@@ -16,8 +16,6 @@ use Rattle.table.proofs.is_among.Kinds as is-among-kinds
 use Rattle.table.proofs.is_among.Reads as is-among
 use Rattle.table.proofs.is_named.Kinds as is-named-kinds
 use Rattle.table.proofs.is_named.Reads as is-named
-use Rattle.table.proofs.found_place.Kinds as found-place-kinds
-use Rattle.table.proofs.found_place.Reads as found-place
 use Rattle.table.proofs.process_at.Kinds as process-at-kinds
 use Rattle.table.proofs.process_at.Reads as process-at
 
@@ -41,9 +39,6 @@ is-among-once κs a x y s t p q = p ∙ sym q
 
 pub is-named-once : OneAnswer 0 is-named-kinds.ps is-named-kinds.r is-named.Post
 is-named-once κs a x y s t p q = p ∙ sym q
-
-pub found-place-once : OneAnswer 0 found-place-kinds.ps found-place-kinds.r found-place.Post
-found-place-once κs a x y s t p q = p ∙ sym q
 
 pub process-at-once : OneAnswer 0 process-at-kinds.ps process-at-kinds.r process-at.Post
 process-at-once κs a x y s t p q = p ∙ sym q

@@ -1,7 +1,7 @@
 // A table of at most 12 processes, in the order of their starts. It goes in by value and comes back by value.
 ghost use mathlib.Core.Path.{_≡_};
 ghost use mathlib.Core.List.{[]};
-ghost use Rattle.table.specs.Table.{size, tableOf, freePlace, isActive, isActiveIn, isAmong, isNamed, foundPlace, processAt};
+ghost use Rattle.table.specs.Table.{size, tableOf, freePlace, isActive, isActiveIn, isAmong, isNamed, processAt};
 use names::Credential;
 use names::Kind;
 use names::NAME_LENGTH;
@@ -125,16 +125,6 @@ pub fn is_named(p: Process, name: Name, among: Among) -> bool
 {
     let own = p.name;
     is_among(p, among) && names::same(own, name)
-}
-
-// The place that a search found, or the count where it found none.
-pub fn found_place(found: Found, count: usize) -> usize
-    ensures { λ r. ⌜ r ≡ foundPlace count found ⌝ }
-{
-    match found {
-        Found::At(at) => at,
-        Found::Nothing => count,
-    }
 }
 
 // The process that stands at a place; what a free place holds, where none does.

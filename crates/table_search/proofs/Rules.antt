@@ -11,13 +11,14 @@ use borrow.Author.Tests.{lt-ltb, le-ltb}
 use lib.ListN.{length, getD, take}
 use Rattle.lists.specs.Lists.{firstIndex}
 use Rattle.lists.proofs.Lists.{length-mapped}
-use Rattle.lists.proofs.Loops.{Counted, counted-none, counted-more, counted-not, Passed, passed-none, passed-more, passed-hit, passed-all}
+use Rattle.lists.proofs.Loops.{Passed, passed-none, passed-more, passed-hit, passed-all}
 use Rattle.table.specs.declared.Among.{Among}
 use Rattle.table.specs.declared.Found.the-variants.{At, Nothing}
 use Rattle.table.specs.declared.Process.{Process}
 use Rattle.table.specs.declared.Table.{Table}
 use Rattle.table.specs.Table.{places, standing, size, isAmong, firstPlace, countAmong}
 use Rattle.table.proofs.Rules.{noProcess, front, small}
+use Rattle.table.proofs.Counting.{Counting, count-begin, count-on, count-not, count-all}
 
 -- ---- a search: it begins, goes on, stops at a hit, and ends with none
 pub record Searching (f : Process → Bool) (l : List Process) (n i : ℕ) : Type 0 where
@@ -45,26 +46,8 @@ module _ {f : Process → Bool} (t : Table) {n i : ℕ} (e : n ≡ size t) (v : 
   none h = rw (first-is (passed-all (v .passed) h), ← e, le-ltb n n (le-refl n))
 
 -- ---- those counted that are among some
-pub record Counting (f : Process → Bool) (l : List Process) (n k i : ℕ) : Type 0 where
-  pub small : n ≤ places
-  pub counted : Counted f l n k i
-
-pub count-begin : (f : Process → Bool) (t : Table) {n : ℕ} → n ≡ size t → length (t .places) ≡ places → Counting f (t .places) n 0 0
-count-begin f t {n} e h =
-    let k : n ≤ places = small t e h in
-    record { small = k; counted = counted-none f (t .places) n (omega arith) }
-
-module _ {f : Process → Bool} {l : List Process} {n k k′ i : ℕ} {b : Bool} (v : Counting f l n k i) (h : i < n) (e : b ≡ f (getD l i noProcess)) where
-  pub count-on : b ≡ true → k′ ≡ k + 1 → Counting f l n k′ (i + 1)
-  count-on q g = rw g (record { small = v .small; counted = counted-more noProcess (v .counted) h (sym e ∙ q) })
-
-  pub count-not : b ≡ false → k′ ≡ k → Counting f l n k′ (i + 1)
-  count-not q g = rw g (record { small = v .small; counted = counted-not noProcess (v .counted) h (sym e ∙ q) })
-
-pub count-all : (t : Table) (among : Among) {n k i : ℕ} → n ≡ size t → Counting (isAmong among) (t .places) n k i → n ≤ i → k ≡ countAmong t among
+pub among-all : (t : Table) (among : Among) {n k i : ℕ} → n ≡ size t → Counting (isAmong among) (t .places) n k i → n ≤ i → k ≡ countAmong t among
 unfolding countAmong
-count-all t among {n} {k} {i} e v h =
-    let q : i ≡ n = omega arith in
-    v .counted .is ∙ rw (q, front t e)
+among-all t among e v h = count-all (isAmong among) t e v h
 
-pub ruleset rules = (needs, length-mapped, begin, on, hit, none, count-begin, count-on, count-not, count-all)
+pub ruleset rules = (needs, length-mapped, begin, on, hit, none, count-begin, count-on, count-not, among-all)

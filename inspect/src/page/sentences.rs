@@ -355,7 +355,7 @@ mod tests {
     use super::*;
     use crate::antt;
 
-    const NUMBER: &str = "unfoldable pub number : State → Call → ℕ\nnumber st (Open s) =\n    No.argument unless isHandle s\n    ▸ x\n\
+    const NUMBER: &str = "unfoldable pub number : State → Call → ℕ\nnumber st (Open s) =\n    No.argument unless isSession s\n    ▸ x\n\
         number st (SetWord s claim c word) = 1\n";
 
     #[test]

@@ -3,8 +3,8 @@ use Rattle.calls_claim.proofs.Rules.{rules}
 use Rattle.calls_claim.proofs.claim_view.Statement.{statement}
 use Rattle.calls_claim.proofs.claim_view.Tie as tie
 
-claimed-requires : tie.Need-claimed-requires
-claimed-requires c κs = search rules
+sought-requires : tie.Need-sought-requires
+sought-requires c κs = search rules
 
 find-active-requires : tie.Need-find-active-requires
 find-active-requires c κs = search rules
@@ -28,7 +28,7 @@ pub claim-view-spec : {M : Type 1} → statement M
 claim-view-spec =
     tie.close
     (tie.spec
-    claimed-requires
+    sought-requires
     find-active-requires
     process-found-requires
     speaks-for-requires

@@ -2,6 +2,7 @@
 use Rattle.lists.proofs.Loops.{Mapped}
 use Rattle.calls.specs.Calls.{taken}
 use Prim.Native.Nat.{_-_}
+use Rattle.module_state.specs.Module.{credentialCount}
 use Rattle.calls.proofs.Rules.{rules}
 use Rattle.calls_effects.proofs.fresh.Statement.{statement}
 use Rattle.calls_effects.proofs.fresh.Tie as tie
@@ -10,7 +11,7 @@ abbrev Inv-loop : tie.InvT-loop
 Inv-loop credentials₀ i₀ credentials i = Mapped taken credentials₀ credentials i
 
 abbrev μ-loop : tie.MeasureT-loop
-μ-loop credentials₀ i₀ credentials i = 8 - i
+μ-loop credentials₀ i₀ credentials i = credentialCount - i
 
 loop-holds : tie.Need-loop-holds Inv-loop μ-loop
 loop-holds c = search rules
@@ -42,6 +43,9 @@ loop-again c = search rules
 empty-requires : tie.Need-empty-requires Inv-loop μ-loop
 empty-requires c κs = search rules
 
+closed-module-requires : tie.Need-closed-module-requires Inv-loop μ-loop
+closed-module-requires c κs = search rules
+
 returns : tie.Need-returns Inv-loop μ-loop
 returns c = search rules
 
@@ -61,4 +65,5 @@ fresh-spec =
     loop-less
     loop-again
     empty-requires
+    closed-module-requires
     returns)

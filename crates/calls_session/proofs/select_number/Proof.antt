@@ -4,8 +4,8 @@ use Rattle.calls.proofs.Rules.{rules}
 use Rattle.calls_session.proofs.select_number.Statement.{statement}
 use Rattle.calls_session.proofs.select_number.Tie as tie
 
-is-handle-requires : tie.Need-is-handle-requires
-is-handle-requires c κs = search rules
+is-session-requires : tie.Need-is-session-requires
+is-session-requires c κs = search rules
 
 returns : tie.Need-returns
 unfolding number
@@ -33,7 +33,7 @@ pub select-number-spec : {M : Type 1} → statement M
 select-number-spec =
     tie.close
     (tie.spec
-    is-handle-requires
+    is-session-requires
     returns
     is-closed-requires
     returns-2

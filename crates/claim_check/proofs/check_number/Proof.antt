@@ -4,8 +4,8 @@ use Rattle.claim_check.proofs.Rules.{rules}
 use Rattle.claim_check.proofs.check_number.Statement.{statement}
 use Rattle.claim_check.proofs.check_number.Tie as tie
 
-is-claim-requires : tie.Need-is-claim-requires
-is-claim-requires c κs = search rules
+is-in-range-requires : tie.Need-is-in-range-requires
+is-in-range-requires c κs = search rules
 
 refused-requires : tie.Need-refused-requires
 refused-requires c κs = search rules
@@ -35,7 +35,7 @@ pub check-number-spec : {M : Type 1} → statement M
 check-number-spec =
     tie.close
     (tie.spec
-    is-claim-requires
+    is-in-range-requires
     refused-requires
     returns
     phase-number-requires

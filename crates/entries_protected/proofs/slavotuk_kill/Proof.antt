@@ -6,8 +6,8 @@ use Rattle.entries_protected.proofs.slavotuk_kill.Tie as tie
 read-name-requires : tie.Need-read-name-requires
 read-name-requires c κs = search rules
 
-is-claimed-requires : tie.Need-is-claimed-requires
-is-claimed-requires c κs = search rules
+are-claim-flags-requires : tie.Need-are-claim-flags-requires
+are-claim-flags-requires c κs = search rules
 
 both-requires : tie.Need-both-requires
 both-requires c κs = search rules
@@ -50,7 +50,7 @@ slavotuk-kill-spec =
     tie.close
     (tie.spec
     read-name-requires
-    is-claimed-requires
+    are-claim-flags-requires
     both-requires
     is-ready-requires
     cast-result

@@ -3,8 +3,8 @@ use Rattle.entries_protected.proofs.Rules.{rules}
 use Rattle.entries_protected.proofs.slavotuk_record.Statement.{statement}
 use Rattle.entries_protected.proofs.slavotuk_record.Tie as tie
 
-is-claimed-requires : tie.Need-is-claimed-requires
-is-claimed-requires c κs = search rules
+are-claim-flags-requires : tie.Need-are-claim-flags-requires
+are-claim-flags-requires c κs = search rules
 
 cast-result : tie.Need-cast-result
 cast-result c = search rules
@@ -37,7 +37,7 @@ pub slavotuk-record-spec : {M : Type 1} → statement M
 slavotuk-record-spec =
     tie.close
     (tie.spec
-    is-claimed-requires
+    are-claim-flags-requires
     cast-result
     returns
     session-of-requires

@@ -3,8 +3,8 @@ use Rattle.entries_protected.proofs.Rules.{rules}
 use Rattle.entries_protected.proofs.slavotuk_set_word.Statement.{statement}
 use Rattle.entries_protected.proofs.slavotuk_set_word.Tie as tie
 
-is-claimed-requires : tie.Need-is-claimed-requires
-is-claimed-requires c κs = search rules
+are-claim-flags-requires : tie.Need-are-claim-flags-requires
+are-claim-flags-requires c κs = search rules
 
 is-ready-requires : tie.Need-is-ready-requires
 is-ready-requires c κs = search rules
@@ -46,7 +46,7 @@ pub slavotuk-set-word-spec : {M : Type 1} → statement M
 slavotuk-set-word-spec =
     tie.close
     (tie.spec
-    is-claimed-requires
+    are-claim-flags-requires
     is-ready-requires
     cast-result
     same-length

@@ -2,6 +2,7 @@
 use Rattle.lists.proofs.Loops.{Copied}
 use Rattle.entries_arguments.specs.Arguments.{pairsOf}
 use Prim.Native.Nat.{_-_}
+use Rattle.module_state.specs.Module.{credentialCount}
 use Rattle.entries_unprotected.proofs.Rules.{rules}
 use Rattle.entries_unprotected.proofs.pairs_of.Statement.{statement}
 use Rattle.entries_unprotected.proofs.pairs_of.Tie as tie
@@ -10,7 +11,7 @@ abbrev Inv-loop : tie.InvT-loop
 Inv-loop provisioned words pairs₀ i₀ pairs i = Copied (pairsOf provisioned words) pairs₀ pairs i
 
 abbrev μ-loop : tie.MeasureT-loop
-μ-loop provisioned words pairs₀ i₀ pairs i = 8 - i
+μ-loop provisioned words pairs₀ i₀ pairs i = credentialCount - i
 
 loop-holds : tie.Need-loop-holds Inv-loop μ-loop
 loop-holds c = search rules

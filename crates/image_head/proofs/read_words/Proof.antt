@@ -2,8 +2,8 @@
 use Prim.Native.Nat.{_-_}
 use Rattle.rows.specs.Bytes.{numberOf}
 use Rattle.rows.proofs.Loops.{FilledBy}
-use Rattle.module_state.specs.Module.{credentialCount}
-use Rattle.image.specs.Image.{wordsAt, wordSize}
+use Rattle.module_state.specs.Module.{credentialCount, wordSize}
+use Rattle.image.specs.Image.{wordsAt}
 use Rattle.image_head.proofs.Rules.{rules}
 use Rattle.image_head.proofs.read_words.Statement.{statement}
 use Rattle.image_head.proofs.read_words.Tie as tie

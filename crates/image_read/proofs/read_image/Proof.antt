@@ -9,8 +9,8 @@ test-image-requires c κs = search rules
 empty-requires : tie.Need-empty-requires
 empty-requires c κs = search rules
 
-module-of-requires : tie.Need-module-of-requires
-module-of-requires c κs = search rules
+closed-module-requires : tie.Need-closed-module-requires
+closed-module-requires c κs = search rules
 
 returns : tie.Need-returns
 returns c = search rules
@@ -18,8 +18,8 @@ returns c = search rules
 read-saved-requires : tie.Need-read-saved-requires
 read-saved-requires c κs = search rules
 
-module-of-requires-2 : tie.Need-module-of-requires-2
-module-of-requires-2 c κs = search rules
+closed-module-requires-2 : tie.Need-closed-module-requires-2
+closed-module-requires-2 c κs = search rules
 
 returns-2 : tie.Need-returns-2
 returns-2 c = search rules
@@ -30,8 +30,8 @@ read-image-spec =
     (tie.spec
     test-image-requires
     empty-requires
-    module-of-requires
+    closed-module-requires
     returns
     read-saved-requires
-    module-of-requires-2
+    closed-module-requires-2
     returns-2)

@@ -1,12 +1,14 @@
 -- written by tools/scaffold, which keeps the answers that are not a plain search
 use Prim.Native.Nat.{_-_}
 use mathlib.Core.Logic.{⊎-elim}
-use Rattle.image_write.proofs.Rules.{Counting, rules}
+use Rattle.table.proofs.Counting.{Counting}
+use Rattle.image.specs.Image.{isSavedOne}
+use Rattle.image_write.proofs.Rules.{rules}
 use Rattle.image_write.proofs.count_saved.Statement.{statement}
 use Rattle.image_write.proofs.count_saved.Tie as tie
 
 abbrev Inv-loop : tie.InvT-loop
-Inv-loop n places saved₀ i₀ saved i = Counting places n saved i
+Inv-loop n places saved₀ i₀ saved i = Counting isSavedOne places n saved i
 
 abbrev μ-loop : tie.MeasureT-loop
 μ-loop n places saved₀ i₀ saved i = n - i

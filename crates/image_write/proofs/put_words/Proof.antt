@@ -1,6 +1,7 @@
 -- written by tools/scaffold, which keeps the answers that are not a plain search
 use Rattle.image_write.proofs.Rows.{Worded}
 use Prim.Native.Nat.{_-_}
+use Rattle.module_state.specs.Module.{credentialCount}
 use Rattle.image_write.proofs.Rules.{rules}
 use Rattle.image_write.proofs.put_words.Statement.{statement}
 use Rattle.image_write.proofs.put_words.Tie as tie
@@ -9,7 +10,7 @@ abbrev Inv-loop : tie.InvT-loop
 Inv-loop buffer₀ l i₀ buffer i = Worded l buffer₀ buffer i
 
 abbrev μ-loop : tie.MeasureT-loop
-μ-loop buffer₀ l i₀ buffer i = 8 - i
+μ-loop buffer₀ l i₀ buffer i = credentialCount - i
 
 loop-holds : tie.Need-loop-holds Inv-loop μ-loop
 loop-holds c = search rules

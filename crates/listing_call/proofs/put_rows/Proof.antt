@@ -23,8 +23,8 @@ mul-p c = search rules
 array-copy-out-p : tie.Need-array-copy-out-p Inv-loop μ-loop
 array-copy-out-p c = search rules
 
-is-wanted-requires : tie.Need-is-wanted-requires Inv-loop μ-loop
-is-wanted-requires c κs = search rules
+is-listed-requires : tie.Need-is-listed-requires Inv-loop μ-loop
+is-listed-requires c κs = search rules
 
 mul-start : tie.Need-mul-start Inv-loop μ-loop
 mul-start c = search rules
@@ -78,7 +78,7 @@ put-rows-spec =
     loop-holds
     mul-p
     array-copy-out-p
-    is-wanted-requires
+    is-listed-requires
     mul-start
     add-start
     add-end

@@ -1,13 +1,14 @@
 -- written by tools/scaffold, which keeps the answers that are not a plain search
 use Prim.Native.Nat.{_-_}
 use Rattle.rows.proofs.Loops.{RowsTo}
-use Rattle.names.specs.Names.{isRow}
+use Rattle.names.specs.Names.{rowLength, isRow}
+use Rattle.calls.specs.Listing.{headLength}
 use Rattle.listing_messages.proofs.Rules.{rules}
 use Rattle.listing_messages.proofs.are_rows.Statement.{statement}
 use Rattle.listing_messages.proofs.are_rows.Tie as tie
 
 abbrev Inv-loop : tie.InvT-loop
-Inv-loop message count n at₀ at = RowsTo isRow count 51 4 message at
+Inv-loop message count n at₀ at = RowsTo isRow count rowLength headLength message at
 
 abbrev μ-loop : tie.MeasureT-loop
 μ-loop message count n at₀ at = count - at

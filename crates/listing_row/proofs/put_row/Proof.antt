@@ -2,11 +2,6 @@
 use Rattle.listing_row.proofs.Rules.{rules}
 use Rattle.listing_row.proofs.put_row.Statement.{statement}
 use Rattle.listing_row.proofs.put_row.Tie as tie
-use Rattle.listing_row.proofs.put_row.Reads as reads
-use Rattle.listing_row.proofs.put_row.Lts as lts
-use Rattle.names.proofs.put_name.Reads as put-name-reads
-use Rattle.listing_row.proofs.type_number.Reads as type-number-reads
-use Rattle.rows.proofs.put_number16.Reads as put-number16-reads
 
 put-number16-requires : tie.Need-put-number16-requires
 put-number16-requires c κs = search rules

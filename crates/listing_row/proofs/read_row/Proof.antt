@@ -1,17 +1,8 @@
 -- written by tools/scaffold, which keeps the answers that are not a plain search
-use Prim.Native.Nat.{ℕ, _+_, _-_, _*_, _≤_, _<_}
-use mathlib.Core.Path.{_≡_, refl, sym, ap, _∙_}
-use mathlib.Core.Logic.{⊎-elim}
-use native.Mathlib.Omega.{arith}
+use Prim.Native.Nat.{_-_}
 use Rattle.listing_row.proofs.Rules.{rules}
 use Rattle.listing_row.proofs.read_row.Statement.{statement}
 use Rattle.listing_row.proofs.read_row.Tie as tie
-use Rattle.listing_row.proofs.read_row.Reads as reads
-use Rattle.listing_row.proofs.read_row.Lts as lts
-use Rattle.listing_row.proofs.is_row.Reads as is-row-reads
-use Rattle.listing_row.proofs.no_row.Reads as no-row-reads
-use Rattle.names.proofs.read_name.Reads as read-name-reads
-use Rattle.rows.proofs.number16.Reads as number16-reads
 
 is-row-requires : tie.Need-is-row-requires
 is-row-requires c κs = search rules

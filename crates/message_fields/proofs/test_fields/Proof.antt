@@ -3,11 +3,6 @@ use Prim.Native.Nat.{_-_}
 use Rattle.message_fields.proofs.Rules.{rules, Tested}
 use Rattle.message_fields.proofs.test_fields.Statement.{statement}
 use Rattle.message_fields.proofs.test_fields.Tie as tie
-use Rattle.message_fields.proofs.test_fields.Reads as reads
-use Rattle.message_fields.proofs.test_fields.Lts as lts
-use Rattle.message_places.proofs.field_of.Reads as field-of-reads
-use Rattle.message_fields.proofs.is_allowed.Reads as is-allowed-reads
-use Rattle.message_formats.proofs.form_of.Reads as form-of-reads
 
 abbrev Inv-loop : tie.InvT-loop
 Inv-loop shape values allowed₀ long₀ tested₀ allowed long tested = Tested shape values allowed long tested

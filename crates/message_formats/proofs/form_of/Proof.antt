@@ -3,10 +3,6 @@ use Rattle.message_formats.proofs.Rules.{rules}
 use Rattle.message_formats.specs.Formats.{formOf}
 use Rattle.message_formats.proofs.form_of.Statement.{statement}
 use Rattle.message_formats.proofs.form_of.Tie as tie
-use Rattle.message_formats.proofs.form_of.Reads as reads
-use Rattle.message_formats.proofs.form_of.Lts as lts
-use Rattle.message_formats.proofs.between.Reads as between-reads
-use Rattle.message_formats.proofs.flags.Reads as flags-reads
 
 enum-told : tie.Need-enum-told
 enum-told c = search rules

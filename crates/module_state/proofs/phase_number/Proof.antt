@@ -3,8 +3,8 @@ use Rattle.module_state.proofs.Rules.{rules}
 use Rattle.module_state.proofs.phase_number.Statement.{statement}
 use Rattle.module_state.proofs.phase_number.Tie as tie
 
-is-handle-requires : tie.Need-is-handle-requires
-is-handle-requires c κs = search rules
+is-session-requires : tie.Need-is-session-requires
+is-session-requires c κs = search rules
 
 returns : tie.Need-returns
 returns c = search rules
@@ -31,7 +31,7 @@ pub phase-number-spec : {M : Type 1} → statement M
 phase-number-spec =
     tie.close
     (tie.spec
-    is-handle-requires
+    is-session-requires
     returns
     enum-told
     enum-told-2

@@ -9,8 +9,8 @@ nothing-told-requires c κs = search rules
 returns : tie.Need-returns
 returns c = search rules
 
-claimed-requires : tie.Need-claimed-requires
-claimed-requires c κs = search rules
+sought-requires : tie.Need-sought-requires
+sought-requires c κs = search rules
 
 find-active-requires : tie.Need-find-active-requires
 find-active-requires c κs = search rules
@@ -39,7 +39,7 @@ claim-view-spec =
     (tie.spec
     nothing-told-requires
     returns
-    claimed-requires
+    sought-requires
     find-active-requires
     next-found-requires
     owner-found-requires

@@ -9,6 +9,9 @@ mul-a c = search rules
 add-a : tie.Need-add-a
 add-a c = search rules
 
+add-wide16 : tie.Need-add-wide16
+add-wide16 c = search rules
+
 shared-slice-read-wide16 : tie.Need-shared-slice-read-wide16
 shared-slice-read-wide16 c = search rules
 
@@ -20,4 +23,4 @@ returns c = search rules
 
 pub credential-at-spec : {M : Type 1} → statement M
 credential-at-spec =
-    tie.close (tie.spec mul-a add-a shared-slice-read-wide16 wide16-requires returns)
+    tie.close (tie.spec mul-a add-a add-wide16 shared-slice-read-wide16 wide16-requires returns)

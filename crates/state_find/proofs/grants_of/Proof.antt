@@ -15,14 +15,20 @@ mul-a c = search rules
 add-a : tie.Need-add-a
 add-a c = search rules
 
-shared-slice-read-t8 : tie.Need-shared-slice-read-t8
-shared-slice-read-t8 c = search rules
+add-e : tie.Need-add-e
+add-e c = search rules
 
-add-number32 : tie.Need-add-number32
-add-number32 c = search rules
+sub-grants-from : tie.Need-sub-grants-from
+sub-grants-from c = search rules
 
-number32-requires : tie.Need-number32-requires
-number32-requires c κs = search rules
+part-grants-from-start : tie.Need-part-grants-from-start
+part-grants-from-start c = search rules
+
+part-grants-from-end : tie.Need-part-grants-from-end
+part-grants-from-end c = search rules
+
+grants-from-requires : tie.Need-grants-from-requires
+grants-from-requires c κs = search rules
 
 returns-2 : tie.Need-returns-2
 returns-2 c = search rules
@@ -35,7 +41,9 @@ grants-of-spec =
     returns
     mul-a
     add-a
-    shared-slice-read-t8
-    add-number32
-    number32-requires
+    add-e
+    sub-grants-from
+    part-grants-from-start
+    part-grants-from-end
+    grants-from-requires
     returns-2)

@@ -6,15 +6,11 @@ use Rattle.state_read.proofs.nothing_held.Tie as tie
 empty-requires : tie.Need-empty-requires
 empty-requires c κs = search rules
 
-closed-session-requires : tie.Need-closed-session-requires
-closed-session-requires c κs = search rules
-
-unprovisioned-requires : tie.Need-unprovisioned-requires
-unprovisioned-requires c κs = search rules
+closed-module-requires : tie.Need-closed-module-requires
+closed-module-requires c κs = search rules
 
 returns : tie.Need-returns
 returns c = search rules
 
 pub nothing-held-spec : {M : Type 1} → statement M
-nothing-held-spec =
-    tie.close (tie.spec empty-requires closed-session-requires unprovisioned-requires returns)
+nothing-held-spec = tie.close (tie.spec empty-requires closed-module-requires returns)

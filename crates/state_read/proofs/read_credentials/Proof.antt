@@ -11,10 +11,7 @@ abbrev Inv-loop : tie.InvT-loop
 Inv-loop s out₀ i₀ out i = FilledBy grantsFrom credentialCount credentialSize credentialsAt s out₀ out i
 
 abbrev μ-loop : tie.MeasureT-loop
-μ-loop s out₀ i₀ out i = 8 - i
-
-unprovisioned-requires : tie.Need-unprovisioned-requires Inv-loop μ-loop
-unprovisioned-requires c κs = search rules
+μ-loop s out₀ i₀ out i = credentialCount - i
 
 loop-holds : tie.Need-loop-holds Inv-loop μ-loop
 loop-holds c = search rules
@@ -28,17 +25,17 @@ add-a c = search rules
 add-e : tie.Need-add-e Inv-loop μ-loop
 add-e c = search rules
 
-sub-grants-of : tie.Need-sub-grants-of Inv-loop μ-loop
-sub-grants-of c = search rules
+sub-grants-from : tie.Need-sub-grants-from Inv-loop μ-loop
+sub-grants-from c = search rules
 
-part-grants-of-start : tie.Need-part-grants-of-start Inv-loop μ-loop
-part-grants-of-start c = search rules
+part-grants-from-start : tie.Need-part-grants-from-start Inv-loop μ-loop
+part-grants-from-start c = search rules
 
-part-grants-of-end : tie.Need-part-grants-of-end Inv-loop μ-loop
-part-grants-of-end c = search rules
+part-grants-from-end : tie.Need-part-grants-from-end Inv-loop μ-loop
+part-grants-from-end c = search rules
 
-grants-of-requires : tie.Need-grants-of-requires Inv-loop μ-loop
-grants-of-requires c κs = search rules
+grants-from-requires : tie.Need-grants-from-requires Inv-loop μ-loop
+grants-from-requires c κs = search rules
 
 mul-out : tie.Need-mul-out Inv-loop μ-loop
 mul-out c = search rules
@@ -64,15 +61,14 @@ read-credentials-spec =
     (tie.spec
     Inv-loop
     μ-loop
-    unprovisioned-requires
     loop-holds
     mul-a
     add-a
     add-e
-    sub-grants-of
-    part-grants-of-start
-    part-grants-of-end
-    grants-of-requires
+    sub-grants-from
+    part-grants-from-start
+    part-grants-from-end
+    grants-from-requires
     mul-out
     array-set-from-out
     add-i

@@ -11,7 +11,7 @@ abbrev Inv-loop : tie.InvT-loop
 Inv-loop s out₀ i₀ out i = FilledBy sessionFrom sessionCount sessionSize sessionsAt s out₀ out i
 
 abbrev μ-loop : tie.MeasureT-loop
-μ-loop s out₀ i₀ out i = 4 - i
+μ-loop s out₀ i₀ out i = sessionCount - i
 
 closed-session-requires : tie.Need-closed-session-requires Inv-loop μ-loop
 closed-session-requires c κs = search rules

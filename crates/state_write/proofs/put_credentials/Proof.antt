@@ -2,6 +2,7 @@
 use Rattle.state_layout.specs.Layout.{credentialSize, credentialsAt, grantsBytes}
 use Rattle.rows.proofs.Loops.{Wrote}
 use Prim.Native.Nat.{_-_}
+use Rattle.module_state.specs.Module.{credentialCount}
 use Rattle.state_write.proofs.Rules.{rules}
 use Rattle.state_write.proofs.put_credentials.Statement.{statement}
 use Rattle.state_write.proofs.put_credentials.Tie as tie
@@ -10,7 +11,7 @@ abbrev Inv-loop : tie.InvT-loop
 Inv-loop s₀ l i₀ s i = Wrote grantsBytes credentialSize credentialsAt l s₀ s i
 
 abbrev μ-loop : tie.MeasureT-loop
-μ-loop s₀ l i₀ s i = 8 - i
+μ-loop s₀ l i₀ s i = credentialCount - i
 
 loop-holds : tie.Need-loop-holds Inv-loop μ-loop
 loop-holds c = search rules

@@ -1,5 +1,5 @@
 -- written by tools/scaffold, which keeps the answers that are not a plain search
-use Rattle.table_search.proofs.Rules.{Counting}
+use Rattle.table.proofs.Counting.{Counting}
 use Rattle.table.specs.Table.{isAmong}
 use Prim.Native.Nat.{_-_}
 use mathlib.Core.Logic.{⊎-elim}

@@ -1,7 +1,7 @@
 -- written by tools/scaffold, which keeps the answers that are not a plain search
 use Rattle.claim_check.proofs.Rules.{rules}
-use Rattle.claim_check.proofs.claimed.Statement.{statement}
-use Rattle.claim_check.proofs.claimed.Tie as tie
+use Rattle.claim_check.proofs.sought.Statement.{statement}
+use Rattle.claim_check.proofs.sought.Tie as tie
 
 enum-told : tie.Need-enum-told
 enum-told c = search rules
@@ -15,5 +15,5 @@ returns c = search rules
 returns-2 : tie.Need-returns-2
 returns-2 c = search rules
 
-pub claimed-spec : {M : Type 1} → statement M
-claimed-spec = tie.close (tie.spec enum-told enum-known-claim returns returns-2)
+pub sought-spec : {M : Type 1} → statement M
+sought-spec = tie.close (tie.spec enum-told enum-known-claim returns returns-2)

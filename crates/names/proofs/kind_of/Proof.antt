@@ -1,7 +1,7 @@
 -- written by tools/scaffold, which keeps the answers that are not a plain search
-use Rattle.listing_row.proofs.Rules.{rules}
-use Rattle.listing_row.proofs.type_of.Statement.{statement}
-use Rattle.listing_row.proofs.type_of.Tie as tie
+use Rattle.names.proofs.Rules.{rules}
+use Rattle.names.proofs.kind_of.Statement.{statement}
+use Rattle.names.proofs.kind_of.Tie as tie
 
 enum-told : tie.Need-enum-told
 enum-told c = search rules
@@ -21,5 +21,5 @@ returns-2 c = search rules
 returns-3 : tie.Need-returns-3
 returns-3 c = search rules
 
-pub type-of-spec : {M : Type 1} → statement M
-type-of-spec = tie.close (tie.spec enum-told enum-told-2 enum-told-3 returns returns-2 returns-3)
+pub kind-of-spec : {M : Type 1} → statement M
+kind-of-spec = tie.close (tie.spec enum-told enum-told-2 enum-told-3 returns returns-2 returns-3)

@@ -1,7 +1,7 @@
 -- written by tools/scaffold, which keeps the answers that are not a plain search
 use Rattle.listing_call.proofs.Rules.{rules}
-use Rattle.listing_call.proofs.is_wanted.Statement.{statement}
-use Rattle.listing_call.proofs.is_wanted.Tie as tie
+use Rattle.listing_call.proofs.is_listed.Statement.{statement}
+use Rattle.listing_call.proofs.is_listed.Tie as tie
 
 among-of-requires : tie.Need-among-of-requires
 among-of-requires c κs = search rules
@@ -12,5 +12,5 @@ is-among-requires c κs = search rules
 returns : tie.Need-returns
 returns c = search rules
 
-pub is-wanted-spec : {M : Type 1} → statement M
-is-wanted-spec = tie.close (tie.spec among-of-requires is-among-requires returns)
+pub is-listed-spec : {M : Type 1} → statement M
+is-listed-spec = tie.close (tie.spec among-of-requires is-among-requires returns)

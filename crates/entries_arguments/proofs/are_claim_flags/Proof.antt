@@ -1,7 +1,7 @@
 -- written by tools/scaffold, which keeps the answers that are not a plain search
 use Rattle.entries_arguments.proofs.Rules.{rules}
-use Rattle.entries_arguments.proofs.is_claimed.Statement.{statement}
-use Rattle.entries_arguments.proofs.is_claimed.Tie as tie
+use Rattle.entries_arguments.proofs.are_claim_flags.Statement.{statement}
+use Rattle.entries_arguments.proofs.are_claim_flags.Tie as tie
 
 returns : tie.Need-returns
 returns c = search rules
@@ -15,5 +15,5 @@ returns-2 c = search rules
 returns-3 : tie.Need-returns-3
 returns-3 c = search rules
 
-pub is-claimed-spec : {M : Type 1} → statement M
-is-claimed-spec = tie.close (tie.spec returns is-flag-requires returns-2 returns-3)
+pub are-claim-flags-spec : {M : Type 1} → statement M
+are-claim-flags-spec = tie.close (tie.spec returns is-flag-requires returns-2 returns-3)

@@ -1,7 +1,7 @@
 -- written by tools/scaffold, which keeps the answers that are not a plain search
 use Rattle.claim_check.proofs.Rules.{rules}
-use Rattle.claim_check.proofs.is_claim.Statement.{statement}
-use Rattle.claim_check.proofs.is_claim.Tie as tie
+use Rattle.claim_check.proofs.is_in_range.Statement.{statement}
+use Rattle.claim_check.proofs.is_in_range.Tie as tie
 
 enum-told : tie.Need-enum-told
 enum-told c = search rules
@@ -18,6 +18,6 @@ returns c = search rules
 returns-2 : tie.Need-returns-2
 returns-2 c = search rules
 
-pub is-claim-spec : {M : Type 1} → statement M
-is-claim-spec =
+pub is-in-range-spec : {M : Type 1} → statement M
+is-in-range-spec =
     tie.close (tie.spec enum-told enum-known-claim is-credential-requires returns returns-2)
