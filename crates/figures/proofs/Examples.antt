@@ -4,13 +4,9 @@ use Prim.Native.Nat.{ℕ}
 use mathlib.Core.Path.{_≡_, refl}
 use mathlib.Core.List.{List, [], _∷_, _++_, map}
 use lib.ListN.{replicate, take}
-use Rattle.lists.specs.Lists.{select, padded}
-use Rattle.rows.specs.Bytes.{numberOf, numberAt}
-use Rattle.rows.specs.Rows.{rows, every, pairwise}
-use Rattle.names.specs.Names.{sameBytes, sameName}
-use Rattle.table.specs.Table.{tableOf}
+use Rattle.rows.specs.Rows.{rows}
 use Rattle.module_state.specs.Module.{provisioned, wordGrants}
-use Rattle.image.specs.Image.{isRowOffset, imageLong, numbersIn, headIn, grantsSaid, grantsIn, savedFrom, savedIn, imageIn, isOwner, isKeepable, differ, headFits, wordFits, imageFits, isImage}
+use Rattle.image.proofs.Examples.{computed as image-computed}
 use Rattle.image_figures.specs.Figures.{sum, largest, classesBelow, classesHeld, classesGranted, largestNext, figuresIn, isSaid, sizeSaid, isGood, lineOf}
 use Rattle.image_figures.specs.declared.Line.the-variants.{Bad, Good}
 use Rattle.figures.specs.Drawer.{firstSheet, afterSheet, firstSheets, linesOf, goodOnes, totalsOf, isPast, printedOf}
@@ -60,7 +56,7 @@ pub record Drawers : Type 0 where
   pub cut-reaches : printedOf (0 ∷ 1 ∷ (take 41 plain ++ (42 ∷ 0 ∷ plain))) ≡ bad ∷ total 1 0 0 0 ∷ []
 
 pub drawers : Drawers
-unfolding textOf lineText threeText numberThen numberText digitsUpTo printedOf firstSheets firstSheet afterSheet linesOf goodOnes totalsOf isPast sum largest classesBelow classesHeld classesGranted largestNext figuresIn isSaid sizeSaid isGood lineOf provisioned wordGrants tableOf padded select every pairwise rows numberOf numberAt sameBytes sameName isRowOffset imageLong numbersIn headIn grantsSaid grantsIn savedFrom savedIn imageIn isOwner isKeepable differ headFits wordFits imageFits isImage
+unfolding textOf lineText threeText numberThen numberText digitsUpTo printedOf firstSheets firstSheet afterSheet linesOf goodOnes totalsOf isPast sum largest classesBelow classesHeld classesGranted largestNext figuresIn isSaid sizeSaid isGood lineOf provisioned wordGrants image-computed
 drawers =
     record {
       one-image = refl;

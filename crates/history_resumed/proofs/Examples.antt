@@ -5,8 +5,6 @@ use mathlib.Core.Path.{_≡_, refl}
 use mathlib.Core.Bool.{Bool, true, false, cond}
 use mathlib.Core.List.{List, [], _∷_, _++_, map}
 use lib.ListN.{replicate}
-use Rattle.rows.specs.Bytes.{numberOf, numberAt}
-use Rattle.rows.specs.Rows.{rows, every, pairwise}
 use Rattle.table.specs.Table.{standing}
 use Rattle.module_state.specs.declared.Claim.the-variants.{Elevated}
 use Rattle.module_state.specs.declared.Grants.{Grants}
@@ -18,13 +16,14 @@ use Rattle.history.specs.Lives.{Life, Gone, Live, SavedBy, count, Event, told}
 use Rattle.history.specs.History.{history}
 use Rattle.history.specs.Since.{toldSince, isNew}
 use Rattle.history.proofs.Examples.{lives}
-use Rattle.image.specs.Image.{isRowOffset, imageLong, numbersBytes, numbersIn, maskOf, wordIn, savedBytes, imageBytes, headIn, grantsSaid, grantsIn, savedFrom, savedIn, imageIn, isOwner, isKeepable, differ, headFits, wordFits, imageFits, isImage, savedProcess, restored, savedRow, savedOf, imageOf, stateImage}
+use Rattle.image.proofs.Examples.{computed as image-computed}
+use Rattle.image.specs.Image.{isImage, restored, stateImage}
 use Rattle.history_resumed.specs.Resumed.{toldBy}
 use Rattle.history_resumed.specs.Changes.{hasSaved, touchesImage, changesImage, newest}
 
 -- all that the examples compute with
 unfoldable pub opened : Type 1
-unfolding lives isNew numberOf numberAt rows every pairwise isRowOffset imageLong numbersBytes numbersIn maskOf wordIn savedBytes imageBytes headIn grantsSaid grantsIn savedFrom savedIn imageIn isOwner isKeepable differ headFits wordFits imageFits isImage savedProcess restored savedRow savedOf imageOf stateImage
+unfolding lives isNew image-computed
 opened = Type 0
 
 -- credential 0 has the classes 0 to 4, no other is provisioned; P is saved, with next number 3

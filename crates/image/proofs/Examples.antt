@@ -1,6 +1,6 @@
 -- An image, worked by hand; which changes of it are no image, and what is one though it looks strange.
 -- Assumes nothing.
-use Prim.Native.Nat.{ℕ, zero, suc}
+use Prim.Native.Nat.{ℕ, zero, suc, _+_, _-_, _*_}
 use mathlib.Core.Path.{_≡_, refl}
 use mathlib.Core.Bool.{Bool, true, false}
 use mathlib.Core.List.{List, [], _∷_, _++_}
@@ -8,17 +8,22 @@ use lib.ListN.{length, replicate, set, take, drop}
 use Rattle.lists.specs.Lists.{join, padded, select}
 use Rattle.rows.specs.Bytes.{bytesOf, numberOf, numberAt}
 use Rattle.rows.specs.Rows.{rows, every, pairwise}
-use Rattle.names.specs.Names.{sameBytes, sameName}
+use Rattle.names.specs.Names.{nameLength, sameBytes, sameName}
 use Rattle.names.specs.declared.Kind.{Kind}
 use Rattle.names.specs.declared.Kind.the-variants.{User, Saved}
 use Rattle.table.specs.Table.{standing, tableOf}
 use Rattle.table.specs.declared.Process.{Process}
-use Rattle.module_state.specs.Module.{lastSession, closedModule, closedSession, unprovisioned}
+use Rattle.module_state.specs.Module.{lastSession, closedModule, closedSession, unprovisioned, wordSize}
 use Rattle.module_state.specs.declared.Grants.{Grants}
 use Rattle.module_state.specs.declared.Phase.the-variants.{Chosen}
 use Rattle.module_state.specs.declared.State.{State}
 use Rattle.image.specs.declared.SavedRow.{SavedRow}
-use Rattle.image.specs.Image.{savedAt, isRowOffset, imageLong, numbersBytes, numbersIn, maskOf, wordIn, savedBytes, imageBytes, headIn, grantsSaid, grantsIn, savedFrom, savedIn, imageIn, isOwner, isKeepable, differ, keep, headFits, wordFits, imageFits, isImage, savedProcess, restored, savedRow, savedOf, imageOf, stateImage, cycled}
+use Rattle.image.specs.Image.{maskAt, wordCountAt, wordOffsetAt, rowCountAt, rowOffsetAt, wordsAt, savedAt, savedOwnerAt, savedNextAt, savedNameAt, savedSize, isRowOffset, imageLong, numbersBytes, numbersIn, maskOf, wordIn, savedBytes, imageBytes, headIn, grantsSaid, grantsIn, savedFrom, savedIn, imageIn, isOwner, isKeepable, differ, keep, headFits, wordFits, imageFits, isImage, savedProcess, restored, savedRow, savedOf, imageOf, stateImage, cycled}
+
+-- all that an example computes with: who says `unfolding computed` has it open
+unfoldable pub computed : Type 1
+unfolding join padded select bytesOf numberOf numberAt rows every pairwise sameBytes sameName standing tableOf isRowOffset imageLong numbersBytes numbersIn maskOf wordIn savedBytes imageBytes headIn grantsSaid grantsIn savedFrom savedIn imageIn isOwner isKeepable differ headFits wordFits imageFits isImage savedProcess restored savedRow savedOf imageOf stateImage cycled
+computed = Type 0
 
 -- document 01: "P is 16 zero bytes then 32 of 0x11; Q is 16 zero bytes then 32 of 0x22; R is P with its last byte 0x12."
 abbrev P : List ℕ
@@ -70,8 +75,15 @@ pub record Drawn : Type 0 where
   pub again : stateImage made ≡ bytes
 
 pub drawn-is : Drawn
-unfolding join padded select bytesOf numberOf numberAt rows every pairwise sameBytes sameName standing tableOf isRowOffset imageLong numbersBytes numbersIn maskOf wordIn savedBytes imageBytes headIn grantsSaid grantsIn savedFrom savedIn imageIn isOwner isKeepable differ headFits wordFits imageFits isImage savedProcess restored savedRow savedOf imageOf stateImage cycled
+unfolding computed
 drawn-is = record { written = refl; long = refl; accepted = refl; read = refl; after = refl; again = refl }
+
+-- where a credential's word and a row begin
+abbrev word : ℕ → ℕ
+word c = wordsAt + c * wordSize
+
+abbrev rowAt : ℕ → ℕ
+rowAt i = savedAt + i * savedSize
 
 -- a byte changed: the place, and what it holds then
 abbrev changed : ℕ → ℕ → Bool
@@ -79,7 +91,7 @@ changed at byte = isImage (set bytes at byte)
 
 -- an image without rows
 abbrev empty : List ℕ
-empty = set (take 42 bytes) 6 0
+empty = set (take savedAt bytes) rowCountAt 0
 
 -- and the bytes of n rows of different names
 abbrev row : ℕ → ℕ → List ℕ → SavedRow
@@ -95,63 +107,63 @@ of l = imageBytes (record { offset = savedAt; grants = two; saved = l })
 pub record Refused : Type 0 where
   -- "Its length is 42 + 52n": a byte too many, one too few; a row too many, one too few
   pub long : isImage (bytes ++ (0 ∷ [])) ≡ false
-  pub short : isImage (take 145 bytes) ≡ false
+  pub short : isImage (take (length bytes - 1) bytes) ≡ false
   pub long-empty : isImage (empty ++ (0 ∷ [])) ≡ false
-  pub short-empty : isImage (take 41 empty) ≡ false
+  pub short-empty : isImage (take (savedAt - 1) empty) ≡ false
   pub nothing : isImage [] ≡ false
-  pub count-1 : changed 6 1 ≡ false
-  pub count-3 : changed 6 3 ≡ false
-  pub count-258 : changed 7 1 ≡ false
+  pub count-1 : changed rowCountAt 1 ≡ false
+  pub count-3 : changed rowCountAt 3 ≡ false
+  pub count-258 : changed (rowCountAt + 1) 1 ≡ false
   -- "n at most 12"
   pub rows-13 : isImage (of (many 13)) ≡ false
   -- "mask of provisioned credentials (bits 8 to 15 zero)"
-  pub mask-8 : changed 1 1 ≡ false
-  pub mask-15 : changed 1 128 ≡ false
+  pub mask-8 : changed (maskAt + 1) 1 ≡ false
+  pub mask-15 : changed (maskAt + 1) 128 ≡ false
   -- "count of words 8, offset of words 10", "offset of rows 42"
-  pub words-7 : changed 2 7 ≡ false
-  pub words-264 : changed 3 1 ≡ false
-  pub words-at-11 : changed 4 11 ≡ false
-  pub words-at-266 : changed 5 1 ≡ false
-  pub rows-at-43 : changed 8 43 ≡ false
-  pub rows-at-298 : changed 9 1 ≡ false
+  pub words-7 : changed wordCountAt 7 ≡ false
+  pub words-264 : changed (wordCountAt + 1) 1 ≡ false
+  pub words-at-11 : changed wordOffsetAt 11 ≡ false
+  pub words-at-266 : changed (wordOffsetAt + 1) 1 ≡ false
+  pub rows-at-43 : changed rowOffsetAt 43 ≡ false
+  pub rows-at-298 : changed (rowOffsetAt + 1) 1 ≡ false
   -- the rows at 43, as the head says then
-  pub rows-moved : isImage (set (take 42 bytes ++ (0 ∷ drop 42 bytes)) 8 43) ≡ false
+  pub rows-moved : isImage (set (take savedAt bytes ++ (0 ∷ drop savedAt bytes)) rowOffsetAt (savedAt + 1)) ≡ false
   -- "zero where unprovisioned": each byte of a word; and one whose credential was taken out of the mask
-  pub word-low : changed 18 1 ≡ false
-  pub word-high : changed 41 1 ≡ false
-  pub word-left : isImage (set empty 0 1) ≡ false
+  pub word-low : changed (word 2) 1 ≡ false
+  pub word-high : changed (word 7 + 3) 1 ≡ false
+  pub word-left : isImage (set empty maskAt 1) ≡ false
   -- "provisioned owners"
-  pub owner-2 : changed 42 2 ≡ false
-  pub owner-8 : changed 42 8 ≡ false
-  pub owner-256 : changed 43 1 ≡ false
+  pub owner-2 : changed (rowAt 0 + savedOwnerAt) 2 ≡ false
+  pub owner-8 : changed (rowAt 0 + savedOwnerAt) 8 ≡ false
+  pub owner-256 : changed (rowAt 0 + savedOwnerAt + 1) 1 ≡ false
   -- "next numbers of at least 1"
-  pub number-0 : changed 44 0 ≡ false
+  pub number-0 : changed (rowAt 0 + savedNextAt) 0 ≡ false
   -- "different names"
-  pub name-twice : isImage (take 98 bytes ++ P) ≡ false
+  pub name-twice : isImage (take (rowAt 1 + savedNameAt) bytes ++ P) ≡ false
 
 pub refused : Refused
-unfolding join padded select bytesOf numberOf numberAt rows every pairwise sameBytes sameName standing tableOf isRowOffset imageLong numbersBytes numbersIn maskOf wordIn savedBytes imageBytes headIn grantsSaid grantsIn savedFrom savedIn imageIn isOwner isKeepable differ headFits wordFits imageFits isImage savedProcess restored savedRow savedOf imageOf stateImage cycled
+unfolding computed
 refused = record { long = refl; short = refl; long-empty = refl; short-empty = refl; nothing = refl; count-1 = refl; count-3 = refl; count-258 = refl; rows-13 = refl; mask-8 = refl; mask-15 = refl; words-7 = refl; words-264 = refl; words-at-11 = refl; words-at-266 = refl; rows-at-43 = refl; rows-at-298 = refl; rows-moved = refl; word-low = refl; word-high = refl; word-left = refl; owner-2 = refl; owner-8 = refl; owner-256 = refl; number-0 = refl; name-twice = refl }
 
 -- what is an image though it looks strange
 pub record Accepted : Type 0 where
   -- no row; no credential either
   pub no-row : isImage empty ≡ true
-  pub no-credential : isImage (set (set (set (replicate 42 0) 2 8) 4 10) 8 42) ≡ true
+  pub no-credential : isImage (set (set (set (replicate savedAt 0) wordCountAt 8) wordOffsetAt 10) rowOffsetAt savedAt) ≡ true
   -- as many as there are places
   pub rows-12 : isImage (of (many 12)) ≡ true
   -- a next number of 256, with a low byte of 0; the last, under which nothing is accepted any more
-  pub number-256 : isImage (set (set bytes 44 0) 45 1) ≡ true
-  pub number-65535 : isImage (set (set bytes 44 255) 45 255) ≡ true
+  pub number-256 : isImage (set (set bytes (rowAt 0 + savedNextAt) 0) (rowAt 0 + savedNextAt + 1) 1) ≡ true
+  pub number-65535 : isImage (set (set bytes (rowAt 0 + savedNextAt) 255) (rowAt 0 + savedNextAt + 1) 255) ≡ true
   -- a name that differs in its last byte; a name of zeros
-  pub name-close : isImage (take 98 bytes ++ R) ≡ true
-  pub name-zero : isImage (take 98 bytes ++ replicate 48 0) ≡ true
+  pub name-close : isImage (take (rowAt 1 + savedNameAt) bytes ++ R) ≡ true
+  pub name-zero : isImage (take (rowAt 1 + savedNameAt) bytes ++ replicate nameLength 0) ≡ true
   -- rows of one credential, in any order
-  pub owner-0 : changed 94 0 ≡ true
+  pub owner-0 : changed (rowAt 1 + savedOwnerAt) 0 ≡ true
   pub turned : isImage (of (row 1 300 Q ∷ row 0 3 P ∷ [])) ≡ true
 
 pub accepted : Accepted
-unfolding join padded select bytesOf numberOf numberAt rows every pairwise sameBytes sameName standing tableOf isRowOffset imageLong numbersBytes numbersIn maskOf wordIn savedBytes imageBytes headIn grantsSaid grantsIn savedFrom savedIn imageIn isOwner isKeepable differ headFits wordFits imageFits isImage savedProcess restored savedRow savedOf imageOf stateImage cycled
+unfolding computed
 accepted = record { no-row = refl; no-credential = refl; rows-12 = refl; number-256 = refl; number-65535 = refl; name-close = refl; name-zero = refl; owner-0 = refl; turned = refl }
 
 -- which rows are kept: the first of two with one name; one whose name only a row has that was not kept; none of a credential that is not provisioned, none at 0

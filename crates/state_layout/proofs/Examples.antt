@@ -18,6 +18,11 @@ use Rattle.module_state.specs.declared.Phase.the-variants.{Opened, Chosen}
 use Rattle.module_state.specs.declared.State.{State}
 use Rattle.state_layout.specs.Layout.{flagAt, wordAt, credentialSize, ownerAt, kindAt, sessionAt, nextAt, nameAt, placeSize, sessionsAt, credentialsAt, countAt, placesAt, stateLength, sessionBytes, sessionFrom, sessionFits, grantsBytes, grantsFrom, grantsFit, processBytes, processFrom, processFits, countIn, placesIn, stateBytes, nothingHeld, stateOf, isOwned, areRivals, areApart, sound, ownersFit, restIsFree, shaped, holdsState}
 
+-- all that an example computes with: who says `unfolding computed` has it open
+unfoldable computed : Type 1
+unfolding join padded bytesOf numberOf numberAt rows every pairwise sameBytes sameName standing tableOf isActive isActiveIn provisioned phaseOf isChosen byteOf sessionBytes sessionFrom sessionFits grantsBytes grantsFrom grantsFit processBytes processFrom processFits countIn placesIn stateBytes stateOf isOwned areRivals areApart sound ownersFit restIsFree shaped holdsState
+computed = Type 0
+
 -- document 01: "P is 16 zero bytes then 32 of 0x11; Q is 16 zero bytes then 32 of 0x22; R is P with its last byte 0x12."
 abbrev P : List ℕ
 P = replicate 16 0 ++ replicate 32 0x11
@@ -67,7 +72,7 @@ pub record Drawn : Type 0 where
   pub nothing-written : stateBytes nothingHeld ≡ replicate stateLength 0
 
 pub drawn-is : Drawn
-unfolding join padded bytesOf numberOf numberAt rows every pairwise sameBytes sameName standing tableOf isActive isActiveIn provisioned phaseOf isChosen byteOf sessionBytes sessionFrom sessionFits grantsBytes grantsFrom grantsFit processBytes processFrom processFits countIn placesIn stateBytes stateOf isOwned areRivals areApart sound ownersFit restIsFree shaped holdsState
+unfolding computed
 drawn-is = record { written = refl; read = refl; long = refl; held = refl; nothing-held = refl; nothing-written = refl }
 
 -- where a credential and a place begin, and the last byte of a place's name
@@ -118,9 +123,9 @@ pub record Held : Type 0 where
   pub fourth-named : holdsState (set (set (set (set bytes countAt 4) (place 3 + kindAt) 2) (place 3 + nextAt) 1) (place 3 + nameEnd) 7) ≡ true
 
 pub refused : Refused
-unfolding join padded bytesOf numberOf numberAt rows every pairwise sameBytes sameName standing tableOf isActive isActiveIn provisioned phaseOf isChosen byteOf sessionBytes sessionFrom sessionFits grantsBytes grantsFrom grantsFit processBytes processFrom processFits countIn placesIn stateBytes stateOf isOwned areRivals areApart sound ownersFit restIsFree shaped holdsState
+unfolding computed
 refused = record { short = refl; long = refl; phase-3 = refl; flag-2 = refl; count-13 = refl; credential-8 = refl; type-3 = refl; session-4 = refl; word-unprovisioned = refl; saved-session = refl; elevation-next = refl; free-place = refl; count-too-low = refl; saved-uncounted = refl; owner = refl; session-without-version = refl; session-closed = refl; name-twice = refl; user-twice = refl; count-too-high = refl; elevation-twice = refl }
 
 pub held : Held
-unfolding join padded bytesOf numberOf numberAt rows every pairwise sameBytes sameName standing tableOf isActive isActiveIn provisioned phaseOf isChosen byteOf sessionBytes sessionFrom sessionFits grantsBytes grantsFrom grantsFit processBytes processFrom processFits countIn placesIn stateBytes stateOf isOwned areRivals areApart sound ownersFit restIsFree shaped holdsState
+unfolding computed
 held = record { user-of-another = refl; fourth-named = refl }
