@@ -7,6 +7,7 @@ use mathlib.Core.List.{List, [], _∷_, _++_, map}
 use lib.ListN.{replicate}
 use Rattle.lists.specs.Lists.{any, firstIndex, reject, select, join, removeAt, padded}
 use Rattle.rows.specs.Bytes.{bytesOf}
+use Rattle.names.proofs.Examples as Names
 use Rattle.names.specs.Names.{sameBytes, sameName}
 use Rattle.names.specs.declared.Credential.{Credential}
 use Rattle.names.specs.declared.Name.{Name}
@@ -27,13 +28,13 @@ use Rattle.calls.specs.Run.{step, run, numbers}
 
 -- "P is 16 zero bytes then 32 of 0x11; Q is 16 zero bytes then 32 of 0x22; R is P with its last byte 0x12."
 abbrev pub P : Name
-P = record { bytes = replicate 16 0 ++ replicate 32 0x11 }
+P = record { bytes = Names.P }
 
 abbrev pub Q : Name
-Q = record { bytes = replicate 16 0 ++ replicate 32 0x22 }
+Q = record { bytes = Names.Q }
 
 abbrev pub R : Name
-R = record { bytes = replicate 16 0 ++ (replicate 31 0x11 ++ (0x12 ∷ [])) }
+R = record { bytes = Names.R }
 
 -- "Credentials 0 (word 15) and 1 (word 16) are provisioned."
 abbrev pub pairs : List Grants

@@ -153,7 +153,7 @@ fn saved(p: Process) -> Process
 
 // ---- the end of a process
 
-// The process at a place saved, or removed when not p.
+// The process at a place saved, or removed when not kept.
 pub fn ended(st: State, at: usize, keep: bool) -> State
     ensures { λ r. ⌜ r ≡ ended st at keep ⌝ }
 {

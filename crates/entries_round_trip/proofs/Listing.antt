@@ -28,33 +28,33 @@ use Rattle.message_pieces.specs.Pieces.{restLong, first, second, fitsRest}
 use Rattle.message_codes.specs.Codes.{find, requests, responses, shapeOf}
 use Rattle.message_fields_write.specs.Bodies.{bodyBytes}
 use Rattle.message_write.specs.Written.{shapeFor, messageBytes, carries, carriesPiece}
-use Rattle.entries_round_trip.specs.Listing.{alone, rowHeld}
+use Rattle.entries_round_trip.specs.Listing.{oneValue, rowHeld}
 use Rattle.entries_round_trip.specs.Parts.{pieceBytes, partBytes, PartCarried}
 use Rattle.entries_round_trip.specs.RoundTrip.{ReadsAs, ListReadsAs}
 use Rattle.entries_round_trip.proofs.Messages.{written-is-read}
 use Rattle.entries_round_trip.proofs.Parts.{list-carried, list-is-read}
 
 -- ---- written: the same bytes
-pub request-is : (credential : ℕ) → request credential ≡ messageBytes 0x8e (alone credential) []
+pub request-is : (credential : ℕ) → request credential ≡ messageBytes 0x8e (oneValue credential) []
 unfolding request head messageBytes bodyBytes shapeFor shapeOf find requests fields padded fieldsOf fieldBytes formOf bytesOf
 request-is credential = refl
 
-pub listing-is : (l : List Row) → listing l ≡ messageBytes 0x0e (alone (length l)) (join (map rowBytes l))
+pub listing-is : (l : List Row) → listing l ≡ messageBytes 0x0e (oneValue (length l)) (join (map rowBytes l))
 unfolding listing messageBytes bodyBytes shapeFor shapeOf find responses fields padded fieldsOf fieldBytes formOf bytesOf
 listing-is l = refl
 
 -- a number of two bytes alone: every one of them may stand there
-pub one-allowed : (shape : Shape) (f : Field) (n : ℕ) → formOf f ≡ between 2 0 65535 → fieldsOf shape ≡ f ∷ [] → n < 65536 → areAllowed (fields shape) (alone n) ≡ true
+pub one-allowed : (shape : Shape) (f : Field) (n : ℕ) → formOf f ≡ between 2 0 65535 → fieldsOf shape ≡ f ∷ [] → n < 65536 → areAllowed (fields shape) (oneValue n) ≡ true
 unfolding fields padded areAllowed isAllowed formOf
 one-allowed shape f n two one h = rw (one, two, le-leb 0 n (omega arith), le-leb n 65535 (omega arith))
 
-pub request-carried : (credential : ℕ) → credential < 65536 → carries 0x8e (alone credential) [] ≡ true
+pub request-carried : (credential : ℕ) → credential < 65536 → carries 0x8e (oneValue credential) [] ≡ true
 unfolding carries shapeFor shapeOf find requests restOf fitsRest formOf fieldsOf
 request-carried credential h = and-both (one-allowed OneCredential _ credential refl refl h) refl
 
 -- what they promised stays promised: the request that is written is read with its credential
-pub request-is-read : (credential : ℕ) → credential < 65536 → ReadsAs 0x8e (alone credential) [] (request credential)
-request-is-read credential h = rw (request-is credential) (written-is-read 0x8e (alone credential) [] refl (request-carried credential h))
+pub request-is-read : (credential : ℕ) → credential < 65536 → ReadsAs 0x8e (oneValue credential) [] (request credential)
+request-is-read credential h = rw (request-is credential) (written-is-read 0x8e (oneValue credential) [] refl (request-carried credential h))
 
 -- ---- the rows are the parts of a list
 type-byte : (kind : RowType) → typeNumber kind % 256 ≡ typeNumber kind
@@ -92,14 +92,14 @@ rows-carried each-nil = each-nil
 rows-carried (each-cons {x} {l} v w) = each-cons (row-carried x v) (rows-carried w)
 
 module _ (l : List Row) (w : Each RowFits l) (small : length l ≤ 65535) where
-  pub listing-is-read : ListReadsAs 0x0e (alone (length l)) ProcessInfo 0 (map rowHeld l) (listing l)
+  pub listing-is-read : ListReadsAs 0x0e (oneValue (length l)) ProcessInfo 0 (map rowHeld l) (listing l)
   unfolding shapeFor shapeOf find responses restOf formOf fieldsOf
   listing-is-read =
       rw (listing-is l, rows-are l)
-      (list-is-read 0x0e (alone (length l)) ProcessInfo 0 (map rowHeld l) refl (sym (length-map l rowHeld)) (rows-carried w) (one-allowed ProcessList _ (length l) refl refl (omega arith)) refl)
+      (list-is-read 0x0e (oneValue (length l)) ProcessInfo 0 (map rowHeld l) refl (sym (length-map l rowHeld)) (rows-carried w) (one-allowed ProcessList _ (length l) refl refl (omega arith)) refl)
 
-  pub listing-carried : carries 0x0e (alone (length l)) (join (map rowBytes l)) ≡ true
+  pub listing-carried : carries 0x0e (oneValue (length l)) (join (map rowBytes l)) ≡ true
   unfolding shapeFor shapeOf find responses restOf formOf fieldsOf
   listing-carried =
       rw (rows-are l)
-      (list-carried 0x0e (alone (length l)) ProcessInfo 0 (map rowHeld l) refl (sym (length-map l rowHeld)) (rows-carried w) (one-allowed ProcessList _ (length l) refl refl (omega arith)))
+      (list-carried 0x0e (oneValue (length l)) ProcessInfo 0 (map rowHeld l) refl (sym (length-map l rowHeld)) (rows-carried w) (one-allowed ProcessList _ (length l) refl refl (omega arith)))

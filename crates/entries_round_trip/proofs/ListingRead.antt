@@ -32,7 +32,7 @@ use Rattle.message_fields.specs.Fields.{fields, longOf, valuesIn, areAllowed, v
 use Rattle.message_pieces.specs.Pieces.{restLong, pieceLong, isPiece, first, second, behind, isPart, partLong, areParts, fitsRest}
 use Rattle.message_codes.specs.Codes.{find, requests, responses, shapeOf}
 use Rattle.message_read.specs.Messages.{shapeIn, headOf, messageValues, isMessage, readMessage}
-use Rattle.entries_round_trip.specs.Listing.{alone, rowHeld}
+use Rattle.entries_round_trip.specs.Listing.{oneValue, rowHeld}
 use Rattle.entries_round_trip.specs.Parts.{PartHeld, pieceHeldIn, partHeldIn, partsIn}
 use Rattle.entries_round_trip.proofs.Listing.{one-allowed}
 
@@ -44,7 +44,7 @@ same-test false false f g = refl
 
 -- what both begin with: a number of two bytes, which every two bytes say
 module _ (shape : Shape) (f : Field) (two : formOf f ≡ between 2 0 65535) (one : fieldsOf shape ≡ f ∷ []) (b : List ℕ) where
-  one-value : valuesOf shape (drop 2 b) ≡ alone (headNumber b)
+  one-value : valuesOf shape (drop 2 b) ≡ oneValue (headNumber b)
   unfolding valuesOf fields padded valuesIn meant formOf headNumber numberAt numberOf
   one-value = rw (one, two)
 
@@ -52,7 +52,7 @@ module _ (shape : Shape) (f : Field) (two : formOf f ≡ between 2 0 65535) (one
   unfolding headOf headLong fields padded longOf formOf
   one-head = rw (one, two)
 
-  one-message : Bytes b → shapeIn b ≡ shape → isMessage b ≡ (leb 4 (length b) && fitsRest (restOf shape) (alone (headNumber b)) (drop 4 b))
+  one-message : Bytes b → shapeIn b ≡ shape → isMessage b ≡ (leb 4 (length b) && fitsRest (restOf shape) (oneValue (headNumber b)) (drop 4 b))
   unfolding isMessage messageValues headNumber
   one-message h e =
       rw (e, one-value, one-head, one-allowed shape f (headNumber b) two one (number-low 2 2 b h), and-true)
@@ -171,7 +171,7 @@ module _ (b : List ℕ) (h : Bytes b) where
       unfolding readCount countNumber
       taken = clear-unless No.message _ (isListing b) (ap (λ (r : CountRead). r .number) count-as ∙ done)
 
-      answered : readMessage b ≡ record { number = No.done; values = alone (headNumber b); rest = 4 }
+      answered : readMessage b ≡ record { number = No.done; values = oneValue (headNumber b); rest = 4 }
       unfolding readMessage messageValues formOf fieldsOf
       answered = rw (listing-message, taken, listing-shape, one-value ProcessList _ refl refl b, one-head ProcessList _ refl refl b)
 

@@ -7,8 +7,8 @@ use Rattle.names.specs.declared.Row.{Row}
 use Rattle.entries_round_trip.specs.Parts.{PartHeld}
 
 -- one value, and the six that are not used
-abbrev pub alone : ℕ → List ℕ
-alone n = n ∷ replicate 6 0
+abbrev pub oneValue : ℕ → List ℕ
+oneValue n = n ∷ replicate 6 0
 
 unfoldable pub rowHeld : Row → PartHeld
 rowHeld row =

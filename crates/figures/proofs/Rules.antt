@@ -25,7 +25,7 @@ use Rattle.image_figures.specs.declared.Line.{Line}
 use Rattle.image_figures.specs.declared.Line.the-variants.{Bad, Good}
 use Rattle.image_figures.proofs.Laws.{Small, SmallLine, line-small}
 use Rattle.figures.specs.Drawer.{Sheet, linesOf, goodOnes, totalsOf, totalsWith, mostImages, stepOf, After, OfSheets, OfSheet}
-use Rattle.figures.specs.Drawer.{stopOf, isFailure, FilledTo, Buffers, sheetIn, SheetIn, hasFailed, isPrinted, isLast, toldOf, Tells, turnOf, Turned}
+use Rattle.figures.specs.Drawer.{stopOf, isFailure, FilledTo, Buffers, sheetIn, SheetIn, hasFailed, isPrinted, isLast, toldOf, SaidAs, turnOf, Turned}
 use Rattle.figures.proofs.Texts.{spelled, text-begin, text-more, text-all, text-full, text-none, number-added, three-added, line-bad, line-good, text-image, text-total, text-past}
 use Rattle.figures.specs.declared.Totals.{Totals}
 use Rattle.figures.specs.declared.Turn.{Turn}
@@ -203,11 +203,11 @@ unfolding hasFailed
 failed-either read e f = rw (e, f)
 
 -- ---- a turn
-pub tells-nothing : {output : Output} → Tells output Unwritten
+pub tells-nothing : {output : Output} → SaidAs output Unwritten
 unfolding toldOf
 tells-nothing = record { written = false; is = refl }
 
-pub tells-it : {output : Output} → Tells output (Printed output)
+pub tells-it : {output : Output} → SaidAs output (Printed output)
 unfolding toldOf
 tells-it = record { written = true; is = refl }
 
@@ -273,7 +273,7 @@ module _ {t : Totals} (read : SheetRead) (said image : List ℕ) {failed : Bool}
   turned-unread f = record { written = false; is = record { is = λ l h. rw (← e, f, h) } }
 
   pub turned-read : failed ≡ false → {step : Step} → After t (stepOf (take (read .said .count) said) (take (read .image .count) image)) step
-      → {told : Told} → Tells (step .output) told → {printed : Bool} → printed ≡ isPrinted told
+      → {told : Told} → SaidAs (step .output) told → {printed : Bool} → printed ≡ isPrinted told
       → Turned t read said image (record { totals = step .totals; told = told; more = printed && step .more })
   unfolding turnOf sheetIn
   turned-read f a o p = record { written = o .written; is = record { is = λ l h. rw (← e, f, p, o .is, is-written (o .written) _, a .is l h) } }

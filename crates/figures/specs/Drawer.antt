@@ -151,7 +151,7 @@ unfoldable pub toldOf : Bool → Output → Told
 toldOf written output = cond written (Printed output) Unwritten
 
 -- whether a line could be written is not for the program to say
-pub record Tells (output : Output) (told : Told) : Type 0 where
+pub record SaidAs (output : Output) (told : Told) : Type 0 where
   pub written : Bool
   pub is : told ≡ toldOf written output
 

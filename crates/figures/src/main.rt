@@ -8,7 +8,7 @@ ghost use mathlib.Core.List.{[]};
 ghost use Prim.Native.Nat.{_<_};
 ghost use lib.ListN.{length};
 ghost use Rattle.io.specs.Counts.{Counts};
-ghost use Rattle.figures.specs.Drawer.{totalsOf, totalsWith, mostImages, stepOf, After, OfSheets, OfSheet, stopOf, FilledTo, Buffers, SheetIn, isFailure, hasFailed, Tells, isPrinted, isLast, Turned};
+ghost use Rattle.figures.specs.Drawer.{totalsOf, totalsWith, mostImages, stepOf, After, OfSheets, OfSheet, stopOf, FilledTo, Buffers, SheetIn, isFailure, hasFailed, SaidAs, isPrinted, isLast, Turned};
 ghost use Rattle.figures.specs.Text.{numberThen, threeText, lineText, textOf, Holds, Added, Spells};
 use image_figures::LENGTH_SIZE;
 use image_figures::Line;
@@ -269,7 +269,7 @@ enum Told {
 }
 
 fn print(output: Output) -> Told
-    ensures { λ r. ⌜ Tells output r ⌝ }
+    ensures { λ r. ⌜ SaidAs output r ⌝ }
 {
     let text = text_of(output);
     let bytes = text.bytes;

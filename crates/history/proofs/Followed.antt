@@ -267,18 +267,18 @@ module _ (n : Name) (st : State) (v : Rules st) where
   abbrev Reads : Protection → ℕ → Bool → Type 0
   Reads w k p = (s : Session) (u : UserClaim) → w ≡ Under s (ByUser u) → hasActive st (UserOf s (u .credential)) ≡ true → tellsPassed k ≡ p
 
-  claim-told : (w : Protection) (k : ℕ) (p : Bool) → Reads w k p → cond (tellsPassed k) (charges w was) was ≡ cond p (charges w was) was
+  charge-told : (w : Protection) (k : ℕ) (p : Bool) → Reads w k p → cond (tellsPassed k) (charges w was) was ≡ cond p (charges w was) was
   unfolding charges counts
-  claim-told Free k p r = either-way (tellsPassed k) was ∙ sym (either-way p was)
-  claim-told (Under s Elevated) k p r = either-way (tellsPassed k) was ∙ sym (either-way p was)
-  claim-told (Under s (ByUser u)) k p r =
+  charge-told Free k p r = either-way (tellsPassed k) was ∙ sym (either-way p was)
+  charge-told (Under s Elevated) k p r = either-way (tellsPassed k) was ∙ sym (either-way p was)
+  charge-told (Under s (ByUser u)) k p r =
       split (hasActive st (UserOf s (u .credential)))
       (λ h. rw (r s u refl h))
       (λ h. rw (idle-counts s u h) (either-way (tellsPassed k) was ∙ sym (either-way p was)))
 
   pub follows-claim : (w : Protection) (k : ℕ) (p : Bool) → (p ≡ true → protectedNumber st w ≡ 0) → Reads w k p → cond (tellsPassed k) (charges w was) was ≡ look n (processes (cond p (charged st w) st))
   follows-claim w k p clear r =
-      claim-told w k p r ∙ split p (λ e. rw e (claim-counted w (clear e))) (λ e. rw e)
+      charge-told w k p r ∙ split p (λ e. rw e (claim-counted w (clear e))) (λ e. rw e)
 
 -- ---- a call, refused or not
 module _ (n : Name) (st : State) (v : Rules st) where

@@ -8,6 +8,7 @@ use lib.ListN.{length, replicate, set, take, drop}
 use Rattle.lists.specs.Lists.{join, padded, select}
 use Rattle.rows.specs.Bytes.{bytesOf, numberOf, numberAt}
 use Rattle.rows.specs.Rows.{rows, every, pairwise}
+use Rattle.names.proofs.Examples.{P, Q, R}
 use Rattle.names.specs.Names.{nameLength, sameBytes, sameName}
 use Rattle.names.specs.declared.Kind.{Kind}
 use Rattle.names.specs.declared.Kind.the-variants.{User, Saved}
@@ -24,16 +25,6 @@ use Rattle.image.specs.Image.{maskAt, wordCountAt, wordOffsetAt, rowCoun
 unfoldable pub computed : Type 1
 unfolding join padded select bytesOf numberOf numberAt rows every pairwise sameBytes sameName standing tableOf isRowOffset imageLong numbersBytes numbersIn maskOf wordIn savedBytes imageBytes headIn grantsSaid grantsIn savedFrom savedIn imageIn isOwner isKeepable differ headFits wordFits imageFits isImage savedProcess restored savedRow savedOf imageOf stateImage cycled
 computed = Type 0
-
--- document 01: "P is 16 zero bytes then 32 of 0x11; Q is 16 zero bytes then 32 of 0x22; R is P with its last byte 0x12."
-abbrev P : List ℕ
-P = replicate 16 0 ++ replicate 32 0x11
-
-abbrev Q : List ℕ
-Q = replicate 16 0 ++ replicate 32 0x22
-
-abbrev R : List ℕ
-R = replicate 16 0 ++ (replicate 31 0x11 ++ (0x12 ∷ []))
 
 abbrev process : ℕ → Kind → ℕ → List ℕ → Process
 process c k n name = record { credential = record { 0 = c }; kind = k; session = record { 0 = 0 }; next = n; name = record { bytes = name } }

@@ -44,7 +44,7 @@ module _ {A : Type 0} where
   pub first-inside : (f : A → Bool) (l : List A) → any f l ≡ true → firstIndex f l < length l
   first-inside f l h = below (firstIndex f l) (length l) (λ k. k) (λ past. clash h (any-past f l past))
 
-  -- ---- as many times the same, which stands past the end too
+  -- ---- one element, n times: it stands at every place, and past the end
   pub getD-same : (n i : ℕ) (x : A) → getD (replicate n x) i x ≡ x
   getD-same zero i x = refl
   getD-same (suc n) zero x = refl

@@ -8,6 +8,7 @@ use lib.ListN.{length, replicate, set, take}
 use Rattle.lists.specs.Lists.{join, padded}
 use Rattle.rows.specs.Bytes.{bytesOf, numberOf, numberAt, byteOf}
 use Rattle.rows.specs.Rows.{rows, every, pairwise}
+use Rattle.names.proofs.Examples.{P, Q, R}
 use Rattle.names.specs.Names.{sameBytes, sameName}
 use Rattle.names.specs.declared.Kind.{Kind}
 use Rattle.names.specs.declared.Kind.the-variants.{User, Elevation, Saved}
@@ -22,16 +23,6 @@ use Rattle.state_layout.specs.Layout.{flagAt, wordAt, credentialSize, ow
 unfoldable computed : Type 1
 unfolding join padded bytesOf numberOf numberAt rows every pairwise sameBytes sameName standing tableOf isActive isActiveIn provisioned phaseOf isChosen byteOf sessionBytes sessionFrom sessionFits grantsBytes grantsFrom grantsFit processBytes processFrom processFits countIn placesIn stateBytes stateOf isOwned areRivals areApart sound ownersFit restIsFree shaped holdsState
 computed = Type 0
-
--- document 01: "P is 16 zero bytes then 32 of 0x11; Q is 16 zero bytes then 32 of 0x22; R is P with its last byte 0x12."
-abbrev P : List ℕ
-P = replicate 16 0 ++ replicate 32 0x11
-
-abbrev Q : List ℕ
-Q = replicate 16 0 ++ replicate 32 0x22
-
-abbrev R : List ℕ
-R = replicate 16 0 ++ (replicate 31 0x11 ++ (0x12 ∷ []))
 
 abbrev process : ℕ → Kind → ℕ → ℕ → List ℕ → Process
 process c k s n name = record { credential = record { 0 = c }; kind = k; session = record { 0 = s }; next = n; name = record { bytes = name } }
