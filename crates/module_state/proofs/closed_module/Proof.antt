@@ -1,4 +1,4 @@
--- written by tools/scaffold, which keeps the answers that are not a plain search
+-- by hand: the prover makes this proof by itself, and here its fact has a name, at which a wrong build is refused
 use Rattle.module_state.proofs.Rules.{rules}
 use Rattle.module_state.proofs.closed_module.Statement.{statement}
 use Rattle.module_state.proofs.closed_module.Tie as tie
