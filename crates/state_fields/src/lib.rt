@@ -1,11 +1,12 @@
-// Whether the fields of a slice are in their ranges, and each place may stand by itself, tested where they lie. docs/STATE.md draws the layout.
+// Whether the fields of a slice are in their ranges, each place may stand by itself, and no two are rivals, tested where they lie. docs/STATE.md draws the layout.
 ghost use mathlib.Core.Path.{_≡_};
 ghost use Prim.Native.Nat.{_≤_};
 ghost use lib.ListN.{length, drop};
-ghost use Rattle.rows.specs.Rows.{rows, every};
+ghost use Rattle.rows.specs.Rows.{rows};
 ghost use Rattle.table.specs.Table.{places};
 ghost use Rattle.state_layout.specs.Layout.{placeSize, placesAt, stateLength, processFrom, processFits, stateOf, isOwned};
-ghost use Rattle.state_fields.specs.Stands.{stands, allFit};
+ghost use Rattle.state_fields.specs.Keys.{keyOf, Key};
+ghost use Rattle.state_fields.specs.Stands.{stands, standTogether, allFit};
 use module_state::CREDENTIALS;
 use module_state::LAST_CREDENTIAL;
 use module_state::LAST_SESSION;
@@ -95,19 +96,55 @@ fn stands<'a>(s: &'a [u8], place: &'a [u8]) -> bool
     is_owned(s, place)
 }
 
+// ---- all places: rivals by their keys
+
+// A user process's key is that of its session and its credential, an elevation's that of its session. A place without one, a saved process's, has a number
+// that is never taken.
+const USER_KEYS: usize = SESSIONS * CREDENTIALS;
+
+const NO_KEY: usize = USER_KEYS + SESSIONS;
+
+const KEY_COUNT: usize = NO_KEY + 1;
+
+// The key of a place, by remainders, so that any bytes have one.
+fn key_of(place: &[u8]) -> usize
+    requires { ⌜ length (now place) ≡ placeSize ⌝ }
+    ensures { λ r. ⌜ Key (keyOf (now (place .entry))) r ⌝ }
+{
+    let kind = place[KIND_AT];
+    let session = rows::wide(place[SESSION_AT]) % SESSIONS;
+    if kind == USER_TYPE {
+        return session * CREDENTIALS + rows::wide(place[OWNER_AT]) % CREDENTIALS;
+    }
+    if kind == ELEVATION_TYPE {
+        return USER_KEYS + session;
+    }
+    NO_KEY
+}
+
+// Whether each place may stand, and no two are rivals. It goes from the last place to the first, so that the keys of the later ones are taken; once over all of
+// them for both, since most of the time of an entry is the test of its slice.
 fn all_stand(s: &[u8], n: usize) -> bool
     requires { ⌜ length (now s) ≡ stateLength ⌝ }
     requires { ⌜ n ≤ places ⌝ }
-    ensures { λ r. ⌜ r ≡ every (stands (now (s .entry))) (rows n placeSize (drop placesAt (now (s .entry)))) ⌝ }
+    ensures { λ r. ⌜ r ≡ standTogether (now (s .entry)) (rows n placeSize (drop placesAt (now (s .entry)))) ⌝ }
 {
-    let mut i: usize = 0;
-    while i < n {
+    let mut taken: [u8; KEY_COUNT] = [0; KEY_COUNT];
+    let mut left = n;
+    while 0 < left {
+        let i = left - 1;
         let a = PLACES_AT + i * PLACE_SIZE;
         let e = a + PLACE_SIZE;
         if !stands(s, &s[a..e]) {
             return false;
         }
-        i += 1;
+        let key = key_of(&s[a..e]);
+        if taken[key] != 0 {
+            return false;
+        }
+        taken[key] = 1;
+        taken[NO_KEY] = 0;
+        left = i;
     }
     true
 }

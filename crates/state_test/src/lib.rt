@@ -3,70 +3,15 @@ ghost use mathlib.Core.Path.{_≡_};
 ghost use Prim.Native.Nat.{_<_, _≤_};
 ghost use lib.ListN.{length};
 ghost use Rattle.rows.specs.Rows.{pairwise};
-ghost use Rattle.state_layout.specs.Layout.{placeSize, stateLength, processFrom, areRivals, areApart, holdsState};
-ghost use Rattle.state_test.specs.Keys.{keyOf, Key, standingIn, Digests, Fresh, noRivals, otherNames, Unless, laterApart};
+ghost use Rattle.state_layout.specs.Layout.{placeSize, stateLength, processFrom, holdsState};
+ghost use Rattle.state_test.specs.Digests.{standingIn, Digests, Fresh, otherNames, Unless, laterOthers};
 ghost use Rattle.table.specs.Table.{places};
-use module_state::CREDENTIALS;
-use module_state::SESSIONS;
-use names::ELEVATION_TYPE;
 use names::Name;
-use names::USER_TYPE;
 use state_layout::COUNT_AT;
-use state_layout::KIND_AT;
 use state_layout::NAME_AT;
-use state_layout::OWNER_AT;
 use state_layout::PLACE_SIZE;
 use state_layout::PLACES_AT;
-use state_layout::SESSION_AT;
 use table::PLACES;
-
-// ---- keys
-
-// A user process's key is that of its session and its credential, an elevation's that of its session. A place without one, a saved process's, has a number
-// that is never taken.
-const USER_KEYS: usize = SESSIONS * CREDENTIALS;
-
-const NO_KEY: usize = USER_KEYS + SESSIONS;
-
-const KEY_COUNT: usize = NO_KEY + 1;
-
-// The key of a place, by remainders, so that any bytes have one.
-fn key_of(place: &[u8]) -> usize
-    requires { ⌜ length (now place) ≡ placeSize ⌝ }
-    ensures { λ r. ⌜ Key (keyOf (now (place .entry))) r ⌝ }
-{
-    let kind = place[KIND_AT];
-    let session = rows::wide(place[SESSION_AT]) % SESSIONS;
-    if kind == USER_TYPE {
-        return session * CREDENTIALS + rows::wide(place[OWNER_AT]) % CREDENTIALS;
-    }
-    if kind == ELEVATION_TYPE {
-        return USER_KEYS + session;
-    }
-    NO_KEY
-}
-
-// Whether two places have one key. It goes from the last place to the first, so that those of the later ones are taken.
-fn keys_meet(s: &[u8], n: usize) -> bool
-    requires { ⌜ length (now s) ≡ stateLength ⌝ }
-    requires { ⌜ n ≤ places ⌝ }
-    ensures { λ r. ⌜ Unless r (pairwise noRivals (standingIn (now (s .entry)) n)) ⌝ }
-{
-    let mut met: u8 = 0;
-    let mut taken: [u8; KEY_COUNT] = [0; KEY_COUNT];
-    let mut left = n;
-    while 0 < left {
-        let i = left - 1;
-        let a = PLACES_AT + i * PLACE_SIZE;
-        let e = a + PLACE_SIZE;
-        let key = key_of(&s[a..e]);
-        met = met | taken[key];
-        taken[key] = 1;
-        taken[NO_KEY] = 0;
-        left = i;
-    }
-    met != 0
-}
 
 // ---- names
 
@@ -129,45 +74,21 @@ fn digests_meet(s: &[u8], n: usize) -> bool
 
 // ---- pairs
 
-// Whether both places are the active user process of one session and credential, or both the elevation of one session.
-fn are_rivals<'a>(a: &'a [u8], b: &'a [u8]) -> bool
+// Whether the names of two places differ.
+fn names_differ<'a>(a: &'a [u8], b: &'a [u8]) -> bool
     requires { ⌜ length (now a) ≡ placeSize ⌝ }
     requires { ⌜ length (now b) ≡ placeSize ⌝ }
-    ensures { λ r. ⌜ r ≡ areRivals (processFrom (now (a .entry))) (processFrom (now (b .entry))) ⌝ }
+    ensures { λ r. ⌜ r ≡ otherNames (processFrom (now (a .entry))) (processFrom (now (b .entry))) ⌝ }
 {
-    let kind = a[KIND_AT];
-    let other = b[KIND_AT];
-    let session = a[SESSION_AT];
-    let elsewhere = b[SESSION_AT];
-    if session != elsewhere {
-        return false;
-    }
-    if kind != other {
-        return false;
-    }
-    if kind == USER_TYPE {
-        return a[OWNER_AT] == b[OWNER_AT];
-    }
-    kind == ELEVATION_TYPE
-}
-
-fn are_apart<'a>(a: &'a [u8], b: &'a [u8]) -> bool
-    requires { ⌜ length (now a) ≡ placeSize ⌝ }
-    requires { ⌜ length (now b) ≡ placeSize ⌝ }
-    ensures { λ r. ⌜ r ≡ areApart (processFrom (now (a .entry))) (processFrom (now (b .entry))) ⌝ }
-{
-    if are_rivals(a, b) {
-        return false;
-    }
     !names::same(name_of(a), name_of(b))
 }
 
-// Whether the place at i is apart from each later one.
-fn is_apart(s: &[u8], n: usize, i: usize) -> bool
+// Whether the name at i differs from each later one.
+fn differs_later(s: &[u8], n: usize, i: usize) -> bool
     requires { ⌜ length (now s) ≡ stateLength ⌝ }
     requires { ⌜ n ≤ places ⌝ }
     requires { ⌜ i < n ⌝ }
-    ensures { λ r. ⌜ r ≡ laterApart (now (s .entry)) n i ⌝ }
+    ensures { λ r. ⌜ r ≡ laterOthers (now (s .entry)) n i ⌝ }
 {
     let a = PLACES_AT + i * PLACE_SIZE;
     let e = a + PLACE_SIZE;
@@ -175,7 +96,7 @@ fn is_apart(s: &[u8], n: usize, i: usize) -> bool
     while j < n {
         let f = PLACES_AT + j * PLACE_SIZE;
         let g = f + PLACE_SIZE;
-        if !are_apart(&s[a..e], &s[f..g]) {
+        if !names_differ(&s[a..e], &s[f..g]) {
             return false;
         }
         j += 1;
@@ -183,15 +104,15 @@ fn is_apart(s: &[u8], n: usize, i: usize) -> bool
     true
 }
 
-// Whether each place is apart from each later one.
-fn every_apart(s: &[u8], n: usize) -> bool
+// Whether each name differs from each later one.
+fn every_differs(s: &[u8], n: usize) -> bool
     requires { ⌜ length (now s) ≡ stateLength ⌝ }
     requires { ⌜ n ≤ places ⌝ }
-    ensures { λ r. ⌜ r ≡ pairwise areApart (standingIn (now (s .entry)) n) ⌝ }
+    ensures { λ r. ⌜ r ≡ pairwise otherNames (standingIn (now (s .entry)) n) ⌝ }
 {
     let mut i: usize = 0;
     while i < n {
-        if !is_apart(s, n, i) {
+        if !differs_later(s, n, i) {
             return false;
         }
         i += 1;
@@ -199,18 +120,16 @@ fn every_apart(s: &[u8], n: usize) -> bool
     true
 }
 
-// The same, by keys and digests first: where no two places share one, the places need not be compared.
-fn all_apart(s: &[u8], n: usize) -> bool
+// The same, by digests first: where no two names share one, the names need not be compared.
+fn all_differ(s: &[u8], n: usize) -> bool
     requires { ⌜ length (now s) ≡ stateLength ⌝ }
     requires { ⌜ n ≤ places ⌝ }
-    ensures { λ r. ⌜ r ≡ pairwise areApart (standingIn (now (s .entry)) n) ⌝ }
+    ensures { λ r. ⌜ r ≡ pairwise otherNames (standingIn (now (s .entry)) n) ⌝ }
 {
-    if !keys_meet(s, n) {
-        if !digests_meet(s, n) {
-            return true;
-        }
+    if !digests_meet(s, n) {
+        return true;
     }
-    every_apart(s, n)
+    every_differs(s, n)
 }
 
 // ---- the whole
@@ -227,5 +146,5 @@ pub fn holds(s: &[u8]) -> bool
     if n < 2 {
         return true;
     }
-    all_apart(&s[0..], n)
+    all_differ(&s[0..], n)
 }

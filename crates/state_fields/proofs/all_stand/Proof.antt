@@ -1,20 +1,19 @@
 -- written by tools/scaffold, which keeps the answers that are not a plain search
-use Prim.Native.Nat.{_-_}
-use Rattle.rows.proofs.Loops.{RowsTo}
-use Rattle.state_fields.specs.Stands.{stands}
-use Rattle.state_fields.proofs.Rules.{rules}
+use Rattle.state_fields.proofs.Rules.{StandTo, rules}
 use Rattle.state_fields.proofs.all_stand.Statement.{statement}
 use Rattle.state_fields.proofs.all_stand.Tie as tie
-use Rattle.state_layout.specs.Layout.{placeSize, placesAt}
 
 abbrev Inv-loop : tie.InvT-loop
-Inv-loop s n i₀ i = RowsTo (stands s) n placeSize placesAt s i
+Inv-loop s n taken₀ left₀ taken left = StandTo s n taken left
 
 abbrev μ-loop : tie.MeasureT-loop
-μ-loop s n i₀ i = n - i
+μ-loop s n taken₀ left₀ taken left = left
 
 loop-holds : tie.Need-loop-holds Inv-loop μ-loop
 loop-holds c = search rules
+
+sub-i : tie.Need-sub-i Inv-loop μ-loop
+sub-i c = search rules
 
 mul-a : tie.Need-mul-a Inv-loop μ-loop
 mul-a c = search rules
@@ -40,8 +39,29 @@ stands-requires c κs = search rules
 returns : tie.Need-returns Inv-loop μ-loop
 returns c = search rules
 
-add-i : tie.Need-add-i Inv-loop μ-loop
-add-i c = search rules
+sub-key-of : tie.Need-sub-key-of Inv-loop μ-loop
+sub-key-of c = search rules
+
+part-key-of-start : tie.Need-part-key-of-start Inv-loop μ-loop
+part-key-of-start c = search rules
+
+part-key-of-end : tie.Need-part-key-of-end Inv-loop μ-loop
+part-key-of-end c = search rules
+
+key-of-requires : tie.Need-key-of-requires Inv-loop μ-loop
+key-of-requires c κs = search rules
+
+array-read-if2 : tie.Need-array-read-if2 Inv-loop μ-loop
+array-read-if2 c = search rules
+
+returns-2 : tie.Need-returns-2 Inv-loop μ-loop
+returns-2 c = search rules
+
+array-write-taken : tie.Need-array-write-taken Inv-loop μ-loop
+array-write-taken c = search rules
+
+array-write-taken-2 : tie.Need-array-write-taken-2 Inv-loop μ-loop
+array-write-taken-2 c = search rules
 
 loop-less : tie.Need-loop-less Inv-loop μ-loop
 loop-less c = search rules
@@ -49,8 +69,8 @@ loop-less c = search rules
 loop-again : tie.Need-loop-again Inv-loop μ-loop
 loop-again c = search rules
 
-returns-2 : tie.Need-returns-2 Inv-loop μ-loop
-returns-2 c = search rules
+returns-3 : tie.Need-returns-3 Inv-loop μ-loop
+returns-3 c = search rules
 
 pub all-stand-spec : {M : Type 1} → statement M
 all-stand-spec =
@@ -59,6 +79,7 @@ all-stand-spec =
     Inv-loop
     μ-loop
     loop-holds
+    sub-i
     mul-a
     add-a
     add-e
@@ -67,7 +88,14 @@ all-stand-spec =
     part-stands-end
     stands-requires
     returns
-    add-i
+    sub-key-of
+    part-key-of-start
+    part-key-of-end
+    key-of-requires
+    array-read-if2
+    returns-2
+    array-write-taken
+    array-write-taken-2
     loop-less
     loop-again
-    returns-2)
+    returns-3)

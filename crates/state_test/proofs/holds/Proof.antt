@@ -18,17 +18,17 @@ wide-requires c κs = search rules
 returns-2 : tie.Need-returns-2
 returns-2 c = search rules
 
-sub-all-apart : tie.Need-sub-all-apart
-sub-all-apart c = search rules
+sub-all-differ : tie.Need-sub-all-differ
+sub-all-differ c = search rules
 
-part-all-apart-start : tie.Need-part-all-apart-start
-part-all-apart-start c = search rules
+part-all-differ-start : tie.Need-part-all-differ-start
+part-all-differ-start c = search rules
 
-part-all-apart-end : tie.Need-part-all-apart-end
-part-all-apart-end c = search rules
+part-all-differ-end : tie.Need-part-all-differ-end
+part-all-differ-end c = search rules
 
-all-apart-requires : tie.Need-all-apart-requires
-all-apart-requires c κs = search rules
+all-differ-requires : tie.Need-all-differ-requires
+all-differ-requires c κs = search rules
 
 returns-3 : tie.Need-returns-3
 returns-3 c = search rules
@@ -42,8 +42,8 @@ holds-spec =
     shared-slice-read-wide
     wide-requires
     returns-2
-    sub-all-apart
-    part-all-apart-start
-    part-all-apart-end
-    all-apart-requires
+    sub-all-differ
+    part-all-differ-start
+    part-all-differ-end
+    all-differ-requires
     returns-3)

@@ -1,14 +1,15 @@
 -- written by tools/scaffold, which keeps the answers that are not a plain search
 use Rattle.table.specs.Table.{freePlace}
-use Rattle.state_layout.specs.Layout.{placeSize, placesAt, processFrom, areApart}
+use Rattle.state_layout.specs.Layout.{placeSize, placesAt, processFrom}
+use Rattle.state_test.specs.Digests.{otherNames}
 use Rattle.rows.proofs.Loops.{LaterTo}
 use Prim.Native.Nat.{_-_}
 use Rattle.state_test.proofs.Rules.{rules}
-use Rattle.state_test.proofs.is_apart.Statement.{statement}
-use Rattle.state_test.proofs.is_apart.Tie as tie
+use Rattle.state_test.proofs.differs_later.Statement.{statement}
+use Rattle.state_test.proofs.differs_later.Tie as tie
 
 abbrev Inv-loop : tie.InvT-loop
-Inv-loop s n i a e j₀ j = LaterTo areApart processFrom n placeSize placesAt s freePlace i j
+Inv-loop s n i a e j₀ j = LaterTo otherNames processFrom n placeSize placesAt s freePlace i j
 
 abbrev μ-loop : tie.MeasureT-loop
 μ-loop s n i a e j₀ j = n - j
@@ -37,26 +38,26 @@ add-f c = search rules
 add-g : tie.Need-add-g Inv-loop μ-loop
 add-g c = search rules
 
-sub-are-apart : tie.Need-sub-are-apart Inv-loop μ-loop
-sub-are-apart c = search rules
+sub-names-differ : tie.Need-sub-names-differ Inv-loop μ-loop
+sub-names-differ c = search rules
 
-part-are-apart-start : tie.Need-part-are-apart-start Inv-loop μ-loop
-part-are-apart-start c = search rules
+part-names-differ-start : tie.Need-part-names-differ-start Inv-loop μ-loop
+part-names-differ-start c = search rules
 
-part-are-apart-end : tie.Need-part-are-apart-end Inv-loop μ-loop
-part-are-apart-end c = search rules
+part-names-differ-end : tie.Need-part-names-differ-end Inv-loop μ-loop
+part-names-differ-end c = search rules
 
-sub-are-apart-2 : tie.Need-sub-are-apart-2 Inv-loop μ-loop
-sub-are-apart-2 c = search rules
+sub-names-differ-2 : tie.Need-sub-names-differ-2 Inv-loop μ-loop
+sub-names-differ-2 c = search rules
 
-part-are-apart-start-2 : tie.Need-part-are-apart-start-2 Inv-loop μ-loop
-part-are-apart-start-2 c = search rules
+part-names-differ-start-2 : tie.Need-part-names-differ-start-2 Inv-loop μ-loop
+part-names-differ-start-2 c = search rules
 
-part-are-apart-end-2 : tie.Need-part-are-apart-end-2 Inv-loop μ-loop
-part-are-apart-end-2 c = search rules
+part-names-differ-end-2 : tie.Need-part-names-differ-end-2 Inv-loop μ-loop
+part-names-differ-end-2 c = search rules
 
-are-apart-requires : tie.Need-are-apart-requires Inv-loop μ-loop
-are-apart-requires c κs = search rules
+names-differ-requires : tie.Need-names-differ-requires Inv-loop μ-loop
+names-differ-requires c κs = search rules
 
 returns : tie.Need-returns Inv-loop μ-loop
 returns c = search rules
@@ -73,8 +74,8 @@ loop-again c = search rules
 returns-2 : tie.Need-returns-2 Inv-loop μ-loop
 returns-2 c = search rules
 
-pub is-apart-spec : {M : Type 1} → statement M
-is-apart-spec =
+pub differs-later-spec : {M : Type 1} → statement M
+differs-later-spec =
     tie.close
     (tie.spec
     Inv-loop
@@ -87,13 +88,13 @@ is-apart-spec =
     mul-f
     add-f
     add-g
-    sub-are-apart
-    part-are-apart-start
-    part-are-apart-end
-    sub-are-apart-2
-    part-are-apart-start-2
-    part-are-apart-end-2
-    are-apart-requires
+    sub-names-differ
+    part-names-differ-start
+    part-names-differ-end
+    sub-names-differ-2
+    part-names-differ-start-2
+    part-names-differ-end-2
+    names-differ-requires
     returns
     add-j-2
     loop-less
