@@ -1,22 +1,53 @@
 //! That all three programs do the same, before anything is timed.
 
-use crate::input::{Call, Input};
-use crate::numbers::{DONE, NOT_GRANTED};
+use crate::costs;
+use crate::file::Recorded;
+use crate::input::{all, Input, Named, MIXED};
+use crate::numbers::DONE;
 use crate::ordinary;
 use crate::structured::Module;
 use slavotuk::entries::{self, RawClaim};
 use slavotuk::layout::state::{place_at, COUNT_AT, LENGTH, NEXT, PLACES_AT};
 use slavotuk::PLACES;
 
-/// Runs the whole input, calls with more than one fault, and calls on slices that hold no state; the first difference is told.
-pub fn check(input: &Input) -> Result<(), String> {
-    check_calls(input)?;
-    check_many_faults(input)?;
-    check_changed_bytes(input)?;
-    check_lengths(input)
+/// The session, the claim and the class of a call.
+type Arguments = (u32, RawClaim, u32);
+
+/// Compares everything with so many calls: the answers to all inputs that have a name, and those on states that are damaged.
+pub fn check(calls: usize) -> Result<(), String> {
+    all().try_for_each(|named| check_calls(&named.input(calls)).map(drop))?;
+    MIXED.iter().try_for_each(check_state)?;
+    costs::check()
 }
 
-fn check_calls(input: &Input) -> Result<(), String> {
+/// Calls with more than one fault, and calls on slices that hold no state; the first difference is told.
+fn check_state(named: &Named) -> Result<(), String> {
+    let state = named.state();
+    check_many_faults(&state)
+        .and_then(|()| check_changed_bytes(&state))
+        .and_then(|()| check_lengths(&state))
+        .map_err(|difference| format!("{}: {difference}", named.name))
+}
+
+/// Makes all calls of a file, and asks that they leave the state that it says.
+pub fn check_recorded(recorded: &Recorded) -> Result<(), String> {
+    let Recorded { input, left } = recorded;
+    let made = check_calls(input)?;
+    match (0..made.len()).find(|&at| made[at] != left[at]) {
+        None => Ok(()),
+        Some(at) => Err(format!(
+            "{}: the calls leave {} in byte {at} of the state, and the line `left` says {}",
+            input.name, made[at], left[at]
+        )),
+    }
+}
+
+/// Makes all calls of an input, and answers the state that they leave; the first difference is told.
+pub fn check_calls(input: &Input) -> Result<Vec<u8>, String> {
+    left_by_three(input).map_err(|difference| format!("{}: {difference}", input.name))
+}
+
+fn left_by_three(input: &Input) -> Result<Vec<u8>, String> {
     let mut by_entry = input.state.clone();
     let mut by_ordinary = input.state.clone();
     let mut module = Module::from_bytes(&input.state);
@@ -42,37 +73,45 @@ fn check_calls(input: &Input) -> Result<(), String> {
     if module.to_bytes() != by_entry {
         return Err("entry and structured ended in different states".to_string());
     }
-    Ok(())
+    Ok(by_entry)
 }
 
 /// Calls with every choice of faults, on the starting state and on the same with its first process spent: so the order of the checks is compared too.
-fn check_many_faults(input: &Input) -> Result<(), String> {
-    let mut spent = input.state.clone();
+fn check_many_faults(state: &[u8]) -> Result<(), String> {
+    let calls = many_calls();
+    calls
+        .iter()
+        .try_for_each(|&call| check_three(state, call))?;
+    if state[COUNT_AT] == 0 {
+        return Ok(());
+    }
+    let mut spent = state.to_vec();
     spent[place_at(0) + NEXT..][..2].fill(0xff);
-    for state in [&input.state, &spent] {
-        for (session, claim, class) in many_calls() {
-            let mut by_entry = state.clone();
-            let mut by_ordinary = state.clone();
-            let mut module = Module::from_bytes(state);
-            let entry = entries::record(&mut by_entry, session, claim, class);
-            let ordinary = ordinary::record(&mut by_ordinary, session, claim, class);
-            let structured = module.record(session, claim, class);
-            if [ordinary, structured] != [entry; 2] {
-                return Err(format!(
-                    "entry {entry}, ordinary {ordinary}, structured {structured}: session {session}, {claim:?}, class {class}"
-                ));
-            }
-            if by_ordinary != by_entry || module.to_bytes() != by_entry {
-                return Err(format!(
-                    "different bytes after session {session}, {claim:?}, class {class}"
-                ));
-            }
-        }
+    calls.iter().try_for_each(|&call| check_three(&spent, call))
+}
+
+/// One call by the three programs, on a slice that holds a state.
+fn check_three(state: &[u8], (session, claim, class): Arguments) -> Result<(), String> {
+    let mut by_entry = state.to_vec();
+    let mut by_ordinary = state.to_vec();
+    let mut module = Module::from_bytes(state);
+    let entry = entries::record(&mut by_entry, session, claim, class);
+    let ordinary = ordinary::record(&mut by_ordinary, session, claim, class);
+    let structured = module.record(session, claim, class);
+    if [ordinary, structured] != [entry; 2] {
+        return Err(format!(
+            "entry {entry}, ordinary {ordinary}, structured {structured}: session {session}, {claim:?}, class {class}"
+        ));
+    }
+    if by_ordinary != by_entry || module.to_bytes() != by_entry {
+        return Err(format!(
+            "different bytes after session {session}, {claim:?}, class {class}"
+        ));
     }
     Ok(())
 }
 
-fn many_calls() -> Vec<(u32, RawClaim, u32)> {
+fn many_calls() -> Vec<Arguments> {
     let mut calls = Vec::new();
     for session in 0..=4 {
         for kind in 0..=2 {
@@ -96,22 +135,20 @@ fn many_calls() -> Vec<(u32, RawClaim, u32)> {
     calls
 }
 
-/// The calls whose claims pass on every slice that differs from the starting state in one byte: most hold no state.
-fn check_changed_bytes(input: &Input) -> Result<(), String> {
-    let calls = passing_calls(input)?;
-    for at in 0..input.state.len() {
+/// The calls on every slice that differs from a state in one byte: most hold none.
+fn check_changed_bytes(state: &[u8]) -> Result<(), String> {
+    for at in 0..state.len() {
         for byte in 0..=255 {
-            let mut changed = input.state.clone();
+            let mut changed = state.to_vec();
             changed[at] = byte;
-            check_slice(&changed, calls)
+            check_slice(&changed)
                 .map_err(|difference| format!("byte {at} changed to {byte}: {difference}"))?;
         }
     }
     Ok(())
 }
 
-fn check_lengths(input: &Input) -> Result<(), String> {
-    let calls = passing_calls(input)?;
+fn check_lengths(state: &[u8]) -> Result<(), String> {
     for length in [
         0,
         1,
@@ -121,44 +158,88 @@ fn check_lengths(input: &Input) -> Result<(), String> {
         LENGTH + 1,
         place_at(PLACES + 1),
     ] {
-        let mut changed = input.state.clone();
+        let mut changed = state.to_vec();
         changed.resize(length, 0);
-        check_slice(&changed, calls)
+        check_slice(&changed)
             .map_err(|difference| format!("a slice of {length} bytes: {difference}"))?;
     }
     Ok(())
 }
 
-/// Two calls on the starting state whose claims pass their check: one that is accepted, and one that is refused by its class and spends its number too.
-fn passing_calls(input: &Input) -> Result<[Call; 2], String> {
-    let accepted = input
-        .calls
-        .iter()
-        .copied()
-        .find(|call| call.number == DONE && call.claim.number == 0)
-        .ok_or("the input has no accepted call")?;
-    let refused = Call {
-        class: accepted.class + 1,
-        number: NOT_GRANTED,
-        ..accepted
-    };
-    Ok([accepted, refused])
+/// Two calls whose claims pass their check where one process stands or more: one that is accepted, and one that is refused by its class and spends its number
+/// too.
+const PASSING: [Arguments; 2] = [(0, RawClaim::user(0, 0), 4), (0, RawClaim::user(0, 0), 5)];
+
+/// What is asked of any slice: the test by itself, and the two calls.
+fn check_slice(slice: &[u8]) -> Result<(), String> {
+    let (entry, ordinary) = (entries::holds(slice) == DONE, ordinary::holds(slice));
+    if entry != ordinary {
+        return Err(format!("entry holds {entry}, ordinary {ordinary}"));
+    }
+    PASSING.iter().try_for_each(|&call| check_call(slice, call))
 }
 
-fn check_slice(slice: &[u8], calls: [Call; 2]) -> Result<(), String> {
-    calls.iter().try_for_each(|call| check_call(slice, call))
-}
-
-fn check_call(slice: &[u8], call: &Call) -> Result<(), String> {
+fn check_call(slice: &[u8], (session, claim, class): Arguments) -> Result<(), String> {
     let mut by_entry = slice.to_vec();
     let mut by_ordinary = slice.to_vec();
-    let entry = entries::record(&mut by_entry, call.session, call.claim, call.class);
-    let ordinary = ordinary::record(&mut by_ordinary, call.session, call.claim, call.class);
+    let entry = entries::record(&mut by_entry, session, claim, class);
+    let ordinary = ordinary::record(&mut by_ordinary, session, claim, class);
     if entry != ordinary {
-        return Err(format!("entry {entry}, ordinary {ordinary}: {call:?}"));
+        return Err(format!(
+            "entry {entry}, ordinary {ordinary}: {claim:?}, class {class}"
+        ));
     }
     if by_entry != by_ordinary {
-        return Err(format!("entry and ordinary left different bytes: {call:?}"));
+        return Err(format!(
+            "entry and ordinary left different bytes: {claim:?}, class {class}"
+        ));
     }
     Ok(())
+}
+
+#[cfg(test)]
+mod tests {
+    use super::*;
+    use crate::input::find;
+    use crate::numbers::NOT_GRANTED;
+
+    #[test]
+    fn named_inputs_are_answered_as_planned() {
+        for named in all() {
+            for calls in [16, 1_600] {
+                let left = check_calls(&named.input(calls));
+                assert!(left.is_ok(), "{}: {left:?}", named.name);
+            }
+        }
+    }
+
+    #[test]
+    fn a_call_that_is_answered_otherwise_is_told() {
+        let mut input = find("series-last").unwrap().input(100);
+        input.calls[7].number = NOT_GRANTED;
+        let told = check_calls(&input).unwrap_err();
+        let begins = "series-last: call 7: entry 0, ordinary 0, structured 0, planned 10: ";
+        assert!(told.starts_with(begins), "{told}");
+    }
+
+    #[test]
+    fn a_state_that_is_left_otherwise_is_told() {
+        let input = find("one").unwrap().input(16);
+        let left = check_calls(&input).unwrap();
+        let mut recorded = Recorded { input, left };
+        assert_eq!(check_recorded(&recorded), Ok(()));
+        recorded.left[1] = 1;
+        let told = "one: the calls leave 2 in byte 1 of the state, and the line `left` says 1";
+        assert_eq!(check_recorded(&recorded), Err(told.to_string()));
+    }
+
+    #[test]
+    fn the_two_calls_pass_where_one_stands() {
+        for named in MIXED.iter().filter(|named| named.standing > 0) {
+            let numbers = PASSING.map(|(session, claim, class)| {
+                entries::record(&mut named.state(), session, claim, class)
+            });
+            assert_eq!(numbers, [DONE, NOT_GRANTED], "{}", named.name);
+        }
+    }
 }

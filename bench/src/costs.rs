@@ -1,8 +1,9 @@
 //! What calls of the other entries cost, beside an accepted record.
 
-use crate::input::{self, Differ};
 use crate::numbers::*;
-use crate::timing::{median, nanoseconds};
+use crate::programs::nanoseconds;
+use crate::states::{credentials, standing_state, Differ};
+use crate::timing::median;
 use slavotuk::entries::{self, RawClaim};
 use slavotuk::{FULL_LISTING_LENGTH, NAME_LENGTH, PLACES};
 
@@ -106,7 +107,7 @@ pub const CASES: [Case; 9] = [
         calls: 1,
         before: Some,
         turn: |lent, _| {
-            let (provisioned, words) = input::credentials();
+            let (provisioned, words) = credentials();
             entries::fresh(&mut lent.state, &provisioned, &words) == DONE
         },
     },
@@ -128,7 +129,7 @@ fn claim(credential: u32, number: u16) -> RawClaim {
 impl Case {
     fn lend(&self, standing: usize) -> Option<Lent> {
         (self.before)(standing).map(|before| Lent {
-            state: input::standing_state(before, Differ::LastByte),
+            state: standing_state(before, Differ::LastByte),
             response: [0; FULL_LISTING_LENGTH],
         })
     }

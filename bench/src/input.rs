@@ -1,117 +1,19 @@
 //! What is measured on: a state and a row of record calls, the same on every run.
 
-use crate::numbers::*;
-use slavotuk::entries::{self, RawClaim};
-use slavotuk::{NAME_LENGTH, STATE_LENGTH};
+use crate::draw;
+use crate::numbers::{DONE, VERDICT};
+use crate::states::{standing_state, users, Differ};
+use slavotuk::entries::RawClaim;
+use std::collections::BTreeMap;
 
-/// What the calls are drawn from.
-pub const SEED: u64 = 20_261_115;
+/// How many calls the order asks for.
+pub const ORDERED_CALLS: usize = 100_000;
 
-/// The fewest calls an input has, so that it has a refusal of every kind.
-pub const FEWEST_CALLS: usize = 16;
-
-/// The most calls an input has. The claims of nine in sixteen pass their check, those that are accepted and those that get 10, all under one process where one
-/// stands, and none may be spent.
-pub const MOST_CALLS: usize = 2 * 58_253;
-
-/// The numbers of the refused calls, each given as often as the others.
-const REFUSALS: [u32; 8] = [
-    ARGUMENT,
-    SESSION,
-    NO_VERSION,
-    CREDENTIAL,
-    NO_PROCESS,
-    VERDICT,
-    OUT_OF_TURN,
-    NOT_GRANTED,
-];
-
-const WITHOUT_VERSION: u32 = 2;
-const CLOSED: u32 = 3;
-const UNPROVISIONED: u32 = 7;
-/// Classes 0, 2, 4 and so on to 30.
-const WORD: u32 = 0x5555_5555;
-
-/// How many processes stand.
-#[derive(Clone, Copy, PartialEq, Eq)]
-pub enum Standing {
-    Twelve,
-    One,
-}
-
-/// Where the names of two processes differ: in one byte, the other 47 being equal.
-#[derive(Clone, Copy, PartialEq, Eq)]
-pub enum Differ {
-    FirstByte,
-    LastByte,
-}
-
-/// One of the four settings.
-#[derive(Clone, Copy)]
-pub struct Setting {
-    pub standing: Standing,
-    pub differ: Differ,
-}
-
-/// The settings, in the order they are reported.
-pub const SETTINGS: [Setting; 4] = [
-    Setting {
-        standing: Standing::Twelve,
-        differ: Differ::FirstByte,
-    },
-    Setting {
-        standing: Standing::Twelve,
-        differ: Differ::LastByte,
-    },
-    Setting {
-        standing: Standing::One,
-        differ: Differ::FirstByte,
-    },
-    Setting {
-        standing: Standing::One,
-        differ: Differ::LastByte,
-    },
-];
-
-impl Standing {
-    /// How it is called in the report.
-    pub fn name(self) -> &'static str {
-        match self {
-            Standing::Twelve => "twelve",
-            Standing::One => "one",
-        }
-    }
-
-    fn count(self) -> usize {
-        match self {
-            Standing::Twelve => 12,
-            Standing::One => 1,
-        }
-    }
-}
-
-impl Differ {
-    /// How it is called in the report.
-    pub fn name(self) -> &'static str {
-        match self {
-            Differ::FirstByte => "first byte",
-            Differ::LastByte => "last byte",
-        }
-    }
-
-    fn process_name(self, process: usize) -> [u8; NAME_LENGTH] {
-        let mut name = [0x5a; NAME_LENGTH];
-        let at = match self {
-            Differ::FirstByte => 0,
-            Differ::LastByte => NAME_LENGTH - 1,
-        };
-        name[at] = process as u8;
-        name
-    }
-}
+/// A class that every provisioned credential has.
+const GRANTED: u32 = 4;
 
 /// One record call, and the number it has to get.
-#[derive(Clone, Copy, Debug)]
+#[derive(Clone, Copy, Debug, PartialEq, Eq)]
 pub struct Call {
     pub session: u32,
     pub claim: RawClaim,
@@ -120,199 +22,175 @@ pub struct Call {
 }
 
 /// The state that each round starts from, and the calls on it.
+#[derive(Debug, PartialEq, Eq)]
 pub struct Input {
+    pub name: String,
     pub state: Vec<u8>,
     pub calls: Vec<Call>,
 }
 
 impl Input {
-    /// The input of a setting.
-    pub fn new(setting: Setting, calls: usize) -> Input {
-        let mut random = Random(SEED);
-        let standing = setting.standing.count();
-        let mut planner = Planner::new(users().take(standing).collect());
-        let calls = numbers_in_order(calls, &mut random)
-            .into_iter()
-            .map(|number| planner.call(number, &mut random))
-            .collect();
+    /// How many calls have to get each number.
+    pub fn tally(&self) -> BTreeMap<u32, usize> {
+        let mut tally = BTreeMap::new();
+        for call in &self.calls {
+            *tally.entry(call.number).or_default() += 1;
+        }
+        tally
+    }
+}
+
+/// An input that has a name.
+pub struct Named {
+    pub name: &'static str,
+    pub standing: usize,
+    differ: Differ,
+    pub row: Row,
+}
+
+/// What its calls are.
+#[derive(Clone, Copy, PartialEq, Eq)]
+pub enum Row {
+    /// Drawn: half accepted, the others refused in eight ways.
+    Mixed,
+    /// All of one process in a row, then all of the next, accepted.
+    Series,
+    /// The same, each refused at the last test of its claim.
+    Refused,
+}
+
+const fn named(name: &'static str, standing: usize, differ: Differ, row: Row) -> Named {
+    Named {
+        name,
+        standing,
+        differ,
+        row,
+    }
+}
+
+/// In the order they are reported. Where fewer than two stand, there are no names that differ.
+pub static MIXED: [Named; 8] = [
+    named("twelve-first", 12, Differ::FirstByte, Row::Mixed),
+    named("twelve-last", 12, Differ::LastByte, Row::Mixed),
+    named("eight-first", 8, Differ::FirstByte, Row::Mixed),
+    named("eight-last", 8, Differ::LastByte, Row::Mixed),
+    named("four-first", 4, Differ::FirstByte, Row::Mixed),
+    named("four-last", 4, Differ::LastByte, Row::Mixed),
+    named("one", 1, Differ::FirstByte, Row::Mixed),
+    named("none", 0, Differ::FirstByte, Row::Mixed),
+];
+
+pub static SERIES: [Named; 2] = [
+    named("series-first", 12, Differ::FirstByte, Row::Series),
+    named("series-last", 12, Differ::LastByte, Row::Series),
+];
+
+pub static REFUSED: [Named; 2] = [
+    named("refused-first", 12, Differ::FirstByte, Row::Refused),
+    named("refused-last", 12, Differ::LastByte, Row::Refused),
+];
+
+/// Every input that has a name.
+pub fn all() -> impl Iterator<Item = &'static Named> {
+    MIXED.iter().chain(&SERIES).chain(&REFUSED)
+}
+
+/// The input of that name.
+pub fn find(name: &str) -> Option<&'static Named> {
+    all().find(|named| named.name == name)
+}
+
+impl Named {
+    /// The state before its first call.
+    pub fn state(&self) -> Vec<u8> {
+        standing_state(self.standing, self.differ)
+    }
+
+    /// The input with so many calls: a tenth of them for each process of a series.
+    pub fn input(&self, calls: usize) -> Input {
         Input {
-            state: standing_state(standing, setting.differ),
-            calls,
-        }
-    }
-}
-
-/// How often each number is given, in the order of the numbers.
-pub fn mix(calls: usize) -> Vec<(u32, usize)> {
-    let refused = calls - calls / 2;
-    let counts = REFUSALS.iter().enumerate().map(|(at, &number)| {
-        let one_more = usize::from(at < refused % REFUSALS.len());
-        (number, refused / REFUSALS.len() + one_more)
-    });
-    std::iter::once((DONE, calls / 2)).chain(counts).collect()
-}
-
-/// The numbers of all calls, shuffled.
-fn numbers_in_order(calls: usize, random: &mut Random) -> Vec<u32> {
-    let mut numbers: Vec<u32> = mix(calls)
-        .into_iter()
-        .flat_map(|(number, count)| std::iter::repeat(number).take(count))
-        .collect();
-    for at in (1..numbers.len()).rev() {
-        numbers.swap(at, random.below(at + 1));
-    }
-    numbers
-}
-
-/// The active user processes of the first places: session and credential. The eleventh and the twelfth place have none.
-fn users() -> impl Iterator<Item = (u32, u32)> {
-    let in_session_0 = (0..6).map(|credential| (0, credential));
-    let in_session_1 = (0..4).map(|credential| (1, credential));
-    in_session_0.chain(in_session_1)
-}
-
-/// The credentials that a module is made of: provisioned or not, and the words.
-pub fn credentials() -> ([u8; 8], [u32; 8]) {
-    let mut provisioned = [1; 8];
-    let mut words = [WORD; 8];
-    provisioned[UNPROVISIONED as usize] = 0;
-    words[UNPROVISIONED as usize] = 0;
-    (provisioned, words)
-}
-
-/// A state with the first places taken, at most twelve, made by the entries.
-pub fn standing_state(standing: usize, differ: Differ) -> Vec<u8> {
-    let mut state = vec![0; STATE_LENGTH];
-    let (provisioned, words) = credentials();
-    done(entries::fresh(&mut state, &provisioned, &words));
-    for session in 0..3 {
-        done(entries::open(&mut state, session));
-    }
-    for session in 0..2 {
-        done(entries::select(&mut state, session, 0x10));
-    }
-    let name = |place| differ.process_name(place);
-    for (place, (session, credential)) in users().enumerate().take(standing) {
-        done(entries::start(
-            &mut state,
-            session,
-            credential,
-            &name(place),
-        ));
-    }
-    if standing > 10 {
-        done(entries::elevate(&mut state, 0, 6, &name(10), 1));
-    }
-    if standing > 11 {
-        done(entries::start(&mut state, 1, 6, &name(11)));
-        done(entries::end(&mut state, 1, 6, 0, 1, 1));
-    }
-    state
-}
-
-fn done(number: u32) {
-    assert_eq!(
-        number, DONE,
-        "a call that makes the starting state was refused"
-    );
-}
-
-/// Makes calls that get the numbers asked for, and keeps the next numbers.
-struct Planner {
-    /// Session, credential, next number.
-    active: Vec<(u32, u32, u16)>,
-    /// Session and provisioned credential without an active user process.
-    idle: Vec<(u32, u32)>,
-}
-
-impl Planner {
-    fn new(active_users: Vec<(u32, u32)>) -> Planner {
-        let idle = (0..2)
-            .flat_map(|session| (0..UNPROVISIONED).map(move |credential| (session, credential)))
-            .filter(|pair| !active_users.contains(pair))
-            .collect();
-        let active = active_users
-            .into_iter()
-            .map(|(session, credential)| (session, credential, 0))
-            .collect();
-        Planner { active, idle }
-    }
-
-    fn call(&mut self, number: u32, random: &mut Random) -> Call {
-        let place = random.below(self.active.len());
-        let (session, credential, next) = self.active[place];
-        let mut call = Call {
-            session,
-            claim: RawClaim {
-                kind: 0,
-                credential,
-                number: next,
-                verdict: 1,
+            name: self.name.to_string(),
+            state: self.state(),
+            calls: match self.row {
+                Row::Mixed => draw::calls(self.standing, calls),
+                Row::Series => series(calls / users().count(), accepted),
+                Row::Refused => series(calls / users().count(), refused),
             },
-            class: 4 + 2 * random.below(14) as u32,
-            number,
-        };
-        match number {
-            DONE => self.active[place].2 += 1,
-            ARGUMENT => spoil_argument(&mut call, random),
-            SESSION => call.session = CLOSED,
-            NO_VERSION => call.session = WITHOUT_VERSION,
-            CREDENTIAL => call.claim.credential = UNPROVISIONED,
-            NO_PROCESS => self.miss_process(&mut call, random),
-            VERDICT => call.claim.verdict = 0,
-            OUT_OF_TURN => {
-                call.claim.number = if random.below(2) == 0 {
-                    next.wrapping_sub(1)
-                } else {
-                    next + 1
-                }
-            }
-            NOT_GRANTED => {
-                call.class += 1;
-                self.active[place].2 += 1;
-            }
-            other => unreachable!("no call is planned to get {other}"),
-        }
-        call
-    }
-
-    /// An elevated claim in the session without an elevation, or a user's without a process.
-    fn miss_process(&self, call: &mut Call, random: &mut Random) {
-        if random.below(2) == 0 {
-            call.session = 1;
-            call.claim.kind = 1;
-        } else {
-            let (session, credential) = self.idle[random.below(self.idle.len())];
-            call.session = session;
-            call.claim.credential = credential;
         }
     }
 }
 
-fn spoil_argument(call: &mut Call, random: &mut Random) {
-    match random.below(6) {
-        0 => call.session = 4,
-        1 => call.claim.kind = 2,
-        2 => call.claim.credential = 8,
-        3 => call.claim.verdict = 2,
-        4 => call.class = 3,
-        _ => call.class = 32,
+/// So many records of each active user process, one process after another.
+fn series(records: usize, record: fn(u32, u32, u16) -> Call) -> Vec<Call> {
+    let numbers = 0..records as u16;
+    users()
+        .flat_map(|(session, credential)| {
+            numbers
+                .clone()
+                .map(move |number| record(session, credential, number))
+        })
+        .collect()
+}
+
+fn accepted(session: u32, credential: u32, number: u16) -> Call {
+    Call {
+        session,
+        claim: RawClaim::user(credential, number),
+        class: GRANTED,
+        number: DONE,
     }
 }
 
-/// SplitMix64.
-struct Random(u64);
+/// Nothing is spent, so every call's turn is that of number 0.
+fn refused(session: u32, credential: u32, _: u16) -> Call {
+    Call {
+        session,
+        claim: RawClaim {
+            verdict: 0,
+            ..RawClaim::user(credential, 0)
+        },
+        class: GRANTED,
+        number: VERDICT,
+    }
+}
 
-impl Random {
-    fn next(&mut self) -> u64 {
-        self.0 = self.0.wrapping_add(0x9e37_79b9_7f4a_7c15);
-        let mut word = self.0;
-        word = (word ^ (word >> 30)).wrapping_mul(0xbf58_476d_1ce4_e5b9);
-        word = (word ^ (word >> 27)).wrapping_mul(0x94d0_49bb_1331_11eb);
-        word ^ (word >> 31)
+#[cfg(test)]
+mod tests {
+    use super::*;
+    use crate::numbers::NO_PROCESS;
+
+    #[test]
+    fn half_of_the_orders_calls_are_accepted_and_each_refusal_is_as_frequent() {
+        for named in MIXED.iter().filter(|named| named.standing > 0) {
+            let tally = named.input(ORDERED_CALLS).tally();
+            let refusals = [1, 2, 3, 5, 6, 8, 9, 10].map(|number| (number, 6_250));
+            let expected = [(DONE, 50_000)].into_iter().chain(refusals).collect();
+            assert_eq!(tally, expected, "{}", named.name);
+        }
     }
 
-    fn below(&mut self, bound: usize) -> usize {
-        (self.next() % bound as u64) as usize
+    #[test]
+    fn with_none_standing_no_claim_passes() {
+        let tally = find("none").unwrap().input(ORDERED_CALLS).tally();
+        let missed = 50_000 + 4 * 6_250;
+        let expected = [
+            (1, 6_250),
+            (2, 6_250),
+            (3, 6_250),
+            (5, 6_250),
+            (NO_PROCESS, missed),
+        ];
+        assert_eq!(tally, BTreeMap::from(expected));
+    }
+
+    #[test]
+    fn a_series_has_a_tenth_of_the_calls_for_each_process() {
+        for (row, number) in [(&SERIES, DONE), (&REFUSED, VERDICT)] {
+            for named in row {
+                let tally = named.input(ORDERED_CALLS).tally();
+                assert_eq!(tally, BTreeMap::from([(number, 100_000)]));
+                assert_eq!(named.input(16).calls.len(), 10);
+            }
+        }
     }
 }

@@ -1,198 +1,184 @@
-//! Times the record entry beside ordinary Rust with the same answers on the same slice, the other entries beside the record, and the program that prints
-//! figures beside `cksum`.
+//! Times the record entry beside ordinary Rust with the same answers on the same slice and counts its instructions, holds both to the bound of order 12, and times
+//! the other entries beside the record and the program that prints figures beside `cksum`.
 
 mod agreement;
+mod bound;
 mod costs;
+mod counts;
+mod draw;
 mod figures;
+mod file;
 mod input;
 mod numbers;
+mod options;
 mod ordinary;
+mod parts;
+mod programs;
+mod report;
+mod source;
+mod states;
 mod structured;
 mod timing;
 
+use bound::Ratios;
+use counts::Counter;
 use figures::Bench;
-use input::{Input, Setting, SETTINGS};
+use file::Recorded;
+use input::{Named, Row, MIXED, ORDERED_CALLS, SERIES};
+use options::Command;
+use source::{Source, Subject};
+use std::path::{Path, PathBuf};
 use std::process::ExitCode;
-use timing::Measured;
-
-const HELP: &str = "\
-slavotuk-bench: times the record entry beside ordinary Rust with the same answers, the other entries beside the record, and
-build/figures beside cksum
-
-usage: slavotuk-bench [--rounds N] [--calls N]
-
-  --rounds N   rounds that are timed, after a warm-up (61)
-  --calls N    record calls in a round, 16 to 116506 (100000)
-  --help       this text
-
-Exit code: 0 where all answers agree, whatever the times are; 1 where they differ, or there is no build/figures; 2 for bad usage.";
-
-struct Options {
-    rounds: usize,
-    calls: usize,
-}
 
 fn main() -> ExitCode {
-    let arguments: Vec<String> = std::env::args().skip(1).collect();
-    if arguments.iter().any(|argument| argument == "--help") {
-        println!("{HELP}");
-        return ExitCode::SUCCESS;
-    }
-    let options = match parse(&arguments) {
-        Ok(options) => options,
+    let words: Vec<String> = std::env::args().skip(1).collect();
+    let command = match options::parse(&words) {
+        Ok(command) => command,
         Err(fault) => {
-            eprintln!("slavotuk-bench: {fault}\n\n{HELP}");
+            eprintln!("slavotuk-bench: {fault}\n\n{}", options::HELP);
             return ExitCode::from(2);
         }
     };
-    match run(&options) {
-        Ok(()) => ExitCode::SUCCESS,
-        Err(difference) => {
-            eprintln!("slavotuk-bench: {difference}");
+    match done(command) {
+        Ok(true) => ExitCode::SUCCESS,
+        Ok(false) => ExitCode::FAILURE,
+        Err(fault) => {
+            eprintln!("slavotuk-bench: {fault}");
             ExitCode::FAILURE
         }
     }
 }
 
-fn parse(arguments: &[String]) -> Result<Options, String> {
-    let mut options = Options {
-        rounds: 61,
-        calls: 100_000,
-    };
-    let mut rest = arguments.iter();
-    while let Some(option) = rest.next() {
-        match option.as_str() {
-            "--rounds" => options.rounds = number_in(option, rest.next(), 1, 10_000)?,
-            "--calls" => {
-                options.calls =
-                    number_in(option, rest.next(), input::FEWEST_CALLS, input::MOST_CALLS)?
-            }
-            _ => return Err(format!("unknown argument '{option}'")),
+/// Whether the bound is kept, where it was asked for.
+fn done(command: Command) -> Result<bool, String> {
+    match command {
+        Command::Help => println!("{}", options::HELP),
+        Command::Everything { rounds, calls } => return everything(rounds, calls),
+        Command::Input { file, rounds } => of_file(&file, rounds)?,
+        Command::Write { named, file } => write(named, &file)?,
+        Command::Count { calls, bound } => return count(calls, bound),
+        Command::Agree { calls } => agree(calls)?,
+        Command::Emulate {
+            emulator,
+            plugin,
+            program,
+            calls,
+            bound,
+        } => {
+            let counter = Counter::emulator(&emulator, &plugin, &program);
+            return emulate(&counter, calls, bound);
+        }
+        Command::Run { source, program } => {
+            program.make_calls(&source.input()?);
         }
     }
-    Ok(options)
+    Ok(true)
 }
 
-fn number_in(
-    option: &str,
-    value: Option<&String>,
-    least: usize,
-    most: usize,
-) -> Result<usize, String> {
-    value
-        .and_then(|text| text.parse().ok())
-        .filter(|number| (least..=most).contains(number))
-        .ok_or_else(|| format!("{option} takes a number from {least} to {most}"))
-}
-
-fn run(options: &Options) -> Result<(), String> {
+fn everything(rounds: usize, calls: usize) -> Result<bool, String> {
     let figures = Bench::prepare()?;
-    describe_input(options);
-    let inputs = SETTINGS.map(|setting| (setting, Input::new(setting, options.calls)));
-    for (setting, input) in &inputs {
-        agreement::check(input).map_err(|difference| {
-            format!(
-                "{} standing, names differ in the {}: {difference}",
-                setting.standing.name(),
-                setting.differ.name()
-            )
-        })?;
-    }
-    costs::check()?;
-    println!("The three agree on every call of every setting and on calls with several faults. Entry and ordinary leave the same bytes, and agree on every slice that is one byte away.");
+    let counter = Counter::callgrind()?;
+    report::print_input(calls);
+    agree(calls)?;
     println!();
-    report_records(&inputs, options.rounds);
+    let ratios = records("Records", &MIXED, rounds, calls, &counter)?;
+    records("Series", &SERIES, rounds, calls, &counter)?;
+    let parts = parts::Subjects::new(calls);
+    report::print_parts(parts.times(rounds), parts.counts(&counter)?);
     println!();
-    report_costs(options.rounds);
+    report::print_costs(rounds);
     println!();
-    report_figures(&figures, options.rounds)
+    report::print_figures(&figures, rounds)?;
+    println!();
+    println!("{}", bound::goals(&ratios));
+    Ok(is_within(&ratios, bound::ORDERED))
 }
 
-fn report_records(inputs: &[(Setting, Input)], rounds: usize) {
-    println!("Records, medians of {rounds} alternating rounds:");
+/// Times and instructions of these inputs.
+fn records(
+    title: &str,
+    named: &'static [Named],
+    rounds: usize,
+    calls: usize,
+    counter: &Counter,
+) -> Result<[Ratios; 2], String> {
+    let subjects = subjects(named, calls);
+    let times = report::print_times(title, &subjects, rounds);
     println!();
-    println!("| standing | names differ in | entry, ns a call | ordinary, ns | structured, ns | entry/ordinary | entry/structured |");
-    println!("|---|---|---|---|---|---|---|");
-    let mut slower = 0;
-    for (setting, input) in inputs {
-        let measured = timing::measure(input, rounds);
-        print_row(setting, &measured);
-        slower += usize::from(measured.entry_to_ordinary > 1.0);
-    }
+    let counts = report::print_counts(title, &subjects, counter)?;
     println!();
-    match slower {
-        0 => println!("Every ratio entry/ordinary is at most 1.0."),
-        _ => println!("The ratio entry/ordinary is over 1.0 in {slower} of 4 settings."),
-    }
+    Ok([times, counts])
 }
 
-/// One row for each case: nanoseconds, and in brackets how many accepted records take as long.
-fn report_costs(rounds: usize) {
-    println!("Each call by itself, 10,000 times in a row, on the same states, names differing in the last byte: ns a call, and how many accepted records take as long. Medians of {rounds} alternating rounds:");
-    println!();
-    println!("| call | 0 standing | 1 standing | 12 standing |");
-    println!("|---|---|---|---|");
-    let figures = costs::measure(rounds);
-    for (case, of_case) in costs::CASES.iter().zip(&figures) {
-        let cells = of_case.iter().zip(&figures[0]).map(|pair| match pair {
-            (None, _) => "-".to_string(),
-            (Some(time), None) => format!("{time:.1}"),
-            (Some(time), Some(record)) => format!("{time:.1} ({:.1})", time / record),
-        });
-        println!(
-            "| {} | {} |",
-            case.name,
-            cells.collect::<Vec<_>>().join(" | ")
-        );
-    }
+fn subjects(named: &'static [Named], calls: usize) -> Vec<Subject> {
+    named
+        .iter()
+        .map(|named| Subject::named(named, calls))
+        .collect()
 }
 
-fn report_figures(figures: &Bench, rounds: usize) -> Result<(), String> {
-    println!("The program that prints figures, on {}. Medians of {rounds} alternating rounds, from the start of a process to its end:", figures::describe());
+fn of_file(file: &Path, rounds: usize) -> Result<(), String> {
+    let recorded = file::read(file)?;
+    report::print_file(&recorded.input);
+    agreement::check_recorded(&recorded)?;
     println!();
-    println!("| figures, ms | cksum, ms | figures/cksum |");
-    println!("|---|---|---|");
-    let figures::Measured {
-        figures,
-        cksum,
-        ratio,
-    } = figures.measure(rounds)?;
-    println!("| {figures:.1} | {cksum:.1} | {ratio:.1} |");
+    println!("The three agree on every call, with the file too, and leave the state that it says.");
+    println!();
+    let subjects = [Subject {
+        source: Source::File(absolute(file)?),
+        input: recorded.input,
+    }];
+    report::print_times("Records", &subjects, rounds);
+    println!();
+    report::print_counts("Records", &subjects, &Counter::callgrind()?)?;
     Ok(())
 }
 
-fn describe_input(options: &Options) {
-    println!(
-        "Input: {} record calls, drawn and shuffled by SplitMix64 from seed {}; half are accepted.",
-        options.calls,
-        input::SEED
-    );
-    println!();
-    println!("| number | name | calls |");
-    println!("|---|---|---|");
-    for (number, count) in input::mix(options.calls) {
-        println!("| {number} | {} | {count} |", numbers::name_of(number));
-    }
-    println!();
-    println!("Sessions 0 and 1 are open with version 1.0, session 2 without one, session 3 is closed. Credentials 0 to 6 are provisioned with classes 0, 2, 4 .. 30.");
-    println!("Twelve standing: user processes of credentials 0 to 5 in session 0 and of 0 to 3 in session 1, an elevation of 6 in session 0, a saved process of 6.");
-    println!("One standing: the user process of credential 0 in session 0. Two names differ in one byte, the first or the last.");
-    println!("Accepted: user claims in turn. Number 1: one of a session of 4, a kind of 2, a credential of 8, a verdict of 2, a class of 3, a class of 32, drawn evenly.");
-    println!("Number 6: an elevated claim in session 1 or a user claim without a process, drawn evenly. Number 9: one too high or one too low, drawn evenly.");
-    println!("Number 10: user claims in turn, of a class that is not granted; they spend their numbers as the accepted ones do.");
-    println!();
-    println!("entry: slavotuk_record. ordinary: plain Rust on the same slice, which it tests on each call. structured: plain Rust that keeps a struct and tests no slice.");
+/// So that no file is taken for an input of its name.
+fn absolute(file: &Path) -> Result<PathBuf, String> {
+    file.canonicalize()
+        .map_err(|error| format!("{}: {error}", file.display()))
 }
 
-fn print_row(setting: &Setting, measured: &Measured) {
-    println!(
-        "| {} | {} | {:.1} | {:.1} | {:.1} | {:.2} | {:.1} |",
-        setting.standing.name(),
-        setting.differ.name(),
-        measured.entry,
-        measured.ordinary,
-        measured.structured,
-        measured.entry_to_ordinary,
-        measured.entry_to_structured
-    );
+fn write(named: &'static Named, file: &Path) -> Result<(), String> {
+    let input = named.input(ORDERED_CALLS);
+    let left = agreement::check_calls(&input)?;
+    let drawn = match named.row {
+        Row::Mixed => format!("Drawn and shuffled by SplitMix64 from seed {}.", draw::SEED),
+        Row::Series | Row::Refused => "Nothing in it is drawn.".to_string(),
+    };
+    Recorded { input, left }.write(file, &drawn)?;
+    println!("{} is written to {}", named.name, file.display());
+    Ok(())
+}
+
+fn count(calls: usize, bound: f64) -> Result<bool, String> {
+    Bench::prepare()?;
+    agree(calls)?;
+    println!();
+    let subjects = subjects(bound::ordered(), calls);
+    let counts = report::print_counts("Records", &subjects, &Counter::callgrind()?)?;
+    println!();
+    Ok(is_within(&[counts], bound))
+}
+
+fn agree(calls: usize) -> Result<(), String> {
+    agreement::check(calls)?;
+    println!("The three agree on every call of every input and on calls with several faults. Entry and ordinary leave the same bytes, and agree on every slice that is one byte away.");
+    Ok(())
+}
+
+fn emulate(counter: &Counter, calls: usize, bound: f64) -> Result<bool, String> {
+    let counts = report::print_counts("Records", &subjects(&MIXED, calls), counter)?;
+    println!();
+    report::print_counts("Series", &subjects(&SERIES, calls), counter)?;
+    println!();
+    Ok(is_within(&[counts], bound))
+}
+
+/// Prints the verdict.
+fn is_within(ratios: &[Ratios], bound: f64) -> bool {
+    let verdict = bound::verdict(ratios, bound);
+    println!("{}", verdict.line);
+    verdict.is_within
 }

@@ -40,6 +40,11 @@ pub fn record(state: &mut [u8], session: u32, claim: RawClaim, class: u32) -> u3
 
 // ---- whether a slice holds a state
 
+/// The same test by itself.
+pub fn holds(state: &[u8]) -> bool {
+    holds_state(state)
+}
+
 fn holds_state(state: &[u8]) -> bool {
     if state.len() != STATE_LENGTH {
         return false;

@@ -1,79 +1,91 @@
-//! Alternating rounds, and their medians.
+//! Alternating rounds, their medians and their spread.
 
 use crate::input::Input;
-use crate::ordinary;
-use crate::structured::Module;
-use slavotuk::entries;
-use std::hint::black_box;
-use std::time::Instant;
+use crate::programs::Program;
 
 /// Rounds that are not counted.
 pub const WARM_UP_ROUNDS: usize = 2;
 
-/// Medians over the rounds: nanoseconds for one call, and the ratios of each round.
-pub struct Measured {
-    pub entry: f64,
-    pub ordinary: f64,
-    pub structured: f64,
-    pub entry_to_ordinary: f64,
-    pub entry_to_structured: f64,
+/// Nanoseconds for one call, of each round.
+pub struct Times(Vec<f64>);
+
+impl Times {
+    pub fn median(&self) -> f64 {
+        median(self.0.clone())
+    }
+
+    /// How many times as long as the other's calls these take.
+    pub fn to(&self, other: &Times) -> Ratio {
+        let rounds = self.0.iter().zip(&other.0);
+        let mut ratios: Vec<f64> = rounds.map(|(one, other)| one / other).collect();
+        ratios.sort_by(f64::total_cmp);
+        Ratio {
+            of_medians: self.median() / other.median(),
+            low: percentile(&ratios, 5.0),
+            high: percentile(&ratios, 95.0),
+        }
+    }
 }
 
-struct Round {
-    entry: f64,
-    ordinary: f64,
-    structured: f64,
+/// The ratio of two medians, and the ratios of single rounds between which nine in ten lie.
+pub struct Ratio {
+    pub of_medians: f64,
+    pub low: f64,
+    pub high: f64,
 }
 
-/// Times the three programs by turns.
-pub fn measure(input: &Input, rounds: usize) -> Measured {
+/// Times programs on inputs by turns.
+pub fn measure<const TURNS: usize>(
+    turns: [(Program, &Input); TURNS],
+    rounds: usize,
+) -> [Times; TURNS] {
+    let round = || turns.map(|(program, input)| program.make_calls(input));
     for _ in 0..WARM_UP_ROUNDS {
-        round(input);
+        round();
     }
-    let rounds: Vec<Round> = (0..rounds).map(|_| round(input)).collect();
-    let median_of = |figure: fn(&Round) -> f64| median(rounds.iter().map(figure).collect());
-    Measured {
-        entry: median_of(|round| round.entry),
-        ordinary: median_of(|round| round.ordinary),
-        structured: median_of(|round| round.structured),
-        entry_to_ordinary: median_of(|round| round.entry / round.ordinary),
-        entry_to_structured: median_of(|round| round.entry / round.structured),
-    }
-}
-
-fn round(input: &Input) -> Round {
-    let mut by_entry = input.state.clone();
-    let mut by_ordinary = input.state.clone();
-    let mut module = Module::from_bytes(&input.state);
-    Round {
-        entry: nanoseconds(&input.calls, |call| {
-            entries::record(&mut by_entry, call.session, call.claim, call.class)
-        }),
-        ordinary: nanoseconds(&input.calls, |call| {
-            ordinary::record(&mut by_ordinary, call.session, call.claim, call.class)
-        }),
-        structured: nanoseconds(&input.calls, |call| {
-            module.record(call.session, call.claim, call.class)
-        }),
-    }
-}
-
-/// Nanoseconds for one call, over a row of them.
-#[inline(never)]
-pub fn nanoseconds<Call, Answer>(calls: &[Call], mut call: impl FnMut(&Call) -> Answer) -> f64 {
-    let start = Instant::now();
-    for each in calls {
-        black_box(call(black_box(each)));
-    }
-    start.elapsed().as_nanos() as f64 / calls.len() as f64
+    let rounds: Vec<[f64; TURNS]> = (0..rounds).map(|_| round()).collect();
+    std::array::from_fn(|turn| Times(rounds.iter().map(|round| round[turn]).collect()))
 }
 
 pub fn median(mut figures: Vec<f64>) -> f64 {
     figures.sort_by(f64::total_cmp);
-    let middle = figures.len() / 2;
-    if figures.len() % 2 == 1 {
-        figures[middle]
-    } else {
-        (figures[middle - 1] + figures[middle]) / 2.0
+    percentile(&figures, 50.0)
+}
+
+/// Below which so many in a hundred of the sorted figures lie. Between two figures it is on the line through them.
+fn percentile(sorted: &[f64], percent: f64) -> f64 {
+    let at = (sorted.len() - 1) as f64 * percent / 100.0;
+    let (below, above) = (sorted[at.floor() as usize], sorted[at.ceil() as usize]);
+    below + (above - below) * at.fract()
+}
+
+#[cfg(test)]
+mod tests {
+    use super::*;
+
+    #[test]
+    fn medians() {
+        assert_eq!(median(vec![7.0]), 7.0);
+        assert_eq!(median(vec![9.0, 1.0, 5.0]), 5.0);
+        assert_eq!(median(vec![4.0, 1.0, 3.0, 2.0]), 2.5);
+    }
+
+    #[test]
+    fn percentiles() {
+        let sorted: Vec<f64> = (0..=60).map(f64::from).collect();
+        assert_eq!(percentile(&sorted, 5.0), 3.0);
+        assert_eq!(percentile(&sorted, 95.0), 57.0);
+        assert_eq!(percentile(&[1.0, 2.0], 5.0), 1.05);
+        assert_eq!(percentile(&[8.0], 95.0), 8.0);
+    }
+
+    #[test]
+    fn a_ratio_is_of_medians_and_its_spread_of_rounds() {
+        let one = Times(vec![2.0, 4.0, 30.0]);
+        let other = Times(vec![2.0, 2.0, 3.0]);
+        let ratio = one.to(&other);
+        assert_eq!(ratio.of_medians, 2.0);
+        assert!((ratio.low - 1.1).abs() < 1e-9, "{}", ratio.low);
+        assert!((ratio.high - 9.2).abs() < 1e-9, "{}", ratio.high);
     }
 }
