@@ -1,4 +1,4 @@
-.PHONY: help inspect inspect-test run lib own install figures test edits scaffold soak faults bench trace tools clean
+.PHONY: help inspect inspect-test run lib own install figures test edits scaffold soak faults bench bench-input bench-other trace tools clean
 
 # `rt` can't run beside another one
 .NOTPARALLEL:
@@ -47,7 +47,10 @@ help:
 	@echo "make scaffold CRATE=NAME FUNCTIONS='F ..'  writes the frames of these functions' proofs, and keeps the answers that stand in them"
 	@echo "make soak     the compiled module against the model, until it is stopped; make soak TIME=600 for so many seconds"
 	@echo "make faults   breaks the model in some hundred ways and asks that the comparison tells"
-	@echo "make bench    the record entry against ordinary Rust, what the other entries cost, and the figures against cksum"
+	@echo "make bench    the record entry against ordinary Rust, in time and in instructions, what the other entries cost, and the figures against cksum;"
+	@echo "              exit status 1 where order 12's bound is not kept; make bench INPUT=FILE for the calls of a file alone"
+	@echo "make bench-input  writes the two inputs of order 12 as text, for programs of other people: build/bench/twelve-first.txt, twelve-last.txt"
+	@echo "make bench-other  the same instructions for the other kind of machine, under an emulator"
 	@echo "make trace    what the calls read from memory, compared on a trace wherever names differ; wrong builds that it has to catch"
 	@echo "make clean    removes what these have built"
 
@@ -116,8 +119,17 @@ soak: own
 faults: own build/figures
 	@tests/faults
 
-bench: own build/figures
-	@$(CARGO) slavotuk-bench
+bench: own $(if $(INPUT),,build/figures)
+	@$(CARGO) slavotuk-bench $(if $(INPUT),-- input "$$INPUT")
+
+bench-input: build/bench/twelve-first.txt build/bench/twelve-last.txt
+
+build/bench/%.txt: own
+	@mkdir -p $(@D)
+	@$(CARGO) slavotuk-bench -- write $* $@
+
+bench-other: own $(call lib-files,build/lib-x86_64) $(call lib-files,build/lib-aarch64)
+	@tests/bench-other
 
 trace: own $(call lib-files,build/lib-x86_64) $(call lib-files,build/lib-aarch64)
 	@tests/trace
