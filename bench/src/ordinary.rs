@@ -1,162 +1,40 @@
 //! The record call as an ordinary program: the slice is tested on each call, then read and written where it lies. Written from documents 01 and 02 and
-//! docs/STATE.md, in plain Rust.
+//! docs/STATE.md, in plain safe Rust, and made as quick as that could be made: whom the entry is measured against should be hard to beat.
 
 use crate::numbers::*;
 use slavotuk::entries::RawClaim;
 use slavotuk::layout::state::{
-    place_at, COUNT_AT, CREDENTIALS_AT, CREDENTIAL_LENGTH, LENGTH as STATE_LENGTH, NAME as NAME_AT,
-    NEXT as NEXT_AT, OWNER as CREDENTIAL_AT, PLACES_AT, PLACE_LENGTH, SESSION as SESSION_AT,
-    TYPE as TYPE_AT,
+    COUNT_AT, CREDENTIALS_AT, CREDENTIAL_LENGTH, LENGTH, NAME, NEXT, OWNER, PLACES_AT,
+    PLACE_LENGTH, SESSION as SESSION_AT, TYPE, WORD,
 };
-use slavotuk::PLACES as MOST_PROCESSES;
+use slavotuk::{NAME_LENGTH, PLACES};
 
 const USER: u8 = 0;
 const ELEVATION: u8 = 1;
 const SAVED: u8 = 2;
 
+type State = [u8; LENGTH];
+type Process = [u8; PLACE_LENGTH];
+
 /// The record call on a lent state.
 #[inline(never)]
 pub fn record(state: &mut [u8], session: u32, claim: RawClaim, class: u32) -> u32 {
-    if !are_arguments(session, claim, class) || !holds_state(state) {
+    if !are_arguments(session, claim, class) {
         return ARGUMENT;
     }
-    match passing_place(state, session, claim) {
-        Err(number) => number,
-        Ok(place) => {
-            let process = &mut state[place_at(place)..][..PLACE_LENGTH];
-            if process[TYPE_AT] == USER {
-                let next = next_number(process) + 1;
-                process[NEXT_AT..NAME_AT].copy_from_slice(&next.to_le_bytes());
-            }
-            let credential = process[CREDENTIAL_AT];
-            if is_granted(state, credential, class) {
-                DONE
-            } else {
-                NOT_GRANTED
-            }
-        }
+    match <&mut State>::try_from(state) {
+        Ok(state) if holds_state(state) => match accept(state, session as u8, claim, class) {
+            Ok(()) => DONE,
+            Err(number) => number,
+        },
+        _ => ARGUMENT,
     }
 }
 
-// ---- whether a slice holds a state
-
-/// The same test by itself.
+/// Whether a slice holds a state.
+#[inline(never)]
 pub fn holds(state: &[u8]) -> bool {
-    holds_state(state)
-}
-
-fn holds_state(state: &[u8]) -> bool {
-    if state.len() != STATE_LENGTH {
-        return false;
-    }
-    let count = usize::from(state[COUNT_AT]);
-    if count > MOST_PROCESSES {
-        return false;
-    }
-    let (sessions, credentials) = state[..COUNT_AT].split_at(CREDENTIALS_AT);
-    let (standing, free) = state[PLACES_AT..].split_at(count * PLACE_LENGTH);
-    are_zero(free)
-        && sessions.iter().all(|&phase| phase <= 2)
-        && credentials
-            .chunks_exact(CREDENTIAL_LENGTH)
-            .all(is_credential)
-        && standing
-            .chunks_exact(PLACE_LENGTH)
-            .all(|process| is_process(process) && is_owned(process, sessions, credentials))
-        && are_seats_apart(standing)
-        && are_names_apart(standing)
-}
-
-/// With no exit, so that many bytes are read at a time.
-fn are_zero(bytes: &[u8]) -> bool {
-    bytes.iter().fold(0, |all, &byte| all | byte) == 0
-}
-
-fn is_credential(credential: &[u8]) -> bool {
-    match credential[0] {
-        0 => credential[1..] == [0; 4],
-        1 => true,
-        _ => false,
-    }
-}
-
-fn is_process(process: &[u8]) -> bool {
-    process[CREDENTIAL_AT] <= 7
-        && process[SESSION_AT] <= 3
-        && match process[TYPE_AT] {
-            USER => true,
-            ELEVATION => next_number(process) == 0,
-            SAVED => process[SESSION_AT] == 0 && next_number(process) != 0,
-            _ => false,
-        }
-}
-
-fn is_owned(process: &[u8], sessions: &[u8], credentials: &[u8]) -> bool {
-    let credential = usize::from(process[CREDENTIAL_AT]);
-    let session = usize::from(process[SESSION_AT]);
-    credentials[credential * CREDENTIAL_LENGTH] == 1
-        && (process[TYPE_AT] == SAVED || sessions[session] == 2)
-}
-
-fn are_seats_apart(standing: &[u8]) -> bool {
-    let mut taken = 0;
-    for process in standing.chunks_exact(PLACE_LENGTH) {
-        let seat = seat_bit(process);
-        if taken & seat != 0 {
-            return false;
-        }
-        taken |= seat;
-    }
-    true
-}
-
-/// One bit for each session and credential, one for each session's elevation, and none for a saved process.
-fn seat_bit(process: &[u8]) -> u64 {
-    let session = process[SESSION_AT];
-    match process[TYPE_AT] {
-        USER => 1 << (session * 8 + process[CREDENTIAL_AT]),
-        ELEVATION => 1 << (32 + session),
-        _ => 0,
-    }
-}
-
-fn are_names_apart(standing: &[u8]) -> bool {
-    let mut processes = standing.chunks_exact(PLACE_LENGTH);
-    while let Some(one) = processes.next() {
-        if processes.clone().any(|other| same_name(one, other)) {
-            return false;
-        }
-    }
-    true
-}
-
-/// By three words of 16 bytes: `==` on the slices calls `bcmp`, which takes twice as long.
-fn same_name(one: &[u8], other: &[u8]) -> bool {
-    let differ = |at| word(one, at) ^ word(other, at);
-    differ(NAME_AT) | differ(NAME_AT + 16) | differ(NAME_AT + 32) == 0
-}
-
-fn word(process: &[u8], at: usize) -> u128 {
-    u128::from_le_bytes(std::array::from_fn(|byte| process[at + byte]))
-}
-
-// ---- the checks of a record whose arguments are in order, on a slice that holds a state
-
-/// The place of the process whose claim passes its check, or the number of the refusal.
-fn passing_place(state: &[u8], session: u32, claim: RawClaim) -> Result<usize, u32> {
-    match state[session as usize] {
-        0 => return Err(SESSION),
-        1 => return Err(NO_VERSION),
-        _ => {}
-    }
-    if claim.kind == 1 {
-        find(state, |process| {
-            process[TYPE_AT] == ELEVATION && u32::from(process[SESSION_AT]) == session
-        })
-        .ok_or(NO_PROCESS)
-    } else {
-        claimed_place(state, session, claim)
-    }
+    <&State>::try_from(state).is_ok_and(holds_state)
 }
 
 fn are_arguments(session: u32, claim: RawClaim, class: u32) -> bool {
@@ -168,17 +46,192 @@ fn are_arguments(session: u32, claim: RawClaim, class: u32) -> bool {
     session <= 3 && is_claim && (4..=31).contains(&class)
 }
 
-fn claimed_place(state: &[u8], session: u32, claim: RawClaim) -> Result<usize, u32> {
-    if credential_at(state, claim.credential as usize)[0] == 0 {
+// ---- whether a slice holds a state
+
+fn holds_state(state: &State) -> bool {
+    let count = usize::from(state[COUNT_AT]);
+    if count > PLACES {
+        return false;
+    }
+    let (standing, free) = state[PLACES_AT..].split_at(count * PLACE_LENGTH);
+    if !are_zero(free) {
+        return false;
+    }
+    match Seats::of(state) {
+        Some(mut seats) => {
+            processes(standing).all(|process| seats.take(process))
+                && (count < 2 || are_names_apart(standing))
+        }
+        None => false,
+    }
+}
+
+/// 64 bytes at a time; the last 64 once more, so that none is read by itself.
+fn are_zero(bytes: &[u8]) -> bool {
+    const BLOCK: usize = 64;
+    let put_together = |bytes: &[u8]| bytes.iter().fold(0, |all, &byte| all | byte);
+    if bytes.len() < BLOCK {
+        return put_together(bytes) == 0;
+    }
+    let mut all: [u8; BLOCK] = *fixed(&bytes[bytes.len() - BLOCK..]);
+    for block in bytes.chunks_exact(BLOCK) {
+        for (one, byte) in all.iter_mut().zip(block) {
+            *one |= byte;
+        }
+    }
+    put_together(&all) == 0
+}
+
+fn processes(standing: &[u8]) -> impl Iterator<Item = &Process> + Clone {
+    standing.chunks_exact(PLACE_LENGTH).map(fixed)
+}
+
+fn fixed<const N: usize>(bytes: &[u8]) -> &[u8; N] {
+    bytes.try_into().expect("a part of that length")
+}
+
+/// What a process may take: a bit for each session and credential, and for each session's elevation. A bit that was taken is gone.
+struct Seats {
+    provisioned: u32,
+    users: u32,
+    elevations: u32,
+}
+
+impl Seats {
+    /// Those of a state, where its sessions and credentials are in order.
+    fn of(state: &State) -> Option<Seats> {
+        let mut seats = Seats {
+            provisioned: 0,
+            users: 0,
+            elevations: 0,
+        };
+        let credentials = state[CREDENTIALS_AT..COUNT_AT].chunks_exact(CREDENTIAL_LENGTH);
+        for (credential, bytes) in credentials.enumerate() {
+            match *fixed::<CREDENTIAL_LENGTH>(bytes) {
+                [0, 0, 0, 0, 0] => {}
+                [1, ..] => seats.provisioned |= 1 << credential,
+                _ => return None,
+            }
+        }
+        for (session, phase) in state[..CREDENTIALS_AT].iter().enumerate() {
+            match phase {
+                0 | 1 => {}
+                2 => {
+                    seats.users |= seats.provisioned << (8 * session);
+                    seats.elevations |= 1 << session;
+                }
+                _ => return None,
+            }
+        }
+        Some(seats)
+    }
+
+    /// Whether a process is in order by itself and its seat was free.
+    fn take(&mut self, process: &Process) -> bool {
+        let (credential, session) = (process[OWNER], process[SESSION_AT]);
+        if credential > 7 || session > 3 {
+            return false;
+        }
+        if process[TYPE] == USER {
+            return take_bit(&mut self.users, session * 8 + credential);
+        }
+        if self.provisioned >> credential & 1 == 0 {
+            return false;
+        }
+        match process[TYPE] {
+            ELEVATION => next_number(process) == 0 && take_bit(&mut self.elevations, session),
+            SAVED => session == 0 && next_number(process) != 0,
+            _ => false,
+        }
+    }
+}
+
+fn take_bit(bits: &mut u32, at: u8) -> bool {
+    let bit = 1 << at;
+    let is_there = *bits & bit != 0;
+    *bits ^= bit;
+    is_there
+}
+
+/// By digests first: names are compared only where two share one.
+fn are_names_apart(standing: &[u8]) -> bool {
+    let mut digests: [u32; PLACES] = std::array::from_fn(|place| place as u32);
+    for (digest, process) in digests.iter_mut().zip(processes(standing)) {
+        *digest = digest_of(fixed(&process[NAME..]));
+    }
+    let mut meet = false;
+    for one in 1..PLACES {
+        for other in 0..one {
+            meet |= digests[one] == digests[other];
+        }
+    }
+    !meet || are_pairs_apart(standing)
+}
+
+/// It goes round by 19 bits and gets the next 16 bytes, until all have a part in it; then its halves are put together.
+fn digest_of(name: &[u8; NAME_LENGTH]) -> u32 {
+    let mut digest = 0u64;
+    for pair in name.chunks_exact(16) {
+        let (low, high) = pair.split_at(8);
+        digest = digest
+            .rotate_left(19)
+            .wrapping_add(u64::from_le_bytes(*fixed(low)))
+            .wrapping_add(u64::from_le_bytes(*fixed(high)));
+    }
+    (digest >> 32) as u32 ^ digest as u32
+}
+
+#[cold]
+fn are_pairs_apart(standing: &[u8]) -> bool {
+    let mut names = processes(standing).map(|process| &process[NAME..]);
+    while let Some(one) = names.next() {
+        if names.clone().any(|other| one == other) {
+            return false;
+        }
+    }
+    true
+}
+
+// ---- the checks of a record whose arguments are in order, on a slice that holds a state
+
+fn accept(state: &mut State, session: u8, claim: RawClaim, class: u32) -> Result<(), u32> {
+    match state[usize::from(session)] {
+        0 => return Err(SESSION),
+        1 => return Err(NO_VERSION),
+        _ => {}
+    }
+    let credential = if claim.kind == 1 {
+        elevated_credential(state, session)?
+    } else {
+        count_claim(state, session, claim)?
+    };
+    let word = &state[credential_at(credential) + WORD..][..4];
+    if u32::from_le_bytes(*fixed(word)) >> class & 1 == 1 {
+        Ok(())
+    } else {
+        Err(NOT_GRANTED)
+    }
+}
+
+fn elevated_credential(state: &State, session: u8) -> Result<u8, u32> {
+    processes(standing(state))
+        .find(|process| process[TYPE] == ELEVATION && process[SESSION_AT] == session)
+        .map(|process| process[OWNER])
+        .ok_or(NO_PROCESS)
+}
+
+/// Checks a user's claim and counts it, and answers its credential.
+fn count_claim(state: &mut State, session: u8, claim: RawClaim) -> Result<u8, u32> {
+    let credential = claim.credential as u8;
+    if state[credential_at(credential)] == 0 {
         return Err(CREDENTIAL);
     }
-    let place = find(state, |process| {
-        process[TYPE_AT] == USER
-            && u32::from(process[SESSION_AT]) == session
-            && u32::from(process[CREDENTIAL_AT]) == claim.credential
-    })
-    .ok_or(NO_PROCESS)?;
-    let next = next_number(process_at(state, place));
+    let wanted = [credential, USER, session];
+    let place = processes(standing(state))
+        .position(|process| process[..wanted.len()] == wanted)
+        .ok_or(NO_PROCESS)?;
+    let process = &mut state[PLACES_AT + place * PLACE_LENGTH..][..PLACE_LENGTH];
+    let next = next_number(fixed(process));
     if next == u16::MAX {
         return Err(SPENT);
     }
@@ -188,30 +241,19 @@ fn claimed_place(state: &[u8], session: u32, claim: RawClaim) -> Result<usize, u
     if claim.verdict == 0 {
         return Err(VERDICT);
     }
-    Ok(place)
+    process[NEXT..NAME].copy_from_slice(&(next + 1).to_le_bytes());
+    Ok(credential)
 }
 
-fn is_granted(state: &[u8], credential: u8, class: u32) -> bool {
-    let word = &credential_at(state, usize::from(credential))[1..];
-    u32::from_le_bytes([word[0], word[1], word[2], word[3]]) >> class & 1 == 1
+fn standing(state: &State) -> &[u8] {
+    let count = usize::from(state[COUNT_AT]).min(PLACES);
+    &state[PLACES_AT..][..count * PLACE_LENGTH]
 }
 
-fn find(state: &[u8], is_wanted: impl Fn(&[u8]) -> bool) -> Option<usize> {
-    let count = usize::from(state[COUNT_AT]);
-    state[PLACES_AT..]
-        .chunks_exact(PLACE_LENGTH)
-        .take(count)
-        .position(is_wanted)
+fn credential_at(credential: u8) -> usize {
+    CREDENTIALS_AT + usize::from(credential) * CREDENTIAL_LENGTH
 }
 
-fn credential_at(state: &[u8], credential: usize) -> &[u8] {
-    &state[4 + credential * CREDENTIAL_LENGTH..][..CREDENTIAL_LENGTH]
-}
-
-fn process_at(state: &[u8], place: usize) -> &[u8] {
-    &state[PLACES_AT + place * PLACE_LENGTH..][..PLACE_LENGTH]
-}
-
-fn next_number(process: &[u8]) -> u16 {
-    u16::from_le_bytes([process[NEXT_AT], process[NEXT_AT + 1]])
+fn next_number(process: &Process) -> u16 {
+    u16::from_le_bytes([process[NEXT], process[NEXT + 1]])
 }
