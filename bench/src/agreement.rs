@@ -2,9 +2,10 @@
 
 use crate::costs;
 use crate::file::Recorded;
-use crate::input::{all, Input, Named, MIXED};
+use crate::input::{all, Input, MIXED};
 use crate::numbers::DONE;
 use crate::ordinary;
+use crate::states::{standing_state, Differ};
 use crate::structured::Module;
 use slavotuk::entries::{self, RawClaim};
 use slavotuk::layout::state::{place_at, COUNT_AT, LENGTH, NEXT, PLACES_AT};
@@ -16,17 +17,23 @@ type Arguments = (u32, RawClaim, u32);
 /// Compares everything with so many calls: the answers to all inputs that have a name, and those on states that are damaged.
 pub fn check(calls: usize) -> Result<(), String> {
     all().try_for_each(|named| check_calls(&named.input(calls)).map(drop))?;
-    MIXED.iter().try_for_each(check_state)?;
+    for named in &MIXED {
+        check_state(named.name, &named.state())?;
+    }
+    // names that share the digest by which the ordinary program tells them apart
+    check_state(
+        "names with a byte of their own",
+        &standing_state(PLACES, Differ::Own),
+    )?;
     costs::check()
 }
 
 /// Calls with more than one fault, and calls on slices that hold no state; the first difference is told.
-fn check_state(named: &Named) -> Result<(), String> {
-    let state = named.state();
-    check_many_faults(&state)
-        .and_then(|()| check_changed_bytes(&state))
-        .and_then(|()| check_lengths(&state))
-        .map_err(|difference| format!("{}: {difference}", named.name))
+fn check_state(name: &str, state: &[u8]) -> Result<(), String> {
+    check_many_faults(state)
+        .and_then(|()| check_changed_bytes(state))
+        .and_then(|()| check_lengths(state))
+        .map_err(|difference| format!("{name}: {difference}"))
 }
 
 /// Makes all calls of a file, and asks that they leave the state that it says.

@@ -129,7 +129,7 @@ fn claim(credential: u32, number: u16) -> RawClaim {
 impl Case {
     fn lend(&self, standing: usize) -> Option<Lent> {
         (self.before)(standing).map(|before| Lent {
-            state: standing_state(before, Differ::LastByte),
+            state: standing_state(before, Differ::Last),
             response: [0; FULL_LISTING_LENGTH],
         })
     }

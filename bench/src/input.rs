@@ -70,24 +70,24 @@ const fn named(name: &'static str, standing: usize, differ: Differ, row: Row) ->
 
 /// In the order they are reported. Where fewer than two stand, there are no names that differ.
 pub static MIXED: [Named; 8] = [
-    named("twelve-first", 12, Differ::FirstByte, Row::Mixed),
-    named("twelve-last", 12, Differ::LastByte, Row::Mixed),
-    named("eight-first", 8, Differ::FirstByte, Row::Mixed),
-    named("eight-last", 8, Differ::LastByte, Row::Mixed),
-    named("four-first", 4, Differ::FirstByte, Row::Mixed),
-    named("four-last", 4, Differ::LastByte, Row::Mixed),
-    named("one", 1, Differ::FirstByte, Row::Mixed),
-    named("none", 0, Differ::FirstByte, Row::Mixed),
+    named("twelve-first", 12, Differ::First, Row::Mixed),
+    named("twelve-last", 12, Differ::Last, Row::Mixed),
+    named("eight-first", 8, Differ::First, Row::Mixed),
+    named("eight-last", 8, Differ::Last, Row::Mixed),
+    named("four-first", 4, Differ::First, Row::Mixed),
+    named("four-last", 4, Differ::Last, Row::Mixed),
+    named("one", 1, Differ::First, Row::Mixed),
+    named("none", 0, Differ::First, Row::Mixed),
 ];
 
 pub static SERIES: [Named; 2] = [
-    named("series-first", 12, Differ::FirstByte, Row::Series),
-    named("series-last", 12, Differ::LastByte, Row::Series),
+    named("series-first", 12, Differ::First, Row::Series),
+    named("series-last", 12, Differ::Last, Row::Series),
 ];
 
 pub static REFUSED: [Named; 2] = [
-    named("refused-first", 12, Differ::FirstByte, Row::Refused),
-    named("refused-last", 12, Differ::LastByte, Row::Refused),
+    named("refused-first", 12, Differ::First, Row::Refused),
+    named("refused-last", 12, Differ::Last, Row::Refused),
 ];
 
 /// Every input that has a name.

@@ -149,7 +149,7 @@ impl Seats {
 fn take_bit(bits: &mut u32, at: u8) -> bool {
     let bit = 1 << at;
     let is_there = *bits & bit != 0;
-    *bits ^= bit;
+    *bits &= !bit;
     is_there
 }
 
@@ -256,4 +256,27 @@ fn credential_at(credential: u8) -> usize {
 
 fn next_number(process: &Process) -> u16 {
     u16::from_le_bytes([process[NEXT], process[NEXT + 1]])
+}
+
+#[cfg(test)]
+mod tests {
+    use super::*;
+    use crate::states::{standing_state, Differ};
+
+    /// The inputs of the order go the quick way; the state that all answers are compared on beside them goes the other.
+    #[test]
+    fn digests_meet_where_names_have_a_byte_of_their_own() {
+        for (differ, meet) in [
+            (Differ::First, false),
+            (Differ::Last, false),
+            (Differ::Own, true),
+        ] {
+            let state = standing_state(PLACES, differ);
+            let digests: Vec<u32> = processes(&state[PLACES_AT..])
+                .map(|process| digest_of(fixed(&process[NAME..])))
+                .collect();
+            let distinct: std::collections::BTreeSet<_> = digests.iter().collect();
+            assert_eq!(distinct.len() < PLACES, meet);
+        }
+    }
 }

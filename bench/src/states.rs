@@ -12,21 +12,23 @@ pub const WORD: u32 = 0x5555_5555;
 /// Every byte of a name but the one in which names differ.
 pub const NAME_BYTE: u8 = 0x5a;
 
-/// Where the names of two processes differ: in one byte, the other 47 being equal.
+/// Where the names of two processes differ: in one byte, the other 47 being equal; or each from all others in a byte of its own, every fourth.
 #[derive(Clone, Copy, PartialEq, Eq)]
 pub enum Differ {
-    FirstByte,
-    LastByte,
+    First,
+    Last,
+    Own,
 }
 
 impl Differ {
     fn process_name(self, process: usize) -> [u8; NAME_LENGTH] {
-        let mut name = [NAME_BYTE; NAME_LENGTH];
-        let at = match self {
-            Differ::FirstByte => 0,
-            Differ::LastByte => NAME_LENGTH - 1,
+        let (at, byte) = match self {
+            Differ::First => (0, process as u8),
+            Differ::Last => (NAME_LENGTH - 1, process as u8),
+            Differ::Own => (4 * process, !NAME_BYTE),
         };
-        name[at] = process as u8;
+        let mut name = [NAME_BYTE; NAME_LENGTH];
+        name[at] = byte;
         name
     }
 }
