@@ -1,4 +1,4 @@
-.PHONY: help inspect inspect-test run lib own install figures test edits scaffold soak faults bench bench-input bench-other trace tools clean
+.PHONY: help inspect inspect-test run lib own install figures test edits scaffold soak faults bench bench-input trace tools clean
 
 # `rt` can't run beside another one
 .NOTPARALLEL:
@@ -48,9 +48,9 @@ help:
 	@echo "make soak     the compiled module against the model, until it is stopped; make soak TIME=600 for so many seconds"
 	@echo "make faults   breaks the model in some hundred ways and asks that the comparison tells"
 	@echo "make bench    the record entry against ordinary Rust, in time and in instructions, what the other entries cost, and the figures against cksum;"
-	@echo "              exit status 1 where order 12's bound is not kept; make bench INPUT=FILE for the calls of a file alone"
+	@echo "              the other kind of machine's instructions under an emulator. It fails where order 12's bound is not kept"
+	@echo "              INPUT=FILE: the calls of a file alone"
 	@echo "make bench-input  writes the two inputs of order 12 as text, for programs of other people: build/bench/twelve-first.txt, twelve-last.txt"
-	@echo "make bench-other  the same instructions for the other kind of machine, under an emulator"
 	@echo "make trace    what the calls read from memory, compared on a trace wherever names differ; wrong builds that it has to catch"
 	@echo "make clean    removes what these have built"
 
@@ -119,17 +119,20 @@ soak: own
 faults: own build/figures
 	@tests/faults
 
-bench: own $(if $(INPUT),,build/figures)
-	@$(CARGO) slavotuk-bench $(if $(INPUT),-- input "$$INPUT")
+ifdef INPUT
+bench: own
+	@$(CARGO) slavotuk-bench -- input "$$INPUT"
+else
+bench: own build/figures $(call lib-files,build/lib-x86_64) $(call lib-files,build/lib-aarch64)
+	@$(CARGO) slavotuk-bench
+	@tests/bench-other
+endif
 
 bench-input: build/bench/twelve-first.txt build/bench/twelve-last.txt
 
 build/bench/%.txt: own
 	@mkdir -p $(@D)
 	@$(CARGO) slavotuk-bench -- write $* $@
-
-bench-other: own $(call lib-files,build/lib-x86_64) $(call lib-files,build/lib-aarch64)
-	@tests/bench-other
 
 trace: own $(call lib-files,build/lib-x86_64) $(call lib-files,build/lib-aarch64)
 	@tests/trace
