@@ -36,31 +36,31 @@ module _ (x : List ℕ) where
   process-credential h = rw (lt-leb (getD x ownerAt 0) lastCredential h)
 
   module _ (c : getD x ownerAt 0 ≤ lastCredential) where
-    pub process-type : lastType < getD x kindAt 0 → false ≡ processFits x
+    pub process-session : lastSession < getD x sessionAt 0 → false ≡ processFits x
     unfolding processFits
-    process-type h = rw (le-leb (getD x ownerAt 0) lastCredential c, lt-leb (getD x kindAt 0) lastType h)
+    process-session h = rw (le-leb (getD x ownerAt 0) lastCredential c, lt-leb (getD x sessionAt 0) lastSession h) (sym (and-false (leb (getD x kindAt 0) lastType)))
 
-    module _ (t : getD x kindAt 0 ≤ lastType) where
-      pub process-session : lastSession < getD x sessionAt 0 → false ≡ processFits x
+    module _ (s : getD x sessionAt 0 ≤ lastSession) where
+      pub process-type : lastType < getD x kindAt 0 → false ≡ processFits x
       unfolding processFits
-      process-session h = rw (le-leb (getD x ownerAt 0) lastCredential c, le-leb (getD x kindAt 0) lastType t, lt-leb (getD x sessionAt 0) lastSession h)
+      process-type h = rw (le-leb (getD x ownerAt 0) lastCredential c, lt-leb (getD x kindAt 0) lastType h)
 
-      module _ (s : getD x sessionAt 0 ≤ lastSession) where
-        in-range : processFits x ≡ kindFits (kindNumbered (getD x kindAt 0)) (getD x sessionAt 0) (numberAt nextSize nextAt x)
-        unfolding processFits
-        in-range = rw (le-leb (getD x ownerAt 0) lastCredential c, le-leb (getD x kindAt 0) lastType t, le-leb (getD x sessionAt 0) lastSession s)
+      in-range : getD x kindAt 0 ≤ lastType → processFits x ≡ kindFits (kindNumbered (getD x kindAt 0)) (getD x sessionAt 0) (numberAt nextSize nextAt x)
+      unfolding processFits
+      in-range t = rw (le-leb (getD x ownerAt 0) lastCredential c, le-leb (getD x kindAt 0) lastType t, le-leb (getD x sessionAt 0) lastSession s)
 
-        pub process-user : getD x kindAt 0 ≡ userType → true ≡ processFits x
-        process-user e = sym (in-range ∙ rw e)
+      pub process-user : getD x kindAt 0 ≡ userType → true ≡ processFits x
+      process-user e = sym (in-range (omega arith) ∙ rw e)
 
-        pub process-elevation : getD x kindAt 0 ≡ elevationType → {n : ℕ} → n ≡ numberAt nextSize nextAt x → eqb n 0 ≡ processFits x
-        process-elevation e q = sym (in-range ∙ rw (e, q))
+      pub process-elevation : getD x kindAt 0 ≡ elevationType → {n : ℕ} → n ≡ numberAt nextSize nextAt x → eqb n 0 ≡ processFits x
+      process-elevation e q = sym (in-range (omega arith) ∙ rw (e, q))
 
-        pub process-somewhere : (getD x kindAt 0 ≡ userType → ⊥) → (getD x kindAt 0 ≡ elevationType → ⊥) → 0 < getD x sessionAt 0 → false ≡ processFits x
-        process-somewhere n m k = sym (in-range ∙ rw (← kind-saved (getD x kindAt 0) n m, ne-eqb (getD x sessionAt 0) 0 (λ e. omega arith)))
+      module _ (t : getD x kindAt 0 ≤ lastType) (n : getD x kindAt 0 ≡ userType → ⊥) (m : getD x kindAt 0 ≡ elevationType → ⊥) where
+        pub process-somewhere : 0 < getD x sessionAt 0 → false ≡ processFits x
+        process-somewhere k = sym (in-range t ∙ rw (← kind-saved (getD x kindAt 0) n m, ne-eqb (getD x sessionAt 0) 0 (λ e. omega arith)))
 
-        pub process-saved : (getD x kindAt 0 ≡ userType → ⊥) → (getD x kindAt 0 ≡ elevationType → ⊥) → getD x sessionAt 0 ≤ 0 → {n : ℕ} → n ≡ numberAt nextSize nextAt x → leb 1 n ≡ processFits x
-        process-saved n m k q = sym (in-range ∙ rw (← kind-saved (getD x kindAt 0) n m, eq-eqb (getD x sessionAt 0) 0 (omega arith), q))
+        pub process-saved : getD x sessionAt 0 ≤ 0 → {p : ℕ} → p ≡ numberAt nextSize nextAt x → leb 1 p ≡ processFits x
+        process-saved k q = sym (in-range t ∙ rw (← kind-saved (getD x kindAt 0) n m, eq-eqb (getD x sessionAt 0) 0 (omega arith), q))
 
 -- ---- an owner
 chosen-of : (b : ℕ) → isChosen (phaseFrom b) ≡ eqb b chosenByte

@@ -41,14 +41,14 @@ fn process_fits(place: &[u8]) -> bool
     if LAST_OWNER < place[OWNER_AT] {
         return false;
     }
-    if LAST_TYPE < kind {
-        return false;
-    }
     if LAST_SESSION < session {
         return false;
     }
     if kind == USER_TYPE {
         return true;
+    }
+    if LAST_TYPE < kind {
+        return false;
     }
     let next = rows::number16(place, NEXT_AT);
     if kind == ELEVATION_TYPE {
