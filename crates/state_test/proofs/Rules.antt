@@ -1,6 +1,6 @@
 -- The laws that close the needs of this crate's functions by `search rules`: each premise is as a place's record has it.
 -- Assumes nothing.
-use Prim.Native.Nat.{ℕ, suc, _+_, _-_, _*_, _<_, _≤_}
+use Prim.Native.Nat.{ℕ, suc, _+_, _-_, _*_, _%_, _<_, _≤_}
 use mathlib.Core.Path.{_≡_, refl, sym, ap, _∙_}
 use mathlib.Core.Bool.{Bool, true, false, _&&_, _||_, not}
 use mathlib.Core.List.{List, [], _∷_, map}
@@ -9,11 +9,11 @@ use borrow.Author.Count.{below-more}
 use borrow.Author.Needs.{needs}
 use borrow.Author.Tests.{eqb-false, not-true, not-false}
 use lib.Dec.{eqb}
-use lib.ListN.{length, take, drop, getD, length-map, set, length-set}
+use lib.ListN.{length, take, drop, getD, length-map, replicate, length-replicate, set, length-set}
 use lib.Seq.{getD-set-same, getD-set-other, take-all}
 use Rattle.rows.specs.Bytes.{Widened}
 use Rattle.lists.proofs.Lists.{length-mapped}
-use Rattle.lists.proofs.Tests.{split, clash, and-left, and-both}
+use Rattle.lists.proofs.Tests.{split, below, clash, and-left, and-both}
 use Rattle.rows.specs.Rows.{rows, every, pairwise}
 use Rattle.rows.proofs.Rows.{rows-length, rows-take, map-take}
 use Rattle.rows.proofs.Loops.{LaterTo, later-begin, later-on, later-fail, later-all, map-part, and-assoc, paired-begin, paired-on, paired-fail, paired-all}
@@ -25,7 +25,7 @@ use Rattle.names.proofs.Laws.{same→name, name-last}
 use Rattle.table.specs.Table.{standing, freePlace, places}
 use Rattle.table.specs.declared.Process.{Process}
 use Rattle.state_layout.specs.Layout.{nameAt, placeSize, countAt, placesAt, stateLength, processFrom, countIn, placesIn, stateOf, isOwned, areApart, sound, shaped, holdsState}
-use Rattle.state_test.specs.Digests.{standingIn, Digests, Fresh, otherNames, Unless}
+use Rattle.state_test.specs.Digests.{sumOf, again, round, standingIn, Digests, Sums, Behind, otherNames, Unless}
 use Rattle.state_fields.specs.Stands.{noRivals, allFit}
 use Rattle.state_fields.proofs.Rules.{interchange}
 use Rattle.state_layout.proofs.Laws.{Shape, shape, state-in}
@@ -64,13 +64,26 @@ digests-on {s} {n} {d} {i} {r} {name} v h e f =
 pub digests-all : {s : List ℕ} {n : ℕ} {d : List ℕ} {i : ℕ} → DigestsTo s n d i → n ≤ i → Digests s n d
 digests-all v h = record { at = λ k l. v .each k (omega arith) }
 
--- an earlier one that is the same
-pub record FreshTo (d : List ℕ) (i : ℕ) (met : Bool) (j : ℕ) : Type 0 where
-  pub other : met ≡ false → (k : ℕ) → k < j → getD d k 0 ≡ getD d i 0 → ⊥
+-- ---- their sums
+pub record SumsTo (digests sums : List ℕ) (i : ℕ) : Type 0 where
+  pub long : length sums ≡ round
+  pub each : (k : ℕ) → k < i → getD sums k 0 ≡ sumOf (getD digests (k % places) 0)
 
-pub fresh-begin : (d : List ℕ) (i : ℕ) → FreshTo d i false 0
-fresh-begin d i = record { other = λ e k h. absurd (omega arith) }
+pub sums-begin : (digests : List ℕ) → SumsTo digests (replicate round 0) 0
+sums-begin digests = let z : ℕ = 0 in record { long = length-replicate round z; each = λ k h. absurd (omega arith) }
 
+pub sums-on : {digests sums : List ℕ} {i sum : ℕ} → SumsTo digests sums i → i < round → sum ≡ sumOf (getD digests (i % places) 0) → SumsTo digests (set sums i sum) (i + 1)
+sums-on {digests} {sums} {i} {sum} v h e =
+    let k : i < length sums = omega (arith, v .long) in
+    record {
+      long = length-set sums i sum ∙ v .long;
+      each = below-more _ _ (λ j l. getD-set-other sums i j sum 0 (λ q. omega arith) ∙ v .each j l) (getD-set-same sums i sum 0 k ∙ e);
+    }
+
+pub sums-all : {digests sums : List ℕ} {i : ℕ} → SumsTo digests sums i → round ≤ i → Sums digests sums
+sums-all v h = record { at = λ k l. v .each k (omega arith) }
+
+-- ---- two that are the same: one so far behind the other
 neither-left : (a b : Bool) → (a || b) ≡ false → a ≡ false
 neither-left true b e = clash refl e
 neither-left false b e = refl
@@ -79,23 +92,34 @@ neither-right : (a b : Bool) → (a || b) ≡ false → b ≡ false
 neither-right true b e = clash refl e
 neither-right false b e = e
 
-pub fresh-on : {d : List ℕ} {i : ℕ} {met : Bool} {j : ℕ} → FreshTo d i met j → FreshTo d i (met || eqb (getD d j 0) (getD d i 0)) (j + 1)
-fresh-on {d} {i} {met} {j} v =
-    let same : Bool = eqb (getD d j 0) (getD d i 0) in
-    record { other = λ e. below-more _ _ (v .other (neither-left met same e)) (eqb-false (getD d j 0) (getD d i 0) (neither-right met same e)) }
+pub record BehindTo (sums : List ℕ) (behind : ℕ) (met : Bool) (i : ℕ) : Type 0 where
+  pub other : met ≡ false → (k : ℕ) → k < i → getD sums k 0 ≡ getD sums (k + behind) 0 → ⊥
 
-pub fresh-all : {d : List ℕ} {i : ℕ} {met : Bool} {j : ℕ} → FreshTo d i met j → i ≤ j → Fresh d i met
-fresh-all v h = record { other = λ e k l. v .other e k (omega arith) }
+pub behind-begin : (sums : List ℕ) (behind : ℕ) → BehindTo sums behind false 0
+behind-begin sums behind = record { other = λ e k h. absurd (omega arith) }
 
--- all of them
-pub record DistinctTo (d : List ℕ) (met : Bool) (i : ℕ) : Type 0 where
-  pub other : met ≡ false → (k : ℕ) → k < i → (j : ℕ) → j < k → getD d j 0 ≡ getD d k 0 → ⊥
+pub behind-on : {sums : List ℕ} {behind : ℕ} {met : Bool} {i : ℕ} → BehindTo sums behind met i → BehindTo sums behind (met || eqb (getD sums i 0) (getD sums (i + behind) 0)) (i + 1)
+behind-on {sums} {behind} {met} {i} v =
+    let same : Bool = eqb (getD sums i 0) (getD sums (i + behind) 0) in
+    record { other = λ e. below-more _ _ (v .other (neither-left met same e)) (eqb-false (getD sums i 0) (getD sums (i + behind) 0) (neither-right met same e)) }
 
-pub distinct-begin : (d : List ℕ) → DistinctTo d false 0
-distinct-begin d = record { other = λ e k h. absurd (omega arith) }
+pub behind-all : {sums : List ℕ} {behind : ℕ} {met : Bool} {i : ℕ} → BehindTo sums behind met i → places ≤ i → Behind sums behind met
+behind-all v h = record { other = λ e k l. v .other e k (omega arith) }
 
-pub distinct-on : {d : List ℕ} {met r : Bool} {i : ℕ} → DistinctTo d met i → Fresh d i r → DistinctTo d (met || r) (i + 1)
-distinct-on {d} {met} {r} {i} v f = record { other = λ e. below-more _ _ (v .other (neither-left met r e)) (f .other (neither-right met r e)) }
+-- and so far, for all that are less
+pub record RoundTo (sums : List ℕ) (met : Bool) (behind : ℕ) : Type 0 where
+  pub some : 0 < behind
+  pub other : met ≡ false → (far : ℕ) → far < behind → 0 < far → (k : ℕ) → k < places → getD sums k 0 ≡ getD sums (k + far) 0 → ⊥
+
+pub round-begin : (sums : List ℕ) → RoundTo sums false 1
+round-begin sums = record { some = omega arith; other = λ e far h p. absurd (omega arith) }
+
+pub round-on : {sums : List ℕ} {met r : Bool} {behind : ℕ} → RoundTo sums met behind → Behind sums behind r → RoundTo sums (met || r) (behind + 1)
+round-on {sums} {met} {r} {behind} v f =
+    record {
+      some = omega arith;
+      other = λ e. below-more _ _ (v .other (neither-left met r e)) (λ p. f .other (neither-right met r e));
+    }
 
 -- a test of each element, and of each pair, by their places
 every-place : {A : Type 0} (f : A → Bool) (z : A) (l : List A) → ((j : ℕ) → j < length l → f (getD l j z) ≡ true) → every f l ≡ true
@@ -111,20 +135,37 @@ pairwise-places f z (x ∷ l) h =
     (every-place (f x) z l (λ j k. h 0 (suc j) (omega arith) (omega arith)))
     (pairwise-places f z l (λ i j k m. h (suc i) (suc j) (omega arith) (omega arith)))
 
-pub distinct-all : {s : List ℕ} {n : ℕ} {d : List ℕ} {met : Bool} {i : ℕ} → n ≤ places → Digests s n d → DistinctTo d met i → places ≤ i → Unless met (pairwise otherNames (standingIn s n))
-distinct-all {s} {n} {d} {met} {i} h g v k =
-    record {
-      passes = λ e.
-          sym
-          (pairwise-places otherNames freePlace (standingIn s n)
-          (λ a b l m.
-          let c : b < n = rw (length-map, rows-length) at m in
-          let p : Process = getD (standingIn s n) a freePlace in
-          let q : Process = getD (standingIn s n) b freePlace in
-          split (sameName (p .name) (q .name))
-          (λ f. absurd (v .other e b (omega arith) a l (g .at a (omega arith) ∙ ap digestOf (same→name (p .name) (q .name) f) ∙ sym (g .at b c))))
-          (λ f. rw f)));
-    }
+-- of each two places one stands at most six behind the other, around the end too
+module _ {s digests sums : List ℕ} {n : ℕ} {met : Bool} {behind : ℕ} (h : n ≤ places) (g : Digests s n digests) (u : Sums digests sums) (v : RoundTo sums met behind) (k : again < behind) (e : met ≡ false) where
+  sum-at : (i j : ℕ) → i < round → i % places ≡ j → getD sums i 0 ≡ sumOf (getD digests j 0)
+  sum-at i j l q = u .at i l ∙ rw q
+
+  others : (a b : ℕ) → a < b → b < n → getD digests a 0 ≡ getD digests b 0 → ⊥
+  others a b l m q =
+      below again (b - a)
+      (λ far.
+      let around : b + (places - (b - a)) ≡ a + places = omega arith in
+      v .other e (places - (b - a)) (omega arith) (omega arith) b (omega arith)
+      (sum-at b b (omega arith) (omega arith) ∙ ap sumOf (sym q) ∙ sym (rw around (sum-at (a + places) a (omega arith) (omega arith)))))
+      (λ near.
+      let there : a + (b - a) ≡ b = omega arith in
+      v .other e (b - a) (omega arith) (omega arith) a (omega arith)
+      (sum-at a a (omega arith) (omega arith) ∙ ap sumOf q ∙ sym (rw there (sum-at b b (omega arith) (omega arith)))))
+
+  other-names : true ≡ pairwise otherNames (standingIn s n)
+  other-names =
+      sym
+      (pairwise-places otherNames freePlace (standingIn s n)
+      (λ a b l m.
+      let c : b < n = rw (length-map, rows-length) at m in
+      let p : Process = getD (standingIn s n) a freePlace in
+      let q : Process = getD (standingIn s n) b freePlace in
+      split (sameName (p .name) (q .name))
+      (λ f. absurd (others a b l c (g .at a (omega arith) ∙ ap digestOf (same→name (p .name) (q .name) f) ∙ sym (g .at b c))))
+      (λ f. rw f)))
+
+pub round-all : {s digests sums : List ℕ} {n : ℕ} {met : Bool} {behind : ℕ} → n ≤ places → Digests s n digests → Sums digests sums → RoundTo sums met behind → again < behind → Unless met (pairwise otherNames (standingIn s n))
+round-all h g u v k = record { passes = λ e. other-names h g u v k e }
 
 -- ---- pairs
 pub names-other : (a b : List ℕ) {x y : Name} {m : Bool} → x ≡ processFrom a .name → y ≡ processFrom b .name → m ≡ sameName x y → not m ≡ otherNames (processFrom a) (processFrom b)
@@ -212,4 +253,4 @@ module _ (b : List ℕ) {t : Bool} (e : t ≡ allFit b) where
           let all : take (length b - 0) b ≡ b = take-all (length b - 0) b (omega arith) in
           m ∙ ap (λ (l : List ℕ). pairwise otherNames (map processFrom (rows n placeSize (drop placesAt l)))) all ∙ last
 
-pub ruleset rules = (needs, length-mapped, names-other, place-part, later-begin, later-on, differ-fail, differ-all, holds-pairs, holds-few, paired-begin, paired-on, paired-fail, paired-all, name-stands, digests-begin, digests-on, digests-all, fresh-begin, fresh-on, fresh-all, distinct-begin, distinct-on, distinct-all, differ-digests, holds-unfit, fit-counted, fit-whole, fit-few)
+pub ruleset rules = (needs, length-mapped, names-other, place-part, later-begin, later-on, differ-fail, differ-all, holds-pairs, holds-few, paired-begin, paired-on, paired-fail, paired-all, name-stands, digests-begin, digests-on, digests-all, sums-begin, sums-on, sums-all, behind-begin, behind-on, behind-all, round-begin, round-on, round-all, differ-digests, holds-unfit, fit-counted, fit-whole, fit-few)

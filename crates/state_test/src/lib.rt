@@ -4,7 +4,7 @@ ghost use Prim.Native.Nat.{_<_, _≤_};
 ghost use lib.ListN.{length};
 ghost use Rattle.rows.specs.Rows.{pairwise};
 ghost use Rattle.state_layout.specs.Layout.{placeSize, stateLength, processFrom, holdsState};
-ghost use Rattle.state_test.specs.Digests.{standingIn, Digests, Fresh, otherNames, Unless, laterOthers};
+ghost use Rattle.state_test.specs.Digests.{sumOf, again, round, standingIn, Digests, Sums, Behind, otherNames, Unless, laterOthers};
 ghost use Rattle.table.specs.Table.{places};
 use names::Name;
 use state_layout::COUNT_AT;
@@ -41,33 +41,62 @@ fn digests(s: &[u8], n: usize) -> [u64; PLACES]
     digests
 }
 
-// Whether an earlier digest equals the one at i.
-fn is_met(digests: &[u64], i: usize) -> bool
-    requires { ⌜ i < length (now digests) ⌝ }
-    ensures { λ r. ⌜ Fresh (now (digests .entry)) i r ⌝ }
+// What a half of a digest holds.
+const HALF: u64 = 0x100000000;
+
+// A sum of the two halves of a digest, of 32 bits: equal digests have one sum.
+fn sum_of(digest: u64) -> u32
+    ensures { λ r. ⌜ r ≡ sumOf digest ⌝ }
 {
-    let own = digests[i];
+    ((digest / HALF + digest % HALF * 3) % HALF) as u32
+}
+
+// How many sums stand once more behind the last, and how many there are then.
+const AGAIN: usize = PLACES / 2;
+
+const ROUND: usize = PLACES + AGAIN;
+
+// The sum of each digest: four of them are compared at a time. The first six stand once more behind the last, so that of each two places one stands at most six
+// behind the other.
+fn sums(digests: [u64; PLACES]) -> [u32; ROUND]
+    ensures { λ r. ⌜ Sums digests r ⌝ }
+{
+    let mut sums: [u32; ROUND] = [0; ROUND];
+    let mut i: usize = 0;
+    while i < ROUND {
+        sums[i] = sum_of(digests[i % PLACES]);
+        i += 1;
+    }
+    sums
+}
+
+// Whether two sums are equal of which one stands so far behind the other. There is no exit, so that many are compared at a time.
+fn meet_behind(sums: &[u32], behind: usize) -> bool
+    requires { ⌜ length (now sums) ≡ round ⌝ }
+    requires { ⌜ behind ≤ again ⌝ }
+    ensures { λ r. ⌜ Behind (now (sums .entry)) behind r ⌝ }
+{
     let mut met = false;
-    let mut j: usize = 0;
-    while j < i {
-        met = met | (digests[j] == own);
-        j += 1;
+    let mut i: usize = 0;
+    while i < PLACES {
+        met = met | (sums[i] == sums[i + behind]);
+        i += 1;
     }
     met
 }
 
-// Whether two names have one digest. All twelve are compared, so that the compiler knows how many.
+// Whether the digests of two names have one sum. All twelve are compared, so that the compiler knows how many.
 fn digests_meet(s: &[u8], n: usize) -> bool
     requires { ⌜ length (now s) ≡ stateLength ⌝ }
     requires { ⌜ n ≤ places ⌝ }
     ensures { λ r. ⌜ Unless r (pairwise otherNames (standingIn (now (s .entry)) n)) ⌝ }
 {
-    let digests = digests(s, n);
+    let sums = sums(digests(s, n));
     let mut met = false;
-    let mut i: usize = 0;
-    while i < PLACES {
-        met = met | is_met(&digests, i);
-        i += 1;
+    let mut behind: usize = 1;
+    while behind <= AGAIN {
+        met = met | meet_behind(&sums, behind);
+        behind += 1;
     }
     met
 }
@@ -120,7 +149,7 @@ fn every_differs(s: &[u8], n: usize) -> bool
     true
 }
 
-// The same, by digests first: where no two names share one, the names need not be compared.
+// The same, by digests first: where no two of them meet, the names need not be compared.
 fn all_differ(s: &[u8], n: usize) -> bool
     requires { ⌜ length (now s) ≡ stateLength ⌝ }
     requires { ⌜ n ≤ places ⌝ }

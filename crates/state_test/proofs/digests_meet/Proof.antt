@@ -1,30 +1,33 @@
 -- written by tools/scaffold, which keeps the answers that are not a plain search
-use Prim.Native.Nat.{_-_}
-use Rattle.table.specs.Table.{places}
-use Rattle.state_test.proofs.Rules.{DistinctTo, rules}
+use Prim.Native.Nat.{_+_, _-_}
+use Rattle.state_test.specs.Digests.{again}
+use Rattle.state_test.proofs.Rules.{RoundTo, rules}
 use Rattle.state_test.proofs.digests_meet.Statement.{statement}
 use Rattle.state_test.proofs.digests_meet.Tie as tie
 
 abbrev Inv-loop : tie.InvT-loop
-Inv-loop s n digests met₀ i₀ met i = DistinctTo digests met i
+Inv-loop s n sums met₀ behind₀ met behind = RoundTo sums met behind
 
 abbrev μ-loop : tie.MeasureT-loop
-μ-loop s n digests met₀ i₀ met i = places - i
+μ-loop s n sums met₀ behind₀ met behind = again + 1 - behind
 
 digests-requires : tie.Need-digests-requires Inv-loop μ-loop
 digests-requires c κs = search rules
 
+sums-requires : tie.Need-sums-requires Inv-loop μ-loop
+sums-requires c κs = search rules
+
 loop-holds : tie.Need-loop-holds Inv-loop μ-loop
 loop-holds c = search rules
 
-slice-aggregate-is-met : tie.Need-slice-aggregate-is-met Inv-loop μ-loop
-slice-aggregate-is-met c = search rules
+slice-aggregate-meet-behind : tie.Need-slice-aggregate-meet-behind Inv-loop μ-loop
+slice-aggregate-meet-behind c = search rules
 
-is-met-requires : tie.Need-is-met-requires Inv-loop μ-loop
-is-met-requires c κs = search rules
+meet-behind-requires : tie.Need-meet-behind-requires Inv-loop μ-loop
+meet-behind-requires c κs = search rules
 
-add-i : tie.Need-add-i Inv-loop μ-loop
-add-i c = search rules
+add-behind : tie.Need-add-behind Inv-loop μ-loop
+add-behind c = search rules
 
 loop-less : tie.Need-loop-less Inv-loop μ-loop
 loop-less c = search rules
@@ -42,10 +45,11 @@ digests-meet-spec =
     Inv-loop
     μ-loop
     digests-requires
+    sums-requires
     loop-holds
-    slice-aggregate-is-met
-    is-met-requires
-    add-i
+    slice-aggregate-meet-behind
+    meet-behind-requires
+    add-behind
     loop-less
     loop-again
     returns)
