@@ -35,7 +35,8 @@ pub fn end_number(by: Checked, keep: bool) -> u8
 
 // ---- record
 
-fn is_device(class: Class) -> bool
+// Whether a class is one of device operations, which are what a record is of.
+pub fn is_device(class: Class) -> bool
     ensures { λ r. ⌜ r ≡ isDevice class ⌝ }
 {
     4 <= class.0 && class.0 <= 31

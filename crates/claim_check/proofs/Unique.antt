@@ -2,6 +2,8 @@
 -- Assumes nothing.
 use mathlib.Core.Path.{sym, _∙_}
 use Rattle.lists.proofs.Once.{OneAnswer}
+use Rattle.claim_check.proofs.is_in_range.Kinds as is-in-range-kinds
+use Rattle.claim_check.proofs.is_in_range.Reads as is-in-range
 use Rattle.claim_check.proofs.is_spent.Kinds as is-spent-kinds
 use Rattle.claim_check.proofs.is_spent.Reads as is-spent
 use Rattle.claim_check.proofs.sought.Kinds as sought-kinds
@@ -12,6 +14,9 @@ use Rattle.claim_check.proofs.check_claim.Kinds as check-claim-kinds
 use Rattle.claim_check.proofs.check_claim.Reads as check-claim
 use Rattle.claim_check.proofs.passed_by.Kinds as passed-by-kinds
 use Rattle.claim_check.proofs.passed_by.Reads as passed-by
+
+pub is-in-range-once : OneAnswer 0 is-in-range-kinds.ps is-in-range-kinds.r is-in-range.Post
+is-in-range-once κs a x y s t p q = p ∙ sym q
 
 pub is-spent-once : OneAnswer 0 is-spent-kinds.ps is-spent-kinds.r is-spent.Post
 is-spent-once κs a x y s t p q = p ∙ sym q

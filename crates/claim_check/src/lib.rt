@@ -20,7 +20,7 @@ use table::Active;
 use table::Found;
 
 // Whether a claim's credential, where it has one, is in its range.
-fn is_in_range(claim: Claim) -> bool
+pub fn is_in_range(claim: Claim) -> bool
     ensures { λ r. ⌜ r ≡ isInRange claim ⌝ }
 {
     match claim {

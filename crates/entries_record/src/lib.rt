@@ -5,13 +5,26 @@ ghost use Rattle.module_state.specs.Claim.{checked};
 ghost use Rattle.calls.specs.Calls.{Record};
 ghost use Rattle.state_layout.specs.Layout.{stateOf};
 ghost use Rattle.entries_call.specs.CallEntry.{CallEntry};
-ghost use Rattle.entries_record.specs.Recorded.{countedIn};
+ghost use Rattle.entries_record.specs.Recorded.{areInRange, countedIn};
 use module_state::ARGUMENT;
 use module_state::Checked;
 use module_state::Claim;
 use module_state::Class;
 use module_state::UserClaim;
 use names::Session;
+
+// Whether the arguments of a record are in their ranges. They are asked ahead of the slice, whose test takes most of a call's time: it is refused with 1 either way.
+fn are_in_range(s: Session, claim: Claim, class: Class) -> bool
+    ensures { λ r. ⌜ r ≡ areInRange s claim class ⌝ }
+{
+    if !module_state::is_session(s) {
+        return false;
+    }
+    if !claim_check::is_in_range(claim) {
+        return false;
+    }
+    calls_protected_tests::is_device(class)
+}
 
 fn count_user(state: &mut [u8], s: Session, u: UserClaim, by: Checked)
     requires { ⌜ (by ≡ checked (stateOf (now state)) s (Claim.ByUser u)) × (by .number ≡ 0) ⌝ }
@@ -42,7 +55,7 @@ fn check(state: &[u8], s: Session, claim: Claim) -> Checked
 pub fn record(state: &mut [u8], s: Session, claim: Claim, class: Class) -> u8
     ensures { λ r. ⌜ CallEntry true (now (state .entry)) (Record s claim class) r (now (state .exit)) ⌝ }
 {
-    if !entries_call::is_ready(true, state) {
+    if !entries_call::is_ready(are_in_range(s, claim, class), state) {
         return ARGUMENT;
     }
     let by = check(state, s, claim);

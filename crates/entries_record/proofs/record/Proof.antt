@@ -3,6 +3,9 @@ use Rattle.entries_record.proofs.Rules.{rules}
 use Rattle.entries_record.proofs.record.Statement.{statement}
 use Rattle.entries_record.proofs.record.Tie as tie
 
+are-in-range-requires : tie.Need-are-in-range-requires
+are-in-range-requires c κs = search rules
+
 is-ready-requires : tie.Need-is-ready-requires
 is-ready-requires c κs = search rules
 
@@ -40,6 +43,7 @@ pub record-spec : {M : Type 1} → statement M
 record-spec =
     tie.close
     (tie.spec
+    are-in-range-requires
     is-ready-requires
     same-length
     returns
