@@ -6,6 +6,8 @@ use Rattle.claim_check.proofs.is_in_range.Kinds as is-in-range-kinds
 use Rattle.claim_check.proofs.is_in_range.Reads as is-in-range
 use Rattle.claim_check.proofs.is_spent.Kinds as is-spent-kinds
 use Rattle.claim_check.proofs.is_spent.Reads as is-spent
+use Rattle.claim_check.proofs.turn_number.Kinds as turn-number-kinds
+use Rattle.claim_check.proofs.turn_number.Reads as turn-number
 use Rattle.claim_check.proofs.sought.Kinds as sought-kinds
 use Rattle.claim_check.proofs.sought.Reads as sought
 use Rattle.claim_check.proofs.speaks_for.Kinds as speaks-for-kinds
@@ -20,6 +22,9 @@ is-in-range-once κs a x y s t p q = p ∙ sym q
 
 pub is-spent-once : OneAnswer 0 is-spent-kinds.ps is-spent-kinds.r is-spent.Post
 is-spent-once κs a x y s t p q = p ∙ sym q
+
+pub turn-number-once : OneAnswer 0 turn-number-kinds.ps turn-number-kinds.r turn-number.Post
+turn-number-once κs a x y s t p q = p ∙ sym q
 
 pub sought-once : OneAnswer 0 sought-kinds.ps sought-kinds.r sought.Post
 sought-once κs a x y s t p q = p ∙ sym q

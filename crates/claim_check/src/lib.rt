@@ -37,7 +37,7 @@ pub fn is_spent(next: u16) -> bool
 }
 
 // The tests that ask for the turn, of a process with that next number.
-fn turn_number(next: u16, u: UserClaim) -> u8
+pub fn turn_number(next: u16, u: UserClaim) -> u8
     ensures { λ r. ⌜ r ≡ turnNumber next u ⌝ }
 {
     if is_spent(next) {

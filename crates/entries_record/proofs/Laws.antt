@@ -25,6 +25,7 @@ use Rattle.calls.proofs.Cut.{upTo, number-stop, outcome-stopped}
 use Rattle.state_layout.specs.Layout.{stateOf, stateBytes, holdsState}
 use Rattle.state_layout.proofs.InPlace.{next-held}
 use Rattle.state_layout.proofs.Laws.{one-form}
+use Rattle.state_find.proofs.Laws.{active-inside}
 use Rattle.entries_record.specs.Recorded.{areInRange, countedIn}
 
 -- what a call leaves whose claim did not pass stands in the slice already, so nothing need be written
@@ -50,14 +51,10 @@ module _ (st : State) (s : Session) (claim : Claim) (class : Class) (r : areInRa
   outside-number = sym (number-stop st (Record s claim class) outside-stops ∙ outside)
 
 -- ---- the count
-pub inside : (st : State) (which : Active) → hasActive st which ≡ true → activePlace st which < length (standing (st .table))
-unfolding hasActive activePlace
-inside st which h = first-inside (isActive which) (standing (st .table)) h
-
 pub counted-held : (b : List ℕ) → Bytes b → holdsState b ≡ true → (s : Session) (claim : Claim) → admitted (stateOf b) s claim ≡ 0
     → countedIn b s claim ≡ stateBytes (counted (stateOf b) s claim)
 unfolding countedIn counted activeProcess sought
 counted-held b g e s Elevated z = sym (one-form b e g)
 counted-held b g e s (ByUser u) z =
     let which : Active = UserOf s (u .credential) in
-    next-held b (activePlace (stateOf b) which) (activeProcess (stateOf b) which .next + 1) g e (inside (stateOf b) which (claim-stands (stateOf b) s (ByUser u) z))
+    next-held b (activePlace (stateOf b) which) (activeProcess (stateOf b) which .next + 1) g e (active-inside (stateOf b) which (claim-stands (stateOf b) s (ByUser u) z))

@@ -4,26 +4,31 @@ use Prim.Native.Nat.{ℕ, _+_, _<_}
 use mathlib.Core.Path.{_≡_, refl, sym, ap, _∙_}
 use mathlib.Core.Bool.{Bool, true, false, not, _&&_}
 use mathlib.Core.List.{List}
-use borrow.Author.Tests.{not-true, not-false}
-use Rattle.lists.proofs.Tests.{split, clash}
+use borrow.Author.Tests.{not-true, not-false, eq-eqb, ne-eqb}
+use Rattle.lists.proofs.Tests.{split, clash, and-left, and-right}
 use mir.Val.{Fits}
 use mir.Syntax.{w16}
 use Rattle.names.specs.declared.Session.{Session}
 use Rattle.table.specs.Table.{processAt}
 use Rattle.table.specs.declared.Active.the-variants.{UserOf}
 use Rattle.table.specs.declared.Process.{Process}
+use Rattle.module_state.specs.Numbers.{_unless_, _▸_}
 use Rattle.module_state.specs.Module.{isSession, activeProcess}
-use Rattle.module_state.specs.Claim.{isInRange, sought, checked, passedBy}
+use Rattle.module_state.specs.Claim.{isInRange, sought, checked, admitted}
 use Rattle.module_state.specs.declared.Checked.{Checked}
 use Rattle.module_state.specs.declared.Claim.{Claim}
 use Rattle.module_state.specs.declared.Claim.the-variants.{Elevated, ByUser}
 use Rattle.module_state.specs.declared.Class.{Class}
 use Rattle.module_state.specs.declared.UserClaim.{UserClaim}
-use Rattle.module_state.proofs.Laws.{checked-number, checked-next, checked-is, passed-admitted}
-use Rattle.calls.specs.Calls.{Record, isDevice, protection, recordTests, asked, number, effect, passes}
-use Rattle.calls.proofs.Cut.{only-counted, passed-by}
+use Rattle.module_state.proofs.Laws.{checked-number, checked-next}
+use Rattle.calls.specs.Calls.{Record, isDevice, protection, recordTests, asked, effect, aheadNumber, protectedNumber, passes}
+use Rattle.calls.proofs.Cut.{upTo, number-stop, only-counted}
 use Rattle.calls.proofs.Rules.{claim-place, next-fits, record-number, rules as call-rules}
 use Rattle.state_layout.specs.Layout.{stateOf, stateBytes, holdsState, nextWritten}
+use Rattle.state_find.specs.Checks.{tested}
+use Rattle.state_find.specs.declared.Tested.{Tested}
+use Rattle.state_find.specs.declared.Tested.the-variants.{Refused, Passed}
+use Rattle.state_find.proofs.Laws.{RefusedWith, tested-refusal, PassedWith, tested-pass}
 use Rattle.entries_call.specs.CallEntry.{isMade, Ready, CallEntry}
 use Rattle.entries_call.proofs.Laws.{entry-none, entry-made, made-holds}
 use Rattle.entries_record.specs.Recorded.{areInRange, countedIn}
@@ -90,27 +95,41 @@ module _ (b : List ℕ) (s : Session) (claim : Claim) (class : Class) {f h : Boo
       (sym (stopped-bytes b (e .bytes) w (Record s claim class) (outside-stops (stateOf b) s claim class o))))
       (λ w. entry-none true b (Record s claim class) w)
 
-  module _ (k : not h ≡ false) {by : Checked} (a : by ≡ checked (stateOf b) s claim) {n : ℕ} (c : n ≡ asked (recordTests class) by) where
-    q : n ≡ number (stateOf b) (Record s claim class)
-    q = record-number (stateOf b) s claim a class c
+  module _ (k : not h ≡ false) {t : Tested} (x : t ≡ tested (stateOf b) s claim) where
+    device : isDevice class ≡ true
+    unfolding areInRange isMade
+    device = and-right (isInRange claim) _ (and-right (isSession s) _ (sym r ∙ and-left f (holdsState b) (sym (e .is) ∙ not-false h k)))
 
-    -- by whether the claim passed
-    module _ {p : Bool} (y : p ≡ passedBy by n) where
-      passed : p ≡ passes (stateOf b) (Record s claim class)
-      unfolding protection
-      passed = y ∙ ap (passedBy by) q ∙ passed-by (stateOf b) (Record s claim class) refl a
+    up-to : upTo (stateOf b) (Record s claim class) ≡ admitted (stateOf b) s claim
+    unfolding aheadNumber recordTests protection protectedNumber _unless_ _▸_
+    up-to = rw device
 
-      pub record-stopped : p ≡ false → CallEntry true b (Record s claim class) n b
-      record-stopped z =
-          entry-made true b (Record s claim class) (made (made-holds e k)) q
-          (sym (stopped-bytes b (e .bytes) (made-holds e k) (Record s claim class) (sym passed ∙ z)))
+    pub record-refused : {n : ℕ} → t ≡ Refused n → CallEntry true b (Record s claim class) n b
+    unfolding passes
+    record-refused {n} y =
+        let w : RefusedWith (stateOf b) s claim n = tested-refusal (stateOf b) s claim (sym x ∙ y) in
+        let p : passes (stateOf b) (Record s claim class) ≡ false = ne-eqb _ 0 (λ z. w .some (w .is ∙ sym up-to ∙ z)) in
+        entry-made true b (Record s claim class) (made (made-holds e k)) (w .is ∙ sym up-to ∙ sym (number-stop (stateOf b) (Record s claim class) p))
+        (sym (stopped-bytes b (e .bytes) (made-holds e k) (Record s claim class) p))
 
-      pub record-passed : {after : List ℕ} → p ≡ true → after ≡ countedIn b s claim → CallEntry true b (Record s claim class) n after
-      unfolding protection effect
-      record-passed z w =
-          entry-made true b (Record s claim class) (made (made-holds e k)) q
-          (w
-          ∙ counted-held b (e .bytes) (made-holds e k) s claim (sym (checked-number (stateOf b) s claim a) ∙ passed-admitted by n y z)
-          ∙ ap stateBytes (sym (only-counted (stateOf b) (Record s claim class) refl refl (sym passed ∙ z))))
+    pub record-passed : {by : Checked} {n : ℕ} {after : List ℕ} → t ≡ Passed by → after ≡ countedIn b s claim → n ≡ asked (recordTests class) by
+        → CallEntry true b (Record s claim class) n after
+    unfolding protection effect passes
+    record-passed y w c =
+        let a : PassedWith (stateOf b) s claim _ = tested-pass (stateOf b) s claim (sym x ∙ y) in
+        let z : admitted (stateOf b) s claim ≡ 0 = sym (checked-number (stateOf b) s claim (a .is)) ∙ a .clear in
+        let p : passes (stateOf b) (Record s claim class) ≡ true = eq-eqb _ 0 (up-to ∙ z) in
+        entry-made true b (Record s claim class) (made (made-holds e k)) (record-number (stateOf b) s claim (a .is) class c)
+        (w
+        ∙ counted-held b (e .bytes) (made-holds e k) s claim z
+        ∙ ap stateBytes (sym (only-counted (stateOf b) (Record s claim class) refl refl p)))
 
-pub ruleset rules = (call-rules, one-more-fits, count-written, count-elevated, count-by-user, range-session, range-claim, range-class, record-none, record-stopped, record-passed, passed-admitted, checked-is)
+-- what the count asks
+module _ (b : List ℕ) (s : Session) (claim : Claim) {t : Tested} {by : Checked} (x : t ≡ tested (stateOf b) s claim) (y : t ≡ Passed by) where
+  pub passed-checked : by ≡ checked (stateOf b) s claim
+  passed-checked = tested-pass (stateOf b) s claim (sym x ∙ y) .is
+
+  pub passed-clear : by .number ≡ 0
+  passed-clear = tested-pass (stateOf b) s claim (sym x ∙ y) .clear
+
+pub ruleset rules = (call-rules, one-more-fits, count-written, count-elevated, count-by-user, range-session, range-claim, range-class, record-none, record-refused, record-passed, passed-checked, passed-clear)

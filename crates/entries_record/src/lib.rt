@@ -12,6 +12,7 @@ use module_state::Claim;
 use module_state::Class;
 use module_state::UserClaim;
 use names::Session;
+use state_find::Tested;
 
 // Whether the arguments of a record are in their ranges. They are asked ahead of the slice, whose test takes most of a call's time: it is refused with 1 either way.
 fn are_in_range(s: Session, claim: Claim, class: Class) -> bool
@@ -43,13 +44,6 @@ fn count(state: &mut [u8], s: Session, claim: Claim, by: Checked)
     }
 }
 
-// What the check of a claim comes to, of the state that the slice says.
-fn check(state: &[u8], s: Session, claim: Claim) -> Checked
-    ensures { λ r. ⌜ r ≡ checked (stateOf (now (state .entry))) s claim ⌝ }
-{
-    claim_check::check_claim(s, claim, state_find::claim_view(state, s, claim))
-}
-
 // The number of a record. Where its claim passed, refused afterwards or not, and is a user's, its process's next number is one more. A slice that holds no state
 // is refused.
 pub fn record(state: &mut [u8], s: Session, claim: Claim, class: Class) -> u8
@@ -58,10 +52,12 @@ pub fn record(state: &mut [u8], s: Session, claim: Claim, class: Class) -> u8
     if !entries_call::is_ready(are_in_range(s, claim, class), state) {
         return ARGUMENT;
     }
-    let by = check(state, s, claim);
-    let answer = calls_protected_tests::record_number(by, class);
-    if claim_check::passed_by(by, answer) {
-        count(state, s, claim, by);
+    let tested = state_find::check(state, s, claim);
+    match tested {
+        Tested::Refused(number) => number,
+        Tested::Passed(by) => {
+            count(state, s, claim, by);
+            calls_protected_tests::record_number(by, class)
+        }
     }
-    answer
 }

@@ -33,7 +33,8 @@ use Rattle.state_layout.proofs.Laws.{holds-shape, holds-is, one-form}
 use Rattle.listing_call.proofs.Laws.{list-refused}
 use Rattle.entries_call.specs.CallEntry.{isMade, entryNumber, entryBytes, CallEntry}
 use Rattle.entries_record.specs.Recorded.{countedIn}
-use Rattle.entries_record.proofs.Laws.{inside, counted-held}
+use Rattle.entries_record.proofs.Laws.{counted-held}
+use Rattle.state_find.proofs.Laws.{active-inside}
 use Rattle.entries_protected.specs.Listing.{entryResponse, entryLength, ListEntry}
 use Rattle.history_lent.specs.Refusals.{OneMoreIn, Refused}
 
@@ -67,7 +68,7 @@ module _ (b : List ℕ) (g : Bytes b) (h : holdsState b ≡ true) where
 
     low : at < places
     unfolding sought
-    low = omega (arith, inside st (UserOf s (u .credential)) (claim-stands st s (ByUser u) z), holds-is b h g .rules .few)
+    low = omega (arith, active-inside st (UserOf s (u .credential)) (claim-stands st s (ByUser u) z), holds-is b h g .rules .few)
 
     long : length b ≡ stateLength
     long = holds-shape b h .long

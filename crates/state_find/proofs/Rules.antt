@@ -2,18 +2,18 @@
 -- Assumes nothing.
 use Prim.Native.Nat.{ℕ, zero, suc, _+_, _-_, _*_, _<_, _≤_}
 use mathlib.Core.Path.{_≡_, refl, sym, ap, _∙_}
-use mathlib.Core.Bool.{Bool, true, false}
-use mathlib.Core.List.{List, [], map}
+use mathlib.Core.Bool.{Bool, true, false, not}
+use mathlib.Core.List.{List, map}
 use native.Mathlib.Omega.{arith}
 use native.Mathlib.Nat.{add-zero}
 use borrow.Author.Needs.{needs}
-use borrow.Author.Tests.{eq-eqb, ne-eqb, lt-ltb, ltb-true}
+use borrow.Author.Tests.{eq-eqb, ne-eqb, eqb-true, eqb-false}
 use lib.Dec.{eqb}
 use lib.ListN.{length, take, drop, getD, List·getD-eq-default, length-map}
 use lib.Seq.{getD-take, getD-drop}
 use Rattle.rows.specs.Bytes.{numberAt, Widened}
-use Rattle.lists.specs.Lists.{firstIndex}
 use Rattle.lists.proofs.Lists.{length-mapped, getD-same, first-inside}
+use Rattle.lists.proofs.Tests.{split, clash}
 use Rattle.rows.specs.Rows.{rows}
 use Rattle.rows.proofs.Bytes.{number-part}
 use Rattle.rows.proofs.Rows.{rows-length}
@@ -27,23 +27,31 @@ use Rattle.table.specs.declared.Active.the-variants.{UserOf, ElevationIn}
 use Rattle.table.specs.declared.Found.{Found}
 use Rattle.table.specs.declared.Found.the-variants.{At, Nothing}
 use Rattle.table.specs.declared.Process.{Process}
-use Rattle.table.specs.declared.Table.{Table}
-use Rattle.table.proofs.Laws.{standing-of, size-few}
+use Rattle.table.proofs.Laws.{size-few}
 use Rattle.table.proofs.Rules.{noProcess, size-part, size-all, process-got}
 use Rattle.table.proofs.Searched.{FoundAt, found-at}
 use Rattle.table_search.proofs.Rules.{Searching, begin, on, hit, none}
-use Rattle.module_state.specs.Module.{closedSession, phaseOf, unprovisioned, grantsOf, sessionCount, credentialCount}
-use Rattle.module_state.specs.Claim.{speaksFor, processFound, claimView}
+use Rattle.module_state.specs.Module.{closedSession, phaseOf, isClosed, unprovisioned, grantsOf, sessionCount, credentialCount, hasActive, activePlace, activeProcess}
+use Rattle.module_state.specs.Claim.{phaseNumber, sought, speaksFor, speaker, claimView, isInRange, turnNumber, claimNumber, checkNumber, placed, checkOf, checked, admitted}
+use Rattle.module_state.specs.declared.Checked.{Checked}
 use Rattle.module_state.specs.declared.Claim.{Claim}
+use Rattle.module_state.specs.declared.Claim.the-variants.{Elevated, ByUser}
 use Rattle.module_state.specs.declared.ClaimView.{ClaimView}
 use Rattle.module_state.specs.declared.Grants.{Grants}
 use Rattle.module_state.specs.declared.Phase.{Phase}
 use Rattle.module_state.specs.declared.Phase.the-variants.{Closed}
+use Rattle.module_state.specs.declared.Placed.{Placed}
 use Rattle.module_state.specs.declared.SessionState.{SessionState}
-use Rattle.module_state.proofs.Laws.{view-of}
-use Rattle.state_layout.specs.Layout.{ownerAt, kindAt, sessionAt, credentialSize, nextAt, nextSize, placeSize, sessionsAt, sessionSize, credentialsAt, countAt, placesAt, stateLength, phaseFrom, sessionFrom, grantsFrom, processFrom, countIn, placesIn, nothingHeld, stateOf}
+use Rattle.module_state.specs.declared.State.{State}
+use Rattle.module_state.specs.declared.UserClaim.{UserClaim}
+use Rattle.module_state.proofs.Laws.{clear-first, clear-rest, clear-when, process-is, passed-check, claim-stands, checked-place}
+use Rattle.module_state.proofs.Rules.{unless-stop, unless-pass, part-stop, part-pass, placed-found, refused-placed, number-placed, placed-on}
+use Rattle.claim_check.proofs.Rules.{missing-stop, found-pass, missing-last, found-last, place-at}
+use Rattle.state_layout.specs.Layout.{ownerAt, kindAt, sessionAt, credentialSize, nextAt, nextSize, placeSize, sessionsAt, sessionSize, credentialsAt, countAt, placesAt, stateLength, phaseFrom, sessionFrom, grantsFrom, processFrom, countIn, placesIn, stateOf}
 use Rattle.state_layout.proofs.Laws.{state-in, state-not-in}
-use Rattle.state_find.specs.Found.{isStanding}
+use Rattle.state_find.proofs.Laws.{active-inside}
+use Rattle.state_find.specs.Checks.{claimPlace, checkedPlace, tested}
+use Rattle.state_find.specs.declared.Tested.the-variants.{Refused, Passed}
 use Rattle.state_layout.proofs.Parts.{place-part}
 
 -- ---- sessions and credentials
@@ -126,9 +134,6 @@ module _ (x : List ℕ) {which : Active} where
     active-elevation k = rw (w, k)
 
 -- ---- the places
-abbrev noOwner : Credential
-noOwner = record { 0 = 0 }
-
 module _ (s : List ℕ) where
   module _ (h : length s ≡ stateLength) where
     places-long : length (stateOf s .table .places) ≡ places
@@ -153,22 +158,22 @@ module _ (s : List ℕ) where
         let u : j < placesAt + i * placeSize + placeSize - (placesAt + i * placeSize) = omega arith in
         getD-take (placesAt + i * placeSize + placeSize - (placesAt + i * placeSize)) (drop (placesAt + i * placeSize) s) j 0 u ∙ getD-drop (placesAt + i * placeSize) s j 0
 
-    place-at : (i : ℕ) → i < places → getD (stateOf s .table .places) i noProcess ≡ processFrom (take (placesAt + i * placeSize + placeSize - (placesAt + i * placeSize)) (drop (placesAt + i * placeSize) s))
+    place-here : (i : ℕ) → i < places → getD (stateOf s .table .places) i noProcess ≡ processFrom (take (placesAt + i * placeSize + placeSize - (placesAt + i * placeSize)) (drop (placesAt + i * placeSize) s))
     unfolding placesIn
-    place-at i k = rw (state-in s h) (map-part processFrom places placeSize placesAt s i noProcess k)
+    place-here i k = rw (state-in s h) (map-part processFrom places placeSize placesAt s i noProcess k)
 
     pub find-begin : {f : Process → Bool} {n : ℕ} → n ≡ size (stateOf s .table) → Searching f (stateOf s .table .places) n 0
     find-begin {f} e = begin f (stateOf s .table) e places-long
 
     module _ {f : Process → Bool} {n i : ℕ} {b : Bool} (v : Searching f (stateOf s .table .places) n i) (k : i < n) (e : b ≡ f (processFrom (take (placesAt + i * placeSize + placeSize - (placesAt + i * placeSize)) (drop (placesAt + i * placeSize) s)))) where
-      tested : b ≡ f (getD (stateOf s .table .places) i noProcess)
-      tested = e ∙ ap f (sym (place-at i (omega (arith, v .small))))
+      looked : b ≡ f (getD (stateOf s .table .places) i noProcess)
+      looked = e ∙ ap f (sym (place-here i (omega (arith, v .small))))
 
       pub find-on : b ≡ false → Searching f (stateOf s .table .places) n (i + 1)
-      find-on t = on v k tested t
+      find-on t = on v k looked t
 
       pub find-hit : {at : ℕ} → n ≡ size (stateOf s .table) → b ≡ true → at ≡ i → At at ≡ firstPlace f (standing (stateOf s .table))
-      find-hit q t a = hit (stateOf s .table) q v k tested t a
+      find-hit q t a = hit (stateOf s .table) q v k looked t a
 
     pub find-none : {f : Process → Bool} {n i : ℕ} → n ≡ size (stateOf s .table) → Searching f (stateOf s .table .places) n i → n ≤ i → Nothing ≡ firstPlace f (standing (stateOf s .table))
     find-none q v k = none (stateOf s .table) q v k
@@ -178,7 +183,7 @@ module _ (s : List ℕ) where
       place-low = omega (arith, size-few (stateOf s .table) places-long)
 
       process-read : processFrom (place at) ≡ processAt (stateOf s .table) at
-      process-read = sym (place-at at place-low) ∙ process-got (stateOf s .table) {n = size (stateOf s .table)} refl k places-long
+      process-read = sym (place-here at place-low) ∙ process-got (stateOf s .table) {n = size (stateOf s .table)} refl k places-long
 
       pub owner-read : {r : ℕ} → Widened (getD s (placesAt + at * placeSize + ownerAt) 0) r → _≡_ {A = Credential} (record { 0 = r }) (processAt (stateOf s .table) at .credential)
       unfolding processFrom
@@ -191,51 +196,140 @@ module _ (s : List ℕ) where
           let next : numberAt nextSize nextAt (place at) ≡ numberAt nextSize (placesAt + at * placeSize + nextAt) s = number-part nextSize nextAt (placesAt + at * placeSize + placeSize - (placesAt + at * placeSize)) (placesAt + at * placeSize) s inside in
           q ∙ sym next ∙ ap (λ (p : Process). p .next) process-read
 
--- ---- the process that the search found
-module _ (t : Table) {f : Found} where
-  module _ {k : ℕ} (e : f ≡ At k) where
-    pub owner-found : {c : Credential} → c ≡ processAt t k .credential → c ≡ processFound t f .credential
-    unfolding processFound
-    owner-found q = q ∙ rw e
-
-    pub next-found : {n : ℕ} → n ≡ processAt t k .next → n ≡ processFound t f .next
-    unfolding processFound
-    next-found q = q ∙ rw e
-
-  pub owner-missing : f ≡ Nothing → noOwner ≡ processFound t f .credential
-  unfolding processFound
-  owner-missing e = rw e
-
-  pub next-missing : f ≡ Nothing → 0 ≡ processFound t f .next
-  unfolding processFound
-  next-missing e = rw e
+-- ---- the claim's own tests
 
 -- a process stands where one was found
-module _ (t : Table) {f : Found} where
-  pub found-standing : (g : Process → Bool) → f ≡ firstPlace g (standing t) → isStanding t f ≡ true
-  unfolding isStanding size
-  found-standing g e = case f e
-    where
-      case : (f : Found) → f ≡ firstPlace g (standing t) → isStanding t f ≡ true
-      case (At k) e =
-          let a : FoundAt g (standing t) k = found-at g (standing t) (sym e) in
-          lt-ltb k (length (standing t)) (rw (a .is) (first-inside g (standing t) (a .some)))
-      case Nothing e = refl
+pub found-inside : (st : State) (a : Active) {f : Found} {k : ℕ} → f ≡ firstPlace (isActive a) (standing (st .table)) → f ≡ At k → k < size (st .table)
+unfolding size
+found-inside st a {k = k} w q =
+    let g : FoundAt (isActive a) (standing (st .table)) k = found-at (isActive a) (standing (st .table)) (sym w ∙ q) in
+    rw (g .is) (first-inside (isActive a) (standing (st .table)) (g .some))
 
-  pub standing-at : {k : ℕ} → isStanding t f ≡ true → f ≡ At k → k < size t
-  unfolding isStanding
-  standing-at {k} h e = ltb-true k (size t) (rw e at h)
+module _ (st : State) (s : Session) (a : Active) {f : Found} (w : f ≡ firstPlace (isActive a) (standing (st .table))) where
+  seen : (claim : Claim) → a ≡ sought s claim → f ≡ claimView st s claim .found
+  unfolding claimView
+  seen claim e = rw (← e) w
 
--- ---- a slice of another length
-pub told-nothing : (session : Session) (claim : Claim) {c : Credential} → c ≡ speaksFor claim noOwner
-    → _≡_ {A = ClaimView} (record { phase = Closed; found = Nothing; next = 0; credential = c; grants = unprovisioned }) (claimView nothingHeld session claim)
-unfolding phaseOf grantsOf processFound firstPlace firstIndex
-told-nothing session claim {c} e =
-    view-of nothingHeld session claim refl (rw (standing-of [])) refl refl e
-    (ap (λ (x : SessionState). x .phase) (sym (getD-same sessionCount (session .0) closedSession)))
-    (sym (getD-same credentialCount (c .0) unprovisioned))
+  module _ (e : a ≡ sought s Elevated) where
+    pub elevated-none : {r : Placed} → f ≡ Nothing → r ≡ record { number = 6; place = 0 } → r ≡ claimPlace st s Elevated
+    unfolding claimPlace claimNumber claimView
+    elevated-none n q = number-placed _ _ q tt (missing-last (claimView st s Elevated) (seen Elevated e) 6 n)
 
-pub told-short : (s : List ℕ) (session : Session) (claim : Claim) {r : ClaimView} → r ≡ claimView nothingHeld session claim → (length s ≡ stateLength → ⊥) → r ≡ claimView (stateOf s) session claim
-told-short s session claim e n = e ∙ rw (state-not-in s n)
+    pub elevated-at : {k : ℕ} → f ≡ At k → _≡_ {A = Placed} (record { number = 0; place = k }) (claimPlace st s Elevated)
+    unfolding claimPlace claimNumber claimView
+    elevated-at n = placed-found _ _ (found-last (claimView st s Elevated) (seen Elevated e) 6 n) (place-at (claimView st s Elevated) (seen Elevated e) n)
 
-pub ruleset rules = (needs, length-mapped, phase-past, phase-read, grants-past, grants-read, active-no-user, active-elsewhere, active-user, active-no-elevation, active-elevation, size-some, size-every, find-begin, find-on, find-hit, find-none, place-low, owner-read, next-read, place-part, owner-found, next-found, owner-missing, next-missing, found-standing, standing-at, told-nothing, told-short, view-of)
+  module _ (u : UserClaim) (e : a ≡ sought s (ByUser u)) {g : Grants} (p : g ≡ grantsOf st (u .credential)) (h : not (g .provisioned) ≡ false) where
+    abbrev told : ClaimView
+    told = claimView st s (ByUser u)
+
+    pub user-none : {r : Placed} → f ≡ Nothing → r ≡ record { number = 6; place = 0 } → r ≡ claimPlace st s (ByUser u)
+    unfolding claimPlace claimNumber claimView speaker
+    user-none n q = number-placed _ _ q tt (unless-pass 5 (ap (λ (g : Grants). g .provisioned) p) _ h (missing-stop told (seen (ByUser u) e) 6 _ tt n))
+
+    module _ {k : ℕ} (n : f ≡ At k) {next t : ℕ} (x : next ≡ processAt (st .table) k .next) (y : t ≡ turnNumber next u) where
+      user-number : t ≡ claimNumber (ByUser u) told
+      unfolding claimNumber claimView speaker
+      user-number =
+          let v : next ≡ activeProcess st (sought s (ByUser u)) .next = x ∙ ap (λ (q : Process). q .next) (process-is st (sought s (ByUser u)) (seen (ByUser u) e) n refl) in
+          unless-pass 5 (ap (λ (g : Grants). g .provisioned) p) _ h (found-pass told (seen (ByUser u) e) 6 _ n (y ∙ rw v))
+
+      pub user-turn : {r : Placed} → (t ≡ 0 → ⊥) → r ≡ record { number = t; place = 0 } → r ≡ claimPlace st s (ByUser u)
+      unfolding claimPlace
+      user-turn z q = refused-placed _ _ q z user-number
+
+      pub user-at : t ≡ 0 → _≡_ {A = Placed} (record { number = 0; place = k }) (claimPlace st s (ByUser u))
+      unfolding claimPlace claimView
+      user-at z = placed-found _ _ (sym z ∙ user-number) (place-at told (seen (ByUser u) e) n)
+
+module _ (st : State) (s : Session) where
+  pub user-unprovisioned : (u : UserClaim) {g : Grants} {r : Placed} → g ≡ grantsOf st (u .credential) → not (g .provisioned) ≡ true → r ≡ record { number = 5; place = 0 }
+      → r ≡ claimPlace st s (ByUser u)
+  unfolding claimPlace claimNumber claimView speaker
+  user-unprovisioned u p h q = number-placed _ _ q tt (unless-stop 5 (ap (λ (g : Grants). g .provisioned) p) _ tt h)
+
+  module _ {claim : Claim} {r : Placed} where
+    pub place-elevated : claim ≡ Elevated → r ≡ claimPlace st s Elevated → r ≡ claimPlace st s claim
+    place-elevated e q = q ∙ rw e
+
+    pub place-user : {u : UserClaim} → claim ≡ ByUser u → r ≡ claimPlace st s (ByUser u) → r ≡ claimPlace st s claim
+    place-user e q = q ∙ rw e
+
+-- ---- all tests
+module _ (st : State) (s : Session) (claim : Claim) {b : Bool} (e : b ≡ isInRange claim) where
+  pub place-range : {r : Placed} → not b ≡ true → r ≡ record { number = 1; place = 0 } → r ≡ checkedPlace st s claim
+  unfolding checkedPlace checked checkOf checkNumber placed
+  place-range h q = number-placed _ _ q tt (unless-stop 1 e _ tt h)
+
+  module _ (h : not b ≡ false) {p : Phase} (w : p ≡ phaseOf st s) {n : ℕ} (m : n ≡ phaseNumber s p) where
+    entry : n ≡ phaseNumber s (phaseOf st s)
+    entry = m ∙ rw w
+
+    pub place-phase : {r : Placed} → (n ≡ 0 → ⊥) → r ≡ record { number = n; place = 0 } → r ≡ checkedPlace st s claim
+    unfolding checkedPlace checked checkOf checkNumber placed claimView
+    place-phase z q = refused-placed _ _ q z (unless-pass 1 e _ h (part-stop _ entry z))
+
+    pub place-claim : {r : Placed} → n ≡ 0 → r ≡ claimPlace st s claim → r ≡ checkedPlace st s claim
+    unfolding checkedPlace checked checkOf checkNumber placed claimView claimPlace
+    place-claim z q = placed-on _ _ _ q (unless-pass 1 e _ h (part-pass _ entry z refl))
+
+-- ---- a session that is not closed is one of a slice of the state's length
+module _ (b : List ℕ) (s : Session) where
+  open-long : isClosed (phaseOf (stateOf b) s) ≡ false → length b ≡ stateLength
+  unfolding phaseOf isClosed
+  open-long o =
+      split (eqb (length b) stateLength) (λ e. eqb-true _ _ e)
+      (λ e.
+      clash {t = isClosed (phaseOf (stateOf b) s)}
+      (rw (state-not-in b (eqb-false _ _ e), getD-same sessionCount (s .0) closedSession))
+      o)
+
+  pub entered-long : {p : Phase} {n : ℕ} → p ≡ phaseOf (stateOf b) s → n ≡ phaseNumber s p → n ≡ 0 → length b ≡ stateLength
+  unfolding phaseNumber
+  entered-long w m z = open-long (rw (← w) (clear-when 2 tt _ (clear-first _ _ (clear-rest _ _ (sym m ∙ z)))))
+
+  pub phase-short : (length b ≡ stateLength → ⊥) → Closed ≡ phaseOf (stateOf b) s
+  unfolding phaseOf
+  phase-short n = sym (rw (state-not-in b n) (ap (λ (x : SessionState). x .phase) (getD-same sessionCount (s .0) closedSession)))
+
+-- ---- what a call goes on with
+module _ (st : State) (s : Session) (claim : Claim) {p : Placed} (e : p ≡ checkedPlace st s claim) (z : p .number ≡ 0) where
+  clear : admitted st s claim ≡ 0
+  unfolding checkedPlace admitted
+  clear = sym (ap (λ (x : Placed). x .number) e) ∙ z
+
+  stands-at : p .place ≡ activePlace st (sought s claim)
+  unfolding checkedPlace admitted
+  stands-at = ap (λ (x : Placed). x .place) e ∙ checked-place st s claim refl clear
+
+  pub passed-inside : p .place < size (st .table)
+  unfolding size
+  passed-inside = rw stands-at (active-inside st (sought s claim) (claim-stands st s claim clear))
+
+  pub passed-is : {next : ℕ} {owner c : Credential} {g : Grants}
+      → next ≡ processAt (st .table) (p .place) .next → owner ≡ processAt (st .table) (p .place) .credential → c ≡ speaksFor claim owner → g ≡ grantsOf st c
+      → _≡_ {A = Checked} (record { claim = claim; number = 0; place = p .place; next = next; credential = c; grants = g }) (checked st s claim)
+  unfolding checkedPlace checked checkOf claimView speaker activeProcess admitted
+  passed-is {next} {owner} {c} {g} en eo ec eg =
+      let x : processAt (st .table) (p .place) ≡ activeProcess st (sought s claim) = ap (processAt (st .table)) stands-at in
+      let cc : c ≡ speaker st s claim = ec ∙ ap (speaksFor claim) (eo ∙ ap (λ (q : Process). q .credential) x) in
+      let nn : next ≡ activeProcess st (sought s claim) .next = en ∙ ap (λ (q : Process). q .next) x in
+      let pp : p .place ≡ checked st s claim .place = ap (λ (x : Placed). x .place) e in
+      ap (λ (k : ℕ). record { claim = claim; number = k; place = p .place; next = next; credential = c; grants = g }) (sym clear) ∙ rw (pp, eg, nn, cc)
+
+  pub tested-passed : {by : Checked} → by ≡ checked st s claim → Passed by ≡ tested st s claim
+  unfolding tested
+  tested-passed q = rw (clear, q)
+
+module _ (b : List ℕ) (s : Session) (claim : Claim) {p : Placed} (e : p ≡ checkedPlace (stateOf b) s claim) (z : p .number ≡ 0) where
+  pub passed-long : length b ≡ stateLength
+  passed-long = open-long b s (passed-check (stateOf b) s claim (clear (stateOf b) s claim e z) .opened)
+
+  pub passed-low : p .place < places
+  passed-low = place-low b passed-long (passed-inside (stateOf b) s claim e z)
+
+pub tested-refused : (st : State) (s : Session) (claim : Claim) {p : Placed} → p ≡ checkedPlace st s claim → (p .number ≡ 0 → ⊥) → Refused (p .number) ≡ tested st s claim
+unfolding tested checkedPlace admitted
+tested-refused st s claim {p} e h = let q : p .number ≡ admitted st s claim = unfold checkedPlace admitted in ap (λ (x : Placed). x .number) e in rw (← q, ne-eqb (p .number) 0 h)
+
+pub ruleset rules = (needs, length-mapped, phase-short, phase-past, phase-read, grants-past, grants-read, active-no-user, active-elsewhere, active-user, active-no-elevation, active-elevation, size-some, size-every, find-begin, find-on, find-hit, find-none, place-low, owner-read, next-read, place-part, found-inside, elevated-none, elevated-at, user-unprovisioned, user-none, user-turn, user-at, place-elevated, place-user, place-range, place-phase, place-claim, entered-long, passed-inside, passed-is, passed-long, passed-low, tested-passed, tested-refused)

@@ -2,8 +2,8 @@
 -- Assumes nothing.
 use mathlib.Core.Path.{sym, _∙_}
 use Rattle.lists.proofs.Once.{OneAnswer}
-use Rattle.state_find.proofs.claim_view.Kinds as claim-view-kinds
-use Rattle.state_find.proofs.claim_view.Reads as claim-view
+use Rattle.state_find.proofs.check.Kinds as check-kinds
+use Rattle.state_find.proofs.check.Reads as check-reads
 
-pub claim-view-once : OneAnswer 1 claim-view-kinds.ps claim-view-kinds.r claim-view.Post
-claim-view-once κs a x y s t p q = p ∙ sym q
+pub check-once : OneAnswer 1 check-kinds.ps check-kinds.r check-reads.Post
+check-once κs a x y s t p q = p ∙ sym q

@@ -1,20 +1,25 @@
-// What the check of a claim asks of the state that a slice says, read where it lies: for an entry that need not read the whole. docs/STATE.md draws the layout.
+// The check of a claim on the state that a slice says, where it lies: nothing is read but what its tests come to. docs/STATE.md draws the layout.
 ghost use mathlib.Core.Path.{_≡_};
-ghost use mathlib.Core.Bool.{true};
 ghost use Prim.Native.Nat.{_<_};
 ghost use lib.ListN.{length};
 ghost use Rattle.table.specs.Table.{places, size, isActive, findActive, processAt};
 ghost use Rattle.module_state.specs.Module.{phaseOf, grantsOf};
-ghost use Rattle.module_state.specs.Claim.{processFound, claimView};
-ghost use Rattle.state_layout.specs.Layout.{placeSize, stateLength, processFrom, nothingHeld, stateOf};
-ghost use Rattle.state_find.specs.Found.{isStanding};
+ghost use Rattle.module_state.specs.Claim.{checked};
+ghost use Rattle.state_layout.specs.Layout.{placeSize, stateLength, processFrom, stateOf};
+ghost use Rattle.state_find.specs.Checks.{claimPlace, checkedPlace, tested};
+use module_state::ARGUMENT;
+use module_state::CREDENTIAL;
 use module_state::CREDENTIALS;
+use module_state::Checked;
 use module_state::Claim;
-use module_state::ClaimView;
+use module_state::DONE;
 use module_state::Grants;
+use module_state::NO_PROCESS;
 use module_state::Phase;
+use module_state::Placed;
 use module_state::SESSIONS;
 use module_state::UNPROVISIONED;
+use module_state::UserClaim;
 use names::Credential;
 use names::ELEVATION_TYPE;
 use names::Session;
@@ -33,13 +38,22 @@ use table::Active;
 use table::Found;
 use table::PLACES;
 
+// What the check of a claim comes to: the number that refuses it, or what a call goes on with.
+pub enum Tested {
+    Refused(u8),
+    Passed(Checked),
+}
+
 // ---- sessions and credentials
 
-// The phase of a session; closed where there is no such session.
+// The phase of a session; closed where there is no such session, and in a slice of another length. No claim passes that, so what is asked after it has no such
+// slice.
 fn phase_of(s: &[u8], session: Session) -> Phase
-    requires { ⌜ length (now s) ≡ stateLength ⌝ }
     ensures { λ r. ⌜ r ≡ phaseOf (stateOf (now (s .entry))) session ⌝ }
 {
+    if s.len() != STATE_LENGTH {
+        return Phase::Closed;
+    }
     let at = session.0 as usize;
     if SESSIONS <= at {
         return Phase::Closed;
@@ -139,57 +153,95 @@ fn credential_at(s: &[u8], at: usize) -> Credential
     Credential(rows::wide16(s[a + OWNER_AT]))
 }
 
-// ---- what the check of a claim asks
+// ---- the check of a claim, in the order of its tests
 
-fn owner_found(s: &[u8], found: Found) -> Credential
-    requires { ⌜ (length (now s) ≡ stateLength) × (isStanding (stateOf (now s) .table) found ≡ true) ⌝ }
-    ensures { λ r. ⌜ r ≡ processFound (stateOf (now (s .entry)) .table) found .credential ⌝ }
+fn elevated_place(s: &[u8], session: Session) -> Placed
+    requires { ⌜ length (now s) ≡ stateLength ⌝ }
+    ensures { λ r. ⌜ r ≡ claimPlace (stateOf (now (s .entry))) session Claim.Elevated ⌝ }
 {
-    match found {
-        Found::At(at) => credential_at(s, at),
-        Found::Nothing => Credential(0),
+    let found = find_active(s, claim_check::sought(session, Claim::Elevated));
+    let Found::At(place) = found else {
+        return module_state::refused(NO_PROCESS);
+    };
+    Placed {
+        number: DONE,
+        place: place,
     }
 }
 
-fn next_found(s: &[u8], found: Found) -> u16
-    requires { ⌜ (length (now s) ≡ stateLength) × (isStanding (stateOf (now s) .table) found ≡ true) ⌝ }
-    ensures { λ r. ⌜ r ≡ processFound (stateOf (now (s .entry)) .table) found .next ⌝ }
+// Of a credential that is not provisioned no process is sought.
+fn user_place(s: &[u8], session: Session, u: UserClaim) -> Placed
+    requires { ⌜ length (now s) ≡ stateLength ⌝ }
+    ensures { λ r. ⌜ r ≡ claimPlace (stateOf (now (s .entry))) session (Claim.ByUser u) ⌝ }
 {
-    match found {
-        Found::At(at) => next_number(s, at),
-        Found::Nothing => 0,
+    let c = u.credential;
+    let grants = grants_of(s, c);
+    if !grants.provisioned {
+        return module_state::refused(CREDENTIAL);
+    }
+    let found = find_active(s, claim_check::sought(session, Claim::ByUser(u)));
+    let Found::At(place) = found else {
+        return module_state::refused(NO_PROCESS);
+    };
+    let turn = claim_check::turn_number(next_number(s, place), u);
+    if turn != DONE {
+        return module_state::refused(turn);
+    }
+    Placed {
+        number: DONE,
+        place: place,
     }
 }
 
-// What a slice of another length tells.
-fn nothing_told(session: Session, claim: Claim) -> ClaimView
-    ensures { λ r. ⌜ r ≡ claimView nothingHeld session claim ⌝ }
+// The tests of the claim itself.
+fn claim_place(s: &[u8], session: Session, claim: Claim) -> Placed
+    requires { ⌜ length (now s) ≡ stateLength ⌝ }
+    ensures { λ r. ⌜ r ≡ claimPlace (stateOf (now (s .entry))) session claim ⌝ }
 {
-    let c = claim_check::speaks_for(claim, Credential(0));
-    ClaimView {
-        phase: Phase::Closed,
-        found: Found::Nothing,
-        next: 0,
-        credential: c,
-        grants: UNPROVISIONED,
+    match claim {
+        Claim::Elevated => elevated_place(s, session),
+        Claim::ByUser(u) => user_place(s, session, u),
     }
 }
 
-// What the state tells of a claim that is made in a session.
-pub fn claim_view(s: &[u8], session: Session, claim: Claim) -> ClaimView
-    ensures { λ r. ⌜ r ≡ claimView (stateOf (now (s .entry))) session claim ⌝ }
+// All of them: the number, and the place of the claim's process where that is 0.
+fn checked_place(s: &[u8], session: Session, claim: Claim) -> Placed
+    ensures { λ r. ⌜ r ≡ checkedPlace (stateOf (now (s .entry))) session claim ⌝ }
 {
-    if s.len() != STATE_LENGTH {
-        return nothing_told(session, claim);
+    if !claim_check::is_in_range(claim) {
+        return module_state::refused(ARGUMENT);
     }
-    let found = find_active(s, claim_check::sought(session, claim));
-    let next = next_found(s, found);
-    let c = claim_check::speaks_for(claim, owner_found(s, found));
-    ClaimView {
-        phase: phase_of(s, session),
-        found: found,
+    let entry = module_state::phase_number(session, phase_of(s, session));
+    if entry != DONE {
+        return module_state::refused(entry);
+    }
+    claim_place(s, session, claim)
+}
+
+// What a call goes on with whose claim passed.
+fn passed(s: &[u8], session: Session, claim: Claim, at: Placed) -> Checked
+    requires { ⌜ (at ≡ checkedPlace (stateOf (now s)) session claim) × (at .number ≡ 0) ⌝ }
+    ensures { λ r. ⌜ r ≡ checked (stateOf (now (s .entry))) session claim ⌝ }
+{
+    let next = next_number(s, at.place);
+    let c = claim_check::speaks_for(claim, credential_at(s, at.place));
+    let grants = grants_of(s, c);
+    Checked {
+        claim: claim,
+        number: DONE,
+        place: at.place,
         next: next,
         credential: c,
-        grants: grants_of(s, c),
+        grants: grants,
     }
+}
+
+pub fn check(s: &[u8], session: Session, claim: Claim) -> Tested
+    ensures { λ r. ⌜ r ≡ tested (stateOf (now (s .entry))) session claim ⌝ }
+{
+    let at = checked_place(s, session, claim);
+    if at.number != DONE {
+        return Tested::Refused(at.number);
+    }
+    Tested::Passed(passed(s, session, claim, at))
 }

@@ -18,14 +18,17 @@ returns c = search rules
 check-requires : tie.Need-check-requires
 check-requires c κs = search rules
 
-record-number-requires : tie.Need-record-number-requires
-record-number-requires c κs = search rules
+enum-known-tested : tie.Need-enum-known-tested
+enum-known-tested c = search rules
 
-passed-by-requires : tie.Need-passed-by-requires
-passed-by-requires c κs = search rules
+enum-known-tested-2 : tie.Need-enum-known-tested-2
+enum-known-tested-2 c = search rules
 
 count-requires : tie.Need-count-requires
-count-requires c κs = search rules
+count-requires c κs = (search rules, search rules)
+
+record-number-requires : tie.Need-record-number-requires
+record-number-requires c κs = search rules
 
 same-length-2 : tie.Need-same-length-2
 same-length-2 c = search rules
@@ -48,9 +51,10 @@ record-spec =
     same-length
     returns
     check-requires
-    record-number-requires
-    passed-by-requires
+    enum-known-tested
+    enum-known-tested-2
     count-requires
+    record-number-requires
     same-length-2
     returns-2
     same-length-3
