@@ -1,19 +1,16 @@
 -- The count where it lies: in a slice that holds a state, it makes the bytes of the counted state.
 -- Assumes nothing.
-use Prim.Native.Nat.{ℕ, _+_, _<_}
+use Prim.Native.Nat.{ℕ, _+_}
 use mathlib.Core.Path.{_≡_, refl, sym, ap, _∙_}
 use mathlib.Core.Bool.{true, false}
 use mathlib.Core.List.{List}
-use lib.ListN.{length}
 use Rattle.rows.specs.Bytes.{Bytes}
-use Rattle.lists.proofs.Lists.{first-inside}
 use Rattle.lists.proofs.Tests.{split, clash}
 use Rattle.names.specs.declared.Session.{Session}
-use Rattle.table.specs.Table.{standing, isActive}
 use Rattle.table.specs.declared.Active.{Active}
 use Rattle.table.specs.declared.Active.the-variants.{UserOf}
 use Rattle.module_state.specs.Numbers.{_unless_, _▸_}
-use Rattle.module_state.specs.Module.{isSession, hasActive, activePlace, activeProcess}
+use Rattle.module_state.specs.Module.{isSession, activePlace, activeProcess}
 use Rattle.module_state.specs.Claim.{phaseNumber, isInRange, checkNumber, checkOf, checked, admitted, sought}
 use Rattle.module_state.specs.declared.Claim.{Claim}
 use Rattle.module_state.specs.declared.Claim.the-variants.{Elevated, ByUser}

@@ -31,7 +31,7 @@ use Rattle.table.proofs.Laws.{size-few}
 use Rattle.table.proofs.Rules.{noProcess, size-part, size-all, process-got}
 use Rattle.table.proofs.Searched.{FoundAt, found-at}
 use Rattle.table_search.proofs.Rules.{Searching, begin, on, hit, none}
-use Rattle.module_state.specs.Module.{closedSession, phaseOf, isClosed, unprovisioned, grantsOf, sessionCount, credentialCount, hasActive, activePlace, activeProcess}
+use Rattle.module_state.specs.Module.{closedSession, phaseOf, isClosed, unprovisioned, grantsOf, sessionCount, credentialCount, activePlace, activeProcess}
 use Rattle.module_state.specs.Claim.{phaseNumber, sought, speaksFor, speaker, claimView, isInRange, turnNumber, claimNumber, checkNumber, placed, checkOf, checked, admitted}
 use Rattle.module_state.specs.declared.Checked.{Checked}
 use Rattle.module_state.specs.declared.Claim.{Claim}
