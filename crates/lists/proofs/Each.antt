@@ -107,10 +107,6 @@ module _ {A : Type 0} where
   pairs-imp k pairs-nil = pairs-nil
   pairs-imp k (pairs-cons p h) = pairs-cons (each-imp (λ y r. k _ y r) p) (pairs-imp k h)
 
-  pub pairs-imp₂ : {R S T : A → A → Type 0} {l : List A} → ((x y : A) → R x y → S x y → T x y) → Pairs R l → Pairs S l → Pairs T l
-  pairs-imp₂ k pairs-nil j = pairs-nil
-  pairs-imp₂ k (pairs-cons p h) (pairs-cons q j) = pairs-cons (each-imp₂ (λ y r s. k _ y r s) p q) (pairs-imp₂ k h j)
-
   pub pairs-append : {R : A → A → Type 0} {l : List A} (y : A) → Pairs R l → Each (λ x. R x y) l → Pairs R (l ++ (y ∷ []))
   pairs-append y pairs-nil k = pairs-cons each-nil pairs-nil
   pairs-append y (pairs-cons p h) (each-cons q k) = pairs-cons (each-append y p q) (pairs-append y h k)
