@@ -13,10 +13,12 @@ pub mod state {
     pub const CREDENTIALS_AT: usize = Session::COUNT;
     /// Whether it is provisioned, in a credential.
     pub const PROVISIONED: usize = 0;
-    /// Its word, in a credential.
+    /// Its grant word, in a credential.
     pub const WORD: usize = 1;
+    /// Its second word, in a credential.
+    pub const SECOND: usize = WORD + 4;
     /// How many bytes a credential has.
-    pub const CREDENTIAL_LENGTH: usize = WORD + 4;
+    pub const CREDENTIAL_LENGTH: usize = SECOND + 4;
     /// How many processes stand.
     pub const COUNT_AT: usize = credential_at(Credential::COUNT);
     /// The first place.
@@ -47,7 +49,8 @@ pub mod state {
     }
 }
 
-/// An image, as docs/IMAGE.md draws it: five numbers of two bytes, the words, and a row for each saved process.
+/// An image, as docs/IMAGE.md draws it: five numbers of two bytes, the grant words, the second words, and a row for each saved process. The old layout has no second
+/// words: its rows begin where these do.
 pub mod image {
     use super::*;
 
@@ -61,10 +64,14 @@ pub mod image {
     pub const ROW_COUNT_AT: usize = 6;
     /// Where the rows begin.
     pub const ROWS_OFFSET_AT: usize = 8;
-    /// The first word.
+    /// The first grant word.
     pub const WORDS_AT: usize = 10;
+    /// The first second word.
+    pub const SECONDS_AT: usize = word_at(Credential::COUNT);
     /// The first row, and so the bytes of an image that has none.
-    pub const ROWS_AT: usize = WORDS_AT + 4 * Credential::COUNT;
+    pub const ROWS_AT: usize = second_at(Credential::COUNT);
+    /// The first row in the old layout.
+    pub const OLD_ROWS_AT: usize = SECONDS_AT;
     /// The credential, in a row.
     pub const OWNER: usize = 0;
     /// The next number, in a row.
@@ -81,9 +88,19 @@ pub mod image {
         ROWS_AT + ROW_LENGTH * row
     }
 
-    /// Where the word of a credential begins.
+    /// Where a row begins in the old layout, and so the bytes of an old image with so many.
+    pub const fn old_row_at(row: usize) -> usize {
+        OLD_ROWS_AT + ROW_LENGTH * row
+    }
+
+    /// Where the grant word of a credential begins.
     pub const fn word_at(credential: usize) -> usize {
         WORDS_AT + 4 * credential
+    }
+
+    /// Where the second word of a credential begins.
+    pub const fn second_at(credential: usize) -> usize {
+        SECONDS_AT + 4 * credential
     }
 }
 

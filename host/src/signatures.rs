@@ -21,7 +21,7 @@ macro_rules! calls {
         $take! {
             module {
                 /// Makes a fresh module of eight credentials; the state's old bytes don't matter.
-                slavotuk_fresh fresh Fresh [state: &mut [u8]] (provisioned: &[u8]) (words: &[u32]);
+                slavotuk_fresh fresh Fresh [state: &mut [u8]] (provisioned: &[u8]) (words: &[u32]) (seconds: &[u32]);
                 /// Asks whether a slice holds a state: 0 where it does, 1 where not.
                 slavotuk_holds holds Holds [state: &[u8]];
             }
@@ -49,8 +49,8 @@ macro_rules! calls {
                 slavotuk_list list List [state: &mut [u8]] (session: u32) (claim: RawClaim) (wanted: u32) (response: &mut [u8]) (length: &mut usize);
                 /// Removes the process of that name.
                 slavotuk_kill kill Kill [state: &mut [u8]] (session: u32) (claim: RawClaim) (name: &[u8]);
-                /// Sets the grant word of a credential.
-                slavotuk_set_word set_word SetWord [state: &mut [u8]] (session: u32) (claim: RawClaim) (target: u32) (word: u32);
+                /// Sets both words of a credential.
+                slavotuk_set_word set_word SetWord [state: &mut [u8]] (session: u32) (claim: RawClaim) (target: u32) (word: u32) (second: u32);
             }
             power {
                 /// Writes the image of the module to the front of the buffer. `length` becomes the image's length, 0 on a refusal.
