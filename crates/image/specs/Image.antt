@@ -1,11 +1,11 @@
 -- Document 02, order 2: "Write an image and make a fresh module from it, with its credentials and words." What an image holds, its bytes, which bytes are one,
--- and the module that one makes. docs/IMAGE.md draws it.
+-- and the module that one makes. Order 7: "Images get the eight second words after the first .. The reader still takes the old layout". docs/IMAGE.md draws both.
 use Prim.Native.Nat.{ℕ, _+_, _*_, _/_, _%_, _≤_}
 use mathlib.Core.Path.{_≡_}
 use mathlib.Core.Bool.{Bool, true, false, cond, not, _&&_, _||_}
 use mathlib.Core.List.{List, [], _∷_, _++_, map}
 use lib.Dec.{eqb, leb, ltb}
-use lib.ListN.{length, getD, drop, replicate}
+use lib.ListN.{length, getD, take, drop, replicate}
 use Rattle.lists.specs.Lists.{join, select}
 use Rattle.rows.specs.Bytes.{bytesOf, numberOf, numberAt}
 use Rattle.rows.specs.Rows.{rows, every, pairwise, over}
@@ -14,7 +14,7 @@ use Rattle.names.specs.declared.Credential.{Credential}
 use Rattle.names.specs.declared.Kind.the-variants.{Saved}
 use Rattle.table.specs.Table.{standing, tableOf, isSaved, places}
 use Rattle.table.specs.declared.Process.{Process}
-use Rattle.module_state.specs.Module.{unprovisioned, credentialCount, closedModule, wordSize}
+use Rattle.module_state.specs.Module.{unprovisioned, wordsOf, credentialCount, closedModule, wordSize}
 use Rattle.module_state.specs.declared.Grants.{Grants}
 use Rattle.module_state.specs.declared.State.{State}
 use Rattle.image.specs.declared.ImageHead.{ImageHead}
@@ -41,8 +41,18 @@ rowOffsetAt = rowCountAt + 2
 abbrev pub wordsAt : ℕ
 wordsAt = rowOffsetAt + 2
 
+abbrev pub wordsSize : ℕ
+wordsSize = credentialCount * wordSize
+
+abbrev pub secondsAt : ℕ
+secondsAt = wordsAt + wordsSize
+
 abbrev pub savedAt : ℕ
-savedAt = wordsAt + credentialCount * wordSize
+savedAt = secondsAt + wordsSize
+
+-- the old layout has no second words: its rows lie where these would
+abbrev pub oldSavedAt : ℕ
+oldSavedAt = secondsAt
 
 -- ---- and the fields of a row
 abbrev pub savedOwnerAt : ℕ
@@ -57,11 +67,15 @@ savedNameAt = savedNextAt + 2
 abbrev pub savedSize : ℕ
 savedSize = savedNameAt + nameLength
 
--- "offset of rows 42": the only one that an image has
-unfoldable pub isRowOffset : ℕ → Bool
-isRowOffset offset = eqb offset savedAt
+-- the layouts are "told apart by the rows' offset": the new one has "rows at offset 74"
+unfoldable pub isNew : ℕ → Bool
+isNew offset = eqb offset savedAt
 
--- "Its length is 42 + 52n"
+-- and the old one "offset of rows 42". There is no third
+unfoldable pub isRowOffset : ℕ → Bool
+isRowOffset offset = isNew offset || eqb offset oldSavedAt
+
+-- "Its length is 42 + 52n", or 74 + 52n
 unfoldable pub imageLong : ℕ → ℕ → ℕ
 imageLong offset n = offset + n * savedSize
 
@@ -88,9 +102,15 @@ unfoldable pub maskOf : List Grants → ℕ
 maskOf [] = 0
 maskOf (g ∷ l) = maskOf l * 2 + cond (g .provisioned) 1 0
 
--- ---- "Then eight 4-byte words, zero where unprovisioned"
-unfoldable pub wordIn : Grants → ℕ
-wordIn g = cond (g .provisioned) (g .word) 0
+-- ---- "Then eight 4-byte words, zero where unprovisioned", and "the eight second words after the first, zero where unprovisioned"
+unfoldable pub grantIn : Grants → ℕ
+grantIn g = wordsOf g .grant
+
+unfoldable pub secondIn : Grants → ℕ
+secondIn g = wordsOf g .second
+
+unfoldable pub secondsBytes : ℕ → List Grants → List ℕ
+secondsBytes offset grants = cond (isNew offset) (numbersBytes wordSize (map secondIn grants)) []
 
 -- ---- "then n rows of 52 bytes, .. credential 2, next number 2, name 48"
 unfoldable pub savedBytes : SavedRow → List ℕ
@@ -99,7 +119,7 @@ savedBytes r = bytesOf 2 (r .owner .0) ++ (bytesOf 2 (r .next) ++ r .name .bytes
 unfoldable pub imageBytes : Image → List ℕ
 imageBytes i =
     numbersBytes 2 (headNumbers (maskOf (i .grants)) (length (i .saved)) (i .offset))
-    ++ (numbersBytes wordSize (map wordIn (i .grants)) ++ join (map savedBytes (i .saved)))
+    ++ (numbersBytes wordSize (map grantIn (i .grants)) ++ (secondsBytes (i .offset) (i .grants) ++ join (map savedBytes (i .saved))))
 
 -- ---- what bytes say, read so
 unfoldable pub headIn : List ℕ → ImageHead
@@ -112,13 +132,27 @@ headIn b =
       offset = numberAt 2 rowOffsetAt b;
     }
 
--- a mask and words, and the credentials that they say
-unfoldable pub grantsSaid : ℕ → List ℕ → List Grants
-grantsSaid mask [] = []
-grantsSaid mask (word ∷ words) = record { provisioned = eqb (mask % 2) 1; word = word } ∷ grantsSaid (mask / 2) words
+-- eight words from a place on
+abbrev pub wordsFrom : ℕ → List ℕ → List ℕ
+wordsFrom at b = numbersIn credentialCount wordSize (drop at b)
+
+-- "The reader still takes the old layout, second words zero"
+unfoldable pub secondsFrom : ℕ → List ℕ → List ℕ
+secondsFrom offset b = cond (isNew offset) (wordsFrom secondsAt b) (replicate credentialCount 0)
+
+-- a mask, grant words and second words, and the credentials that they say
+unfoldable pub grantsSaid : ℕ → List ℕ → List ℕ → List Grants
+grantsSaid mask [] seconds = []
+grantsSaid mask (word ∷ words) [] = []
+grantsSaid mask (word ∷ words) (second ∷ seconds) =
+    record { provisioned = eqb (mask % 2) 1; words = record { grant = word; second = second } } ∷ grantsSaid (mask / 2) words seconds
+
+-- the credentials of bytes whose head has this mask, and rows from this offset on
+abbrev pub grantsAmong : ℕ → ℕ → List ℕ → List Grants
+grantsAmong mask offset b = grantsSaid mask (wordsFrom wordsAt b) (secondsFrom offset b)
 
 unfoldable pub grantsIn : List ℕ → List Grants
-grantsIn b = grantsSaid (headIn b .mask) (numbersIn credentialCount wordSize (drop wordsAt b))
+grantsIn b = grantsAmong (headIn b .mask) (headIn b .offset) b
 
 unfoldable pub savedFrom : List ℕ → SavedRow
 savedFrom row = record { owner = record { 0 = numberAt 2 savedOwnerAt row }; next = numberAt 2 savedNextAt row; name = record { bytes = drop savedNameAt row } }
@@ -162,12 +196,12 @@ headFits h =
     && isRowOffset (h .offset))))
 
 -- "zero where unprovisioned"
-unfoldable pub wordFits : Grants → Bool
-wordFits g = g .provisioned || eqb (g .word) 0
+unfoldable pub wordsFit : Grants → Bool
+wordsFit g = g .provisioned || (eqb (g .words .grant) 0 && eqb (g .words .second) 0)
 
 -- what it holds: words, owners, numbers and names
 unfoldable pub imageFits : Image → Bool
-imageFits i = every wordFits (i .grants) && (every (isKeepable (i .grants)) (i .saved) && pairwise differ (i .saved))
+imageFits i = every wordsFit (i .grants) && (every (isKeepable (i .grants)) (i .saved) && pairwise differ (i .saved))
 
 unfoldable pub isImage : List ℕ → Bool
 isImage b = headFits (headIn b) && (eqb (length b) (imageLong (headIn b .offset) (headIn b .rows)) && imageFits (imageIn b))
@@ -186,7 +220,7 @@ moduleOf i = closedModule (i .grants) (tableOf (map savedProcess (i .saved)))
 unfoldable pub restored : List ℕ → State
 restored b = moduleOf (imageIn b)
 
--- ---- the image of a state: "the saved processes only, in table order"
+-- ---- the image of a state, in the new layout always: "the saved processes only, in table order"
 unfoldable pub savedRow : Process → SavedRow
 savedRow p = record { owner = p .credential; next = p .next; name = p .name }
 
@@ -205,7 +239,13 @@ imageOf st = record { offset = savedAt; grants = st .credentials; saved = savedO
 unfoldable pub stateImage : State → List ℕ
 stateImage st = imageBytes (imageOf st)
 
--- what a state is after a power cycle
+-- ---- an image in the new layout: of one of the old layout the head with the other offset, the same words, second words that are zero, the same rows
+unfoldable pub renewed : List ℕ → List ℕ
+renewed b =
+    cond (isNew (headIn b .offset)) b
+    (take rowOffsetAt b ++ (bytesOf 2 savedAt ++ (take wordsSize (drop wordsAt b) ++ (replicate wordsSize 0 ++ drop oldSavedAt b))))
+
+-- ---- what a state is after a power cycle
 unfoldable pub cycled : State → State
 cycled st = moduleOf (imageOf st)
 

@@ -20,11 +20,18 @@ pub const ROW_COUNT_AT: usize = WORD_OFFSET_AT + 2;
 
 pub const ROW_OFFSET_AT: usize = ROW_COUNT_AT + 2;
 
-// ---- the words, and the rows where they begin
+// ---- the grant words, the second words, and the rows where they begin
 
 pub const WORDS_AT: usize = ROW_OFFSET_AT + 2;
 
-pub const SAVED_AT: usize = WORDS_AT + CREDENTIALS * WORD_SIZE;
+pub const WORDS_SIZE: usize = CREDENTIALS * WORD_SIZE;
+
+pub const SECONDS_AT: usize = WORDS_AT + WORDS_SIZE;
+
+pub const SAVED_AT: usize = SECONDS_AT + WORDS_SIZE;
+
+// The old layout has no second words: its rows lie where these would.
+pub const OLD_SAVED_AT: usize = SECONDS_AT;
 
 // ---- a row of a saved process
 

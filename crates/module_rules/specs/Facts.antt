@@ -12,9 +12,10 @@ use Rattle.table.specs.Table.{standing, size, processAt, tableOf, isUser, isEle
 use Rattle.table.specs.Table as T
 use Rattle.table.specs.declared.Active.{Active}
 use Rattle.table.specs.declared.Process.{Process}
-use Rattle.module_state.specs.Module.{phaseOf, isChosen, provisioned, sessionCount, credentialCount, lastSession, lastCredential, wordSize}
+use Rattle.module_state.specs.Module.{phaseOf, isChosen, provisioned, sessionCount, credentialCount, lastSession, lastCredential, wordSize, noWords}
 use Rattle.module_state.specs.declared.Grants.{Grants}
 use Rattle.module_state.specs.declared.State.{State}
+use Rattle.module_state.specs.declared.Words.{Words}
 use Rattle.names.specs.Names.{nameLength}
 
 abbrev pub processes : State → List Process
@@ -63,11 +64,19 @@ pub record RulesByPlaces (st : State) : Type 0 where
   pub elevations : (i j : ℕ) → IsTaken st i → IsTaken st j → i ≢ j → at st i .kind ≡ Elevation → at st j .kind ≡ Elevation → at st i .session ≢ at st j .session
 
 -- ---- the form: no field out of its range, and zero what is kept zero
+
+-- "a grant word of 32 bits", "a second 32-bit word"
+abbrev pub IsWord : ℕ → Type 0
+IsWord word = word < 256 ^ wordSize
+
+pub record AreWords (w : Words) : Type 0 where
+  pub grant : IsWord (w .grant)
+  pub second : IsWord (w .second)
+
 pub record FormedGrants (g : Grants) : Type 0 where
-  -- "a grant word of 32 bits"
-  pub word : g .word < 256 ^ wordSize
+  pub words : AreWords (g .words)
   -- "an unprovisioned credential's word is taken as zero"
-  pub zero : g .provisioned ≡ false → g .word ≡ 0
+  pub zero : g .provisioned ≡ false → g .words ≡ noWords
 
 pub record FormedProcess (p : Process) : Type 0 where
   pub credential : p .credential .0 ≤ lastCredential
@@ -98,7 +107,7 @@ pub record IsState (st : State) : Type 0 where
 
 -- ---- what the types of the fields tell of any state that a function has
 pub record WideGrants (g : Grants) : Type 0 where
-  pub word : g .word < 256 ^ wordSize
+  pub words : AreWords (g .words)
 
 pub record WideProcess (p : Process) : Type 0 where
   pub next : p .next < 256 ^ 2

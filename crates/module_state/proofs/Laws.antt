@@ -25,7 +25,7 @@ use Rattle.module_state.specs.declared.ClaimView.{ClaimView}
 use Rattle.module_state.specs.declared.Class.{Class}
 use Rattle.module_state.specs.declared.Grants.{Grants}
 use Rattle.module_state.specs.declared.Lookup.{Lookup}
-use Rattle.module_state.specs.declared.Lookup.the-variants.{NotGranted, Granted}
+use Rattle.module_state.specs.declared.Lookup.the-variants.{NotGranted, Granted, OnlyElevated}
 use Rattle.module_state.specs.declared.Phase.{Phase}
 use Rattle.module_state.specs.declared.State.{State}
 use Rattle.module_state.specs.declared.UserClaim.{UserClaim}
@@ -84,14 +84,16 @@ module _ (P : ℕ → Type 0) where
   by-then n m h k = split (eqb n 0) (λ e. rw e k) (λ e. rw e h)
 
   -- of the grant lookup, what holds of each number that it gives
-  by-lookup : P 0 → P 10 → (claim : Claim) (answer : Lookup) → P (lookupNumber claim answer)
+  by-lookup : P 0 → P 10 → P 18 → (claim : Claim) (answer : Lookup) → P (lookupNumber claim answer)
   unfolding lookupNumber
-  by-lookup none some claim NotGranted = some
-  by-lookup none some claim Granted = none
+  by-lookup none clear marked claim NotGranted = clear
+  by-lookup none clear marked claim Granted = none
+  by-lookup none clear marked Elevated OnlyElevated = none
+  by-lookup none clear marked (ByUser u) OnlyElevated = marked
 
-  pub by-grant : P 0 → P 10 → (by : Checked) (class : Class) → P (grantNumber by class)
+  pub by-grant : P 0 → P 10 → P 18 → (by : Checked) (class : Class) → P (grantNumber by class)
   unfolding grantNumber
-  by-grant none some by class = by-lookup none some (by .claim) (lookup (by .grants) class)
+  by-grant none clear marked by class = by-lookup none clear marked (by .claim) (lookup (by .grants) class)
 
 -- ---- what an accepted row of tests says: none holds
 pub clear-first : (n m : ℕ) → n ▸ m ≡ 0 → n ≡ 0

@@ -11,19 +11,21 @@ use borrow.Author.Tests.{not-true, not-false, le-leb, lt-leb, ne-eqb}
 use Rattle.lists.proofs.Lists.{length-mapped}
 use Rattle.module_state.specs.declared.Checked.{Checked}
 use Rattle.module_state.specs.declared.Claim.{Claim}
+use Rattle.module_state.specs.declared.Claim.the-variants.{Elevated, ByUser}
 use Rattle.module_state.specs.declared.Class.{Class}
 use Rattle.module_state.specs.declared.Grants.{Grants}
 use Rattle.module_state.specs.declared.Lookup.{Lookup}
-use Rattle.module_state.specs.declared.Lookup.the-variants.{NotGranted, Granted}
+use Rattle.module_state.specs.declared.Lookup.the-variants.{NotGranted, Granted, OnlyElevated}
 use Rattle.module_state.specs.declared.Placed.{Placed}
 use Rattle.module_state.specs.declared.SessionState.{SessionState}
 use Rattle.module_state.specs.declared.State.{State}
+use Rattle.module_state.specs.declared.UserClaim.{UserClaim}
 use Rattle.module_state.specs.declared.Phase.{Phase}
 use Rattle.module_state.specs.declared.Phase.the-variants.{Closed, Opened, Chosen}
 use Rattle.names.specs.declared.Credential.{Credential}
 use Rattle.names.specs.declared.Session.{Session}
 use Rattle.module_state.specs.Numbers.{_when_, _unless_, _▸_}
-use Rattle.module_state.specs.Module.{lastSession, sessionCount, isSession, closedSession, phaseOf, isClosed, isChosen, lastCredential, credentialCount, isCredential, unprovisioned, grantsOf, provisioned, wordGrants, lookup}
+use Rattle.module_state.specs.Module.{lastSession, sessionCount, isSession, closedSession, phaseOf, isClosed, isChosen, lastCredential, credentialCount, isCredential, noWords, unprovisioned, wordsOf, grantsOf, provisioned, hasBit, lookup}
 use Rattle.module_state.specs.Claim.{phaseNumber, entered, placed, lookupNumber, grantNumber}
 use Rattle.module_state.proofs.Laws.{stop, pass, when-true, when-false, unless-true, unless-false}
 
@@ -110,23 +112,37 @@ module _ (st : State) (c : Credential) where
   unfolding provisioned
   provisioned-of e = rw e
 
+module _ (g : Grants) where
+  pub words-provisioned : g .provisioned ≡ true → g .words ≡ wordsOf g
+  unfolding wordsOf
+  words-provisioned e = rw e
+
+  pub words-none : g .provisioned ≡ false → noWords ≡ wordsOf g
+  unfolding wordsOf
+  words-none e = rw e
+
 module _ (word : ℕ) (class : Class) where
-  pub grants-not : 31 < class .0 → false ≡ wordGrants word class
-  unfolding wordGrants
-  grants-not h = rw (lt-leb (class .0) 31 h)
+  pub bit-over : 31 < class .0 → false ≡ hasBit word class
+  unfolding hasBit
+  bit-over h = rw (lt-leb (class .0) 31 h)
 
-  pub grants-is : class .0 ≤ 31 → eqb (word / 2 ^ (class .0) % 2) 1 ≡ wordGrants word class
-  unfolding wordGrants
-  grants-is h = rw (le-leb (class .0) 31 h)
+  pub bit-is : class .0 ≤ 31 → eqb (word / 2 ^ (class .0) % 2) 1 ≡ hasBit word class
+  unfolding hasBit
+  bit-is h = rw (le-leb (class .0) 31 h)
 
-module _ (grants : Grants) (class : Class) {b : Bool} (e : b ≡ wordGrants (grants .word) class) where
-  pub lookup-granted : b ≡ true → Granted ≡ lookup grants class
+module _ (grants : Grants) (class : Class) {b : Bool} (e : b ≡ hasBit (grants .words .grant) class) where
+  pub lookup-not : not b ≡ true → NotGranted ≡ lookup grants class
   unfolding lookup
-  lookup-granted h = rw (← e, h)
+  lookup-not h = rw (← e, not-true b h)
 
-  pub lookup-not : b ≡ false → NotGranted ≡ lookup grants class
-  unfolding lookup
-  lookup-not h = rw (← e, h)
+  module _ (h : not b ≡ false) {d : Bool} (f : d ≡ hasBit (grants .words .second) class) where
+    pub lookup-granted : d ≡ false → Granted ≡ lookup grants class
+    unfolding lookup
+    lookup-granted k = rw (← e, not-false b h, ← f, k)
+
+    pub lookup-elevated : d ≡ true → OnlyElevated ≡ lookup grants class
+    unfolding lookup
+    lookup-elevated k = rw (← e, not-false b h, ← f, k)
 
 module _ (claim : Claim) {answer : Lookup} where
   pub number-granted : answer ≡ Granted → 0 ≡ lookupNumber claim answer
@@ -136,6 +152,14 @@ module _ (claim : Claim) {answer : Lookup} where
   pub number-not : answer ≡ NotGranted → 10 ≡ lookupNumber claim answer
   unfolding lookupNumber
   number-not e = rw e
+
+  pub number-elevated : claim ≡ Elevated → answer ≡ OnlyElevated → 0 ≡ lookupNumber claim answer
+  unfolding lookupNumber
+  number-elevated c e = rw (c, e)
+
+  pub number-user : {u : UserClaim} → claim ≡ ByUser u → answer ≡ OnlyElevated → 18 ≡ lookupNumber claim answer
+  unfolding lookupNumber
+  number-user c e = rw (c, e)
 
 pub grant-is : (by : Checked) (class : Class) {claim : Claim} {grants : Grants} {answer : Lookup} {n : ℕ}
     → claim ≡ by .claim → grants ≡ by .grants → answer ≡ lookup grants class → n ≡ lookupNumber claim answer → n ≡ grantNumber by class
@@ -185,4 +209,4 @@ pub entered-is : (st : State) (s : Session) {phase : Phase} {n : ℕ} → phase 
 unfolding entered
 entered-is st s e q = q ∙ rw e
 
-pub ruleset rules = (needs, length-mapped, when-hit, when-miss, unless-hit, unless-miss, when-stop, when-pass, unless-stop, unless-pass, part-stop, part-pass, session-is, credential-is, phase-in, phase-out, closed-closed, closed-opened, closed-chosen, phase-argument, phase-closed, phase-opened, phase-chosen, entered-is, grants-in, grants-out, provisioned-of, grants-not, grants-is, lookup-granted, lookup-not, number-granted, number-not, grant-is, placed-found, refused-placed, number-placed, placed-on)
+pub ruleset rules = (needs, length-mapped, when-hit, when-miss, unless-hit, unless-miss, when-stop, when-pass, unless-stop, unless-pass, part-stop, part-pass, session-is, credential-is, phase-in, phase-out, closed-closed, closed-opened, closed-chosen, phase-argument, phase-closed, phase-opened, phase-chosen, entered-is, grants-in, grants-out, provisioned-of, words-provisioned, words-none, bit-over, bit-is, lookup-not, lookup-granted, lookup-elevated, number-granted, number-not, number-elevated, number-user, grant-is, placed-found, refused-placed, number-placed, placed-on)

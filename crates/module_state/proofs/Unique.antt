@@ -12,6 +12,8 @@ use Rattle.module_state.proofs.is_closed.Kinds as is-closed-kinds
 use Rattle.module_state.proofs.is_closed.Reads as is-closed
 use Rattle.module_state.proofs.grants_of.Kinds as grants-of-kinds
 use Rattle.module_state.proofs.grants_of.Reads as grants-of
+use Rattle.module_state.proofs.words_of.Kinds as words-of-kinds
+use Rattle.module_state.proofs.words_of.Reads as words-of
 use Rattle.module_state.proofs.closed_module.Kinds as closed-module-kinds
 use Rattle.module_state.proofs.closed_module.Reads as closed-module
 use Rattle.module_state.proofs.grant_number.Kinds as grant-number-kinds
@@ -37,6 +39,9 @@ is-closed-once κs a x y s t p q = p ∙ sym q
 
 pub grants-of-once : OneAnswer 0 grants-of-kinds.ps grants-of-kinds.r grants-of.Post
 grants-of-once κs a x y s t p q = p ∙ sym q
+
+pub words-of-once : OneAnswer 0 words-of-kinds.ps words-of-kinds.r words-of.Post
+words-of-once κs a x y s t p q = p ∙ sym q
 
 pub closed-module-once : OneAnswer 0 closed-module-kinds.ps closed-module-kinds.r closed-module.Post
 closed-module-once κs a x y s t p q = p ∙ sym q

@@ -17,7 +17,7 @@ use Rattle.module_state.specs.declared.Claim.the-variants.{Elevated, ByU
 use Rattle.module_state.specs.declared.ClaimView.{ClaimView}
 use Rattle.module_state.specs.declared.Class.{Class}
 use Rattle.module_state.specs.declared.Lookup.{Lookup}
-use Rattle.module_state.specs.declared.Lookup.the-variants.{NotGranted, Granted}
+use Rattle.module_state.specs.declared.Lookup.the-variants.{NotGranted, Granted, OnlyElevated}
 use Rattle.module_state.specs.declared.Phase.{Phase}
 use Rattle.module_state.specs.declared.Placed.{Placed}
 use Rattle.module_state.specs.declared.State.{State}
@@ -129,10 +129,13 @@ checked st s claim = checkOf s claim (claimView st s claim)
 unfoldable pub admitted : State → Session → Claim → ℕ
 admitted st s claim = checked st s claim .number
 
--- ---- 10, "not granted", is given on "class bit clear": the number of each answer of the grant lookup, for a claim. Nothing else says 10
+-- ---- the number of each answer of the grant lookup, for a claim. 10, "not granted", is given on "class bit clear"; 18 "when a user claim gets the third answer".
+-- Nothing else says 10 or 18
 unfoldable pub lookupNumber : Claim → Lookup → ℕ
 lookupNumber claim NotGranted = No.notGranted
 lookupNumber claim Granted = No.done
+lookupNumber Elevated OnlyElevated = No.done
+lookupNumber (ByUser u) OnlyElevated = No.onlyElevated
 
 -- the test that a class is granted, by what the check of a claim came to
 unfoldable pub grantNumber : Checked → Class → ℕ

@@ -14,11 +14,12 @@ use Rattle.table.specs.declared.Table.{Table}
 use Rattle.module_state.specs.declared.Class.{Class}
 use Rattle.module_state.specs.declared.Grants.{Grants}
 use Rattle.module_state.specs.declared.Lookup.{Lookup}
-use Rattle.module_state.specs.declared.Lookup.the-variants.{NotGranted, Granted}
+use Rattle.module_state.specs.declared.Lookup.the-variants.{NotGranted, Granted, OnlyElevated}
 use Rattle.module_state.specs.declared.Phase.{Phase}
 use Rattle.module_state.specs.declared.Phase.the-variants.{Closed, Opened, Chosen}
 use Rattle.module_state.specs.declared.SessionState.{SessionState}
 use Rattle.module_state.specs.declared.State.{State}
+use Rattle.module_state.specs.declared.Words.{Words}
 
 -- ---- "Four sessions, handles 0 to 3. Each is closed, or open without a version, or open with version 1.0."
 abbrev pub lastSession : ℕ
@@ -46,7 +47,8 @@ isChosen Closed = false
 isChosen Opened = false
 isChosen Chosen = true
 
--- ---- "Eight credentials, 0 to 7. Each is provisioned or not, and has a grant word of 32 bits; bit k grants class k."
+-- ---- "Eight credentials, 0 to 7. Each is provisioned or not, and has a grant word of 32 bits; bit k grants class k." Order 7: "Give
+-- each credential a second 32-bit word."
 abbrev pub lastCredential : ℕ
 lastCredential = 7
 
@@ -56,12 +58,19 @@ credentialCount = lastCredential + 1
 unfoldable pub isCredential : Credential → Bool
 isCredential c = leb (c .0) lastCredential
 
--- its bytes
+-- the bytes of a word
 abbrev pub wordSize : ℕ
 wordSize = 4
 
+abbrev pub noWords : Words
+noWords = record { grant = 0; second = 0 }
+
 abbrev pub unprovisioned : Grants
-unprovisioned = record { provisioned = false; word = 0 }
+unprovisioned = record { provisioned = false; words = noWords }
+
+-- "an unprovisioned credential's word is taken as zero", and so is its second word
+unfoldable pub wordsOf : Grants → Words
+wordsOf g = cond (g .provisioned) (g .words) noWords
 
 unfoldable pub grantsOf : State → Credential → Grants
 grantsOf st c = getD (st .credentials) (c .0) unprovisioned
@@ -70,12 +79,16 @@ unfoldable pub provisioned : State → Credential → Bool
 unfolding grantsOf
 provisioned st c = grantsOf st c .provisioned
 
-unfoldable pub wordGrants : ℕ → Class → Bool
-wordGrants word class = leb (class .0) 31 && eqb (word / 2 ^ (class .0) % 2) 1
+-- bit k of a word is set, for class k
+unfoldable pub hasBit : ℕ → Class → Bool
+hasBit word class = leb (class .0) 31 && eqb (word / 2 ^ (class .0) % 2) 1
 
--- what the grants of a credential answer for a class
+-- "The grant lookup then has three answers: no, yes, only under elevation. The last is given when both bits are set."
 unfoldable pub lookup : Grants → Class → Lookup
-lookup grants class = cond (wordGrants (grants .word) class) Granted NotGranted
+lookup grants class =
+    cond (hasBit (grants .words .grant) class)
+    (cond (hasBit (grants .words .second) class) OnlyElevated Granted)
+    NotGranted
 
 -- ---- "all sessions closed": a module with these credentials and this table
 abbrev pub closedModule : List Grants → Table → State

@@ -1,7 +1,7 @@
 -- "Numbers a call can answer"
 use Prim.Native.Nat.{ℕ}
-use mathlib.Core.Bool.{Bool, cond}
-use lib.Dec.{eqb}
+use mathlib.Core.Bool.{Bool, cond, _||_}
+use lib.Dec.{eqb, leb}
 
 abbrev pub done : ℕ
 done = 0
@@ -51,9 +51,13 @@ message = 14
 abbrev pub room : ℕ
 room = 15
 
--- the last of them
-abbrev pub last : ℕ
-last = room
+-- order 7: "18 when a user claim gets the third answer"
+abbrev pub onlyElevated : ℕ
+onlyElevated = 18
+
+-- all of them, and no others
+abbrev pub isKnown : ℕ → Bool
+isKnown n = leb n room || eqb n onlyElevated
 
 -- "Each is given exactly on its condition, at its place in the order."
 infix 25 _when_

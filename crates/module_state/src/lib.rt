@@ -1,6 +1,6 @@
 // What the module holds, and whom it grants what; the types of a claim and of its check.
 ghost use mathlib.Core.Path.{_≡_};
-ghost use Rattle.module_state.specs.Module.{isSession, isCredential, phaseOf, isClosed, grantsOf, closedModule, wordGrants, lookup};
+ghost use Rattle.module_state.specs.Module.{isSession, isCredential, phaseOf, isClosed, wordsOf, grantsOf, closedModule, hasBit, lookup};
 ghost use Rattle.module_state.specs.Claim.{phaseNumber, entered, lookupNumber, grantNumber};
 use names::Credential;
 use names::Session;
@@ -40,6 +40,8 @@ pub const MESSAGE: u8 = 14;
 
 pub const ROOM: u8 = 15;
 
+pub const ONLY_ELEVATED: u8 = 18;
+
 // A class of operations. A session handle or a credential cannot stand for it.
 pub struct Class(pub u8);
 
@@ -61,7 +63,7 @@ pub const LAST_CREDENTIAL: u16 = 7;
 
 pub const CREDENTIALS: usize = LAST_CREDENTIAL as usize + 1;
 
-// Bytes of a grant word.
+// Bytes of a word.
 pub const WORD_SIZE: usize = 4;
 
 pub enum Phase {
@@ -74,21 +76,33 @@ pub struct SessionState {
     pub phase: Phase,
 }
 
+// The two words of a credential: bit k of the grant word grants class k, and bit k of the second word says that it does so only under elevation.
+pub struct Words {
+    pub grant: u32,
+    pub second: u32,
+}
+
+pub const NO_WORDS: Words = Words {
+    grant: 0,
+    second: 0,
+};
+
 pub struct Grants {
     pub provisioned: bool,
-    pub word: u32,
+    pub words: Words,
 }
 
 // What a credential has that is not provisioned.
 pub const UNPROVISIONED: Grants = Grants {
     provisioned: false,
-    word: 0,
+    words: NO_WORDS,
 };
 
 // What the grants of a credential answer for a class.
 pub enum Lookup {
     NotGranted,
     Granted,
+    OnlyElevated,
 }
 
 pub struct State {
@@ -182,6 +196,13 @@ pub fn grants_of(st: State, c: Credential) -> Grants
     }
 }
 
+// The words of a credential; none where it is not provisioned.
+pub fn words_of(g: Grants) -> Words
+    ensures { λ r. ⌜ r ≡ wordsOf g ⌝ }
+{
+    if g.provisioned { g.words } else { NO_WORDS }
+}
+
 // A module with these credentials and this table, and all sessions closed.
 pub fn closed_module(credentials: [Grants; CREDENTIALS], t: Table) -> State
     ensures { λ r. ⌜ r ≡ closedModule credentials t ⌝ }
@@ -196,9 +217,9 @@ pub fn closed_module(credentials: [Grants; CREDENTIALS], t: Table) -> State
     }
 }
 
-// Whether a grant word grants a class.
-fn word_grants(word: u32, class: Class) -> bool
-    ensures { λ r. ⌜ r ≡ wordGrants word class ⌝ }
+// Whether the bit of a class is set in a word.
+fn has_bit(word: u32, class: Class) -> bool
+    ensures { λ r. ⌜ r ≡ hasBit word class ⌝ }
 {
     if 31 < class.0 {
         return false;
@@ -210,10 +231,14 @@ fn word_grants(word: u32, class: Class) -> bool
 fn look_up(grants: Grants, class: Class) -> Lookup
     ensures { λ r. ⌜ r ≡ lookup grants class ⌝ }
 {
-    if word_grants(grants.word, class) {
-        Lookup::Granted
+    let words = grants.words;
+    if !has_bit(words.grant, class) {
+        return Lookup::NotGranted;
+    }
+    if has_bit(words.second, class) {
+        Lookup::OnlyElevated
     } else {
-        Lookup::NotGranted
+        Lookup::Granted
     }
 }
 
@@ -224,6 +249,10 @@ fn lookup_number(claim: Claim, answer: Lookup) -> u8
     match answer {
         Lookup::NotGranted => NOT_GRANTED,
         Lookup::Granted => DONE,
+        Lookup::OnlyElevated => match claim {
+            Claim::Elevated => DONE,
+            Claim::ByUser(_) => ONLY_ELEVATED,
+        },
     }
 }
 
