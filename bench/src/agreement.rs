@@ -2,7 +2,7 @@
 
 use crate::costs;
 use crate::file::Recorded;
-use crate::input::{all, Input, MIXED};
+use crate::input::{all, Input, MARKED, MIXED};
 use crate::numbers::DONE;
 use crate::ordinary;
 use crate::states::{standing_state, Differ};
@@ -17,7 +17,7 @@ type Arguments = (u32, RawClaim, u32);
 /// Compares everything with so many calls: the answers to all inputs that have a name, and those on states that are damaged.
 pub fn check(calls: usize) -> Result<(), String> {
     all().try_for_each(|named| check_calls(&named.input(calls)).map(drop))?;
-    for named in &MIXED {
+    for named in MIXED.iter().chain(&MARKED) {
         check_state(named.name, &named.state())?;
     }
     // names that share the digest by which the ordinary program tells them apart
@@ -207,8 +207,8 @@ fn check_call(slice: &[u8], (session, claim, class): Arguments) -> Result<(), St
 #[cfg(test)]
 mod tests {
     use super::*;
-    use crate::input::find;
-    use crate::numbers::NOT_GRANTED;
+    use crate::input::{find, Call};
+    use crate::numbers::{NOT_GRANTED, ONLY_ELEVATED, OUT_OF_TURN};
 
     #[test]
     fn named_inputs_are_answered_as_planned() {
@@ -238,6 +238,46 @@ mod tests {
         recorded.left[1] = 1;
         let told = "one: the calls leave 2 in byte 1 of the state, and the line `left` says 1";
         assert_eq!(check_recorded(&recorded), Err(told.to_string()));
+    }
+
+    /// The first active user process of the marked state, at its first number, and the elevation.
+    const CLAIMS: [RawClaim; 2] = [RawClaim::user(0, 0), RawClaim::ELEVATED];
+
+    /// What both claims get of a class, by all three.
+    fn numbers_of(state: &[u8], class: u32) -> [u32; 2] {
+        CLAIMS.map(|claim| {
+            assert_eq!(check_three(state, (0, claim, class)), Ok(()));
+            entries::record(&mut state.to_vec(), 0, claim, class)
+        })
+    }
+
+    #[test]
+    fn a_marked_class_is_for_elevated_claims_alone() {
+        let state = find("marked").unwrap().state();
+        for first in (4..=28).step_by(4) {
+            let numbers = [0, 1, 2, 3].map(|class| numbers_of(&state, first + class));
+            let expected = [
+                [DONE, DONE],
+                [NOT_GRANTED, NOT_GRANTED],
+                [ONLY_ELEVATED, DONE],
+                [NOT_GRANTED, NOT_GRANTED],
+            ];
+            assert_eq!(numbers, expected, "from class {first} on");
+        }
+    }
+
+    #[test]
+    fn a_marked_class_spends_the_number_of_a_users_claim() {
+        let input = find("marked").unwrap().input(0);
+        let call = |number| Call {
+            session: 0,
+            claim: RawClaim::user(0, 0),
+            class: 6,
+            number,
+        };
+        let calls = [ONLY_ELEVATED, OUT_OF_TURN].map(call).to_vec();
+        let left = check_calls(&Input { calls, ..input }).unwrap();
+        assert_eq!(left[place_at(0) + NEXT..][..2], [1, 0]);
     }
 
     #[test]

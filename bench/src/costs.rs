@@ -2,7 +2,7 @@
 
 use crate::numbers::*;
 use crate::programs::nanoseconds;
-use crate::states::{credentials, standing_state, Differ};
+use crate::states::{make_fresh, standing_state, Differ};
 use crate::timing::median;
 use slavotuk::entries::{self, RawClaim};
 use slavotuk::{FULL_LISTING_LENGTH, NAME_LENGTH, PLACES};
@@ -106,10 +106,7 @@ pub const CASES: [Case; 9] = [
         name: "fresh",
         calls: 1,
         before: Some,
-        turn: |lent, _| {
-            let (provisioned, words) = credentials();
-            entries::fresh(&mut lent.state, &provisioned, &words) == DONE
-        },
+        turn: |lent, _| make_fresh(&mut lent.state, 0) == DONE,
     },
 ];
 

@@ -29,7 +29,7 @@ const REFUSALS: [u32; 8] = [
 
 /// So many calls on a state with so many standing. With none standing they are those of one standing, whose process is missed.
 pub fn calls(standing: usize, calls: usize) -> Vec<Call> {
-    let mut random = Random(SEED);
+    let mut random = Random::new(SEED);
     let mut planner = Planner::new(users().take(standing.max(1)).collect());
     let planned = numbers_in_order(calls, &mut random)
         .into_iter()
@@ -56,9 +56,7 @@ fn numbers_in_order(calls: usize, random: &mut Random) -> Vec<u32> {
         .into_iter()
         .flat_map(|(number, count)| std::iter::repeat(number).take(count))
         .collect();
-    for at in (1..numbers.len()).rev() {
-        numbers.swap(at, random.below(at + 1));
-    }
+    random.shuffle(&mut numbers);
     numbers
 }
 
@@ -150,9 +148,13 @@ fn spoil_argument(call: &mut Call, random: &mut Random) {
 }
 
 /// SplitMix64.
-struct Random(u64);
+pub struct Random(u64);
 
 impl Random {
+    pub fn new(seed: u64) -> Random {
+        Random(seed)
+    }
+
     fn next(&mut self) -> u64 {
         self.0 = self.0.wrapping_add(0x9e37_79b9_7f4a_7c15);
         let mut word = self.0;
@@ -161,7 +163,13 @@ impl Random {
         word ^ (word >> 31)
     }
 
-    fn below(&mut self, bound: usize) -> usize {
+    pub fn below(&mut self, bound: usize) -> usize {
         (self.next() % bound as u64) as usize
+    }
+
+    pub fn shuffle<Item>(&mut self, items: &mut [Item]) {
+        for at in (1..items.len()).rev() {
+            items.swap(at, self.below(at + 1));
+        }
     }
 }

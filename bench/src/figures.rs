@@ -14,6 +14,8 @@ const CREDENTIALS: usize = Credential::COUNT;
 const ROWS: usize = PLACES;
 /// The grant word of each credential: every second class.
 const WORD: u32 = 0x5555_5555;
+/// The second word of each credential, which is counted nowhere: every fourth class.
+const SECOND: u32 = 0x1111_1111;
 
 /// Medians over the rounds: milliseconds from a process's start to its end, and the ratio of each round.
 pub struct Measured {
@@ -110,7 +112,7 @@ fn told(file: &Path, error: &std::io::Error) -> String {
 /// What the program is handed, for the reader of its times.
 pub fn describe() -> String {
     let (image, bytes) = (image().len(), drawer_of(&image()).len());
-    format!("a drawer of {IMAGES} images of {image} bytes, each with {ROWS} rows and every second class in its {CREDENTIALS} words: {bytes} bytes in a file on standard input, and /dev/null as standard output")
+    format!("a drawer of {IMAGES} images of {image} bytes, each with {ROWS} rows, every second class in its {CREDENTIALS} grant words and every fourth in its second words: {bytes} bytes in a file on standard input, and /dev/null as standard output")
 }
 
 /// The image so many times, each after its length.
@@ -130,6 +132,7 @@ fn image() -> Vec<u8> {
     ];
     let mut image: Vec<u8> = head.into_iter().flat_map(u16::to_le_bytes).collect();
     image.extend(WORD.to_le_bytes().repeat(CREDENTIALS));
+    image.extend(SECOND.to_le_bytes().repeat(CREDENTIALS));
     for row in 1..=ROWS as u8 {
         image.extend([0, 0, row, 0]);
         image.extend([0; NAME_LENGTH - 1]);

@@ -3,11 +3,19 @@
 use crate::input::{Call, Input};
 use crate::numbers::{name_of, DONE};
 use slavotuk::entries::{self, RawClaim};
-use slavotuk::STATE_LENGTH;
+use slavotuk::layout::state::{CREDENTIALS_AT, CREDENTIAL_LENGTH, SECOND};
+use slavotuk::{Credential, STATE_LENGTH};
 use std::fmt::Write;
 use std::fs;
 use std::path::Path;
 use std::str::FromStr;
+
+/// The bytes of a second word, with which a credential ends.
+const SECOND_LENGTH: usize = CREDENTIAL_LENGTH - SECOND;
+/// The hex digits of a state.
+const DIGITS: usize = 2 * STATE_LENGTH;
+/// Those of a state of before credentials had second words: files from then are still read.
+const OLD_DIGITS: usize = DIGITS - 2 * SECOND_LENGTH * Credential::COUNT;
 
 /// What a file says: an input, and the state that its calls leave.
 #[derive(Debug, PartialEq, Eq)]
@@ -195,15 +203,28 @@ fn state_of(digits: &str) -> Result<Vec<u8>, String> {
         .map(|digit| digit.to_digit(16).ok_or(digit))
         .collect::<Result<Vec<u32>, char>>()
         .map_err(|other| format!("{other:?} is no hex digit"))?;
-    if values.len() != 2 * STATE_LENGTH {
-        return Err(format!(
-            "a state is {} hex digits, and not {}",
-            2 * STATE_LENGTH,
-            values.len()
-        ));
+    let pairs = values.chunks_exact(2);
+    let bytes: Vec<u8> = pairs.map(|pair| (pair[0] << 4 | pair[1]) as u8).collect();
+    match values.len() {
+        DIGITS => Ok(bytes),
+        OLD_DIGITS => Ok(with_second_words(&bytes)),
+        other => Err(format!(
+            "a state is {DIGITS} hex digits, or {OLD_DIGITS} where it has no second words, and not {other}"
+        )),
     }
-    let bytes = values.chunks_exact(2);
-    Ok(bytes.map(|pair| (pair[0] << 4 | pair[1]) as u8).collect())
+}
+
+/// A state of before credentials had second words, with second words of zero.
+fn with_second_words(old: &[u8]) -> Vec<u8> {
+    let (sessions, behind) = old.split_at(CREDENTIALS_AT);
+    let (credentials, processes) = behind.split_at(SECOND * Credential::COUNT);
+    let mut state = sessions.to_vec();
+    for credential in credentials.chunks_exact(SECOND) {
+        state.extend(credential);
+        state.extend([0; SECOND_LENGTH]);
+    }
+    state.extend(processes);
+    state
 }
 
 #[cfg(test)]
@@ -258,6 +279,29 @@ mod tests {
         let Recorded { input, left } = written;
         let input = Input { name, ..input };
         assert_eq!(read, Ok(Recorded { input, left }));
+    }
+
+    /// The line without second words: they are the last four bytes of each credential's nine.
+    fn old_line(line: &str) -> String {
+        let (word, digits) = line.split_once(' ').unwrap();
+        let (sessions, behind) = digits.split_at(2 * 4);
+        let (credentials, processes) = behind.split_at(2 * 9 * 8);
+        let credentials: String = (0..8)
+            .map(|credential| &credentials[2 * 9 * credential..][..2 * 5])
+            .collect();
+        format!("{word} {sessions}{credentials}{processes}")
+    }
+
+    #[test]
+    fn a_file_of_before_second_words_is_read() {
+        let mut lines = lines();
+        let last = lines.len() - 1;
+        for at in [0, last] {
+            lines[at] = old_line(&lines[at]);
+        }
+        let name = "twelve-first";
+        let read = parse(name.to_string(), &lines.join("\n"));
+        assert_eq!(read, Ok(recorded(name)));
     }
 
     #[test]
@@ -326,7 +370,7 @@ mod tests {
             let told = format!("line {}: 'g' is no hex digit", at + 1);
             assert_eq!(fault_with(at, &line), told);
             let line = &lines[at][..lines[at].len() - 1];
-            let told = format!("line {}: a state is 1362 hex digits, and not 1361", at + 1);
+            let told = format!("line {}: a state is 1426 hex digits, or 1362 where it has no second words, and not 1425", at + 1);
             assert_eq!(fault_with(at, line), told);
         }
     }

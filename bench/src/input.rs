@@ -1,8 +1,9 @@
 //! What is measured on: a state and a row of record calls, the same on every run.
 
 use crate::draw;
+use crate::marked;
 use crate::numbers::{DONE, VERDICT};
-use crate::states::{standing_state, users, Differ};
+use crate::states::{marked_state, standing_state, users, Differ};
 use slavotuk::entries::RawClaim;
 use std::collections::BTreeMap;
 
@@ -57,6 +58,8 @@ pub enum Row {
     Series,
     /// The same, each refused at the last test of its claim.
     Refused,
+    /// Drawn, on a state with marked classes: half accepted, the others refused by their class.
+    Marked,
 }
 
 const fn named(name: &'static str, standing: usize, differ: Differ, row: Row) -> Named {
@@ -90,9 +93,11 @@ pub static REFUSED: [Named; 2] = [
     named("refused-last", 12, Differ::Last, Row::Refused),
 ];
 
+pub static MARKED: [Named; 1] = [named("marked", 12, Differ::Last, Row::Marked)];
+
 /// Every input that has a name.
 pub fn all() -> impl Iterator<Item = &'static Named> {
-    MIXED.iter().chain(&SERIES).chain(&REFUSED)
+    MIXED.iter().chain(&SERIES).chain(&REFUSED).chain(&MARKED)
 }
 
 /// The input of that name.
@@ -103,7 +108,10 @@ pub fn find(name: &str) -> Option<&'static Named> {
 impl Named {
     /// The state before its first call.
     pub fn state(&self) -> Vec<u8> {
-        standing_state(self.standing, self.differ)
+        match self.row {
+            Row::Mixed | Row::Series | Row::Refused => standing_state(self.standing, self.differ),
+            Row::Marked => marked_state(self.standing, self.differ),
+        }
     }
 
     /// The input with so many calls: a tenth of them for each process of a series.
@@ -115,6 +123,7 @@ impl Named {
                 Row::Mixed => draw::calls(self.standing, calls),
                 Row::Series => series(calls / users().count(), accepted),
                 Row::Refused => series(calls / users().count(), refused),
+                Row::Marked => marked::calls(calls),
             },
         }
     }
@@ -157,7 +166,7 @@ fn refused(session: u32, credential: u32, _: u16) -> Call {
 #[cfg(test)]
 mod tests {
     use super::*;
-    use crate::numbers::NO_PROCESS;
+    use crate::numbers::{NOT_GRANTED, NO_PROCESS, ONLY_ELEVATED};
 
     #[test]
     fn half_of_the_orders_calls_are_accepted_and_each_refusal_is_as_frequent() {
@@ -181,6 +190,19 @@ mod tests {
             (NO_PROCESS, missed),
         ];
         assert_eq!(tally, BTreeMap::from(expected));
+    }
+
+    #[test]
+    fn half_of_the_calls_on_marked_classes_are_refused_by_their_class() {
+        let input = find("marked").unwrap().input(ORDERED_CALLS);
+        let expected = [
+            (DONE, 50_000),
+            (NOT_GRANTED, 25_000),
+            (ONLY_ELEVATED, 25_000),
+        ];
+        assert_eq!(input.tally(), BTreeMap::from(expected));
+        let elevated = input.calls.iter().filter(|call| call.claim.kind == 1);
+        assert_eq!(elevated.count(), 25_000);
     }
 
     #[test]

@@ -9,6 +9,7 @@ mod draw;
 mod figures;
 mod file;
 mod input;
+mod marked;
 mod numbers;
 mod options;
 mod ordinary;
@@ -24,7 +25,7 @@ use bound::Ratios;
 use counts::Counter;
 use figures::Bench;
 use file::Recorded;
-use input::{Named, Row, MIXED, ORDERED_CALLS, SERIES};
+use input::{Named, Row, MARKED, MIXED, ORDERED_CALLS, SERIES};
 use options::Command;
 use source::{Source, Subject};
 use std::path::{Path, PathBuf};
@@ -83,6 +84,7 @@ fn everything(rounds: usize, calls: usize) -> Result<bool, String> {
     println!();
     let ratios = records("Records", &MIXED, rounds, calls, &counter)?;
     records("Series", &SERIES, rounds, calls, &counter)?;
+    records("Marked classes", &MARKED, rounds, calls, &counter)?;
     let parts = parts::Subjects::new(calls);
     report::print_parts(parts.times(rounds), parts.counts(&counter)?);
     println!();
@@ -144,7 +146,9 @@ fn write(named: &'static Named, file: &Path) -> Result<(), String> {
     let input = named.input(ORDERED_CALLS);
     let left = agreement::check_calls(&input)?;
     let drawn = match named.row {
-        Row::Mixed => format!("Drawn and shuffled by SplitMix64 from seed {}.", draw::SEED),
+        Row::Mixed | Row::Marked => {
+            format!("Drawn and shuffled by SplitMix64 from seed {}.", draw::SEED)
+        }
         Row::Series | Row::Refused => "Nothing in it is drawn.".to_string(),
     };
     Recorded { input, left }.write(file, &drawn)?;
@@ -172,6 +176,8 @@ fn emulate(counter: &Counter, calls: usize, bound: f64) -> Result<bool, String> 
     let counts = report::print_counts("Records", &subjects(&MIXED, calls), counter)?;
     println!();
     report::print_counts("Series", &subjects(&SERIES, calls), counter)?;
+    println!();
+    report::print_counts("Marked classes", &subjects(&MARKED, calls), counter)?;
     println!();
     Ok(is_within(&[counts], bound))
 }

@@ -1,4 +1,4 @@
-//! The numbers a record can answer, by document 01's names.
+//! The numbers a record can answer, by the names of documents 01 and 02.
 
 pub const DONE: u32 = 0;
 pub const ARGUMENT: u32 = 1;
@@ -10,6 +10,7 @@ pub const VERDICT: u32 = 8;
 pub const OUT_OF_TURN: u32 = 9;
 pub const NOT_GRANTED: u32 = 10;
 pub const SPENT: u32 = 13;
+pub const ONLY_ELEVATED: u32 = 18;
 
 /// The name of a number, for people.
 pub fn name_of(number: u32) -> &'static str {
@@ -24,6 +25,7 @@ pub fn name_of(number: u32) -> &'static str {
         OUT_OF_TURN => "out of turn",
         NOT_GRANTED => "not granted",
         SPENT => "spent",
+        ONLY_ELEVATED => "only elevated",
         _ => "not a number of a record",
     }
 }

@@ -34,7 +34,8 @@ run          makes the calls once and checks nothing: for a profiler or a counte
 --help       this text
 
 NAME: twelve-first, twelve-last, eight-first, eight-last, four-first, four-last, one, none: so many stand, and names differ in that byte;
-series-first, series-last: accepted records of one process after another; refused-first, refused-last: the same, refused at their claim.
+series-first, series-last: accepted records of one process after another; refused-first, refused-last: the same, refused at their claim;
+marked: every second class that is granted is so only under elevation.
 
 Exit code: 0 where all answers agree and the bound is kept; 1 where answers differ, the bound is not kept, or something is missing that
 is needed; 2 for bad usage.";

@@ -5,7 +5,7 @@ use crate::numbers::*;
 use slavotuk::entries::RawClaim;
 use slavotuk::layout::state::{
     COUNT_AT, CREDENTIALS_AT, CREDENTIAL_LENGTH, LENGTH, NAME, NEXT, OWNER, PLACES_AT,
-    PLACE_LENGTH, SESSION as SESSION_AT, TYPE, WORD,
+    PLACE_LENGTH, SECOND, SESSION as SESSION_AT, TYPE, WORD,
 };
 use slavotuk::{NAME_LENGTH, PLACES};
 
@@ -107,10 +107,12 @@ impl Seats {
         };
         let credentials = state[CREDENTIALS_AT..COUNT_AT].chunks_exact(CREDENTIAL_LENGTH);
         for (credential, bytes) in credentials.enumerate() {
-            match *fixed::<CREDENTIAL_LENGTH>(bytes) {
-                [0, 0, 0, 0, 0] => {}
-                [1, ..] => seats.provisioned |= 1 << credential,
-                _ => return None,
+            // a match of all nine bytes asks each flag twice
+            let [flag, words @ ..] = *fixed::<CREDENTIAL_LENGTH>(bytes);
+            if flag == 1 {
+                seats.provisioned |= 1 << credential;
+            } else if u64::from(flag) | u64::from_le_bytes(words) != 0 {
+                return None;
             }
         }
         for (session, phase) in state[..CREDENTIALS_AT].iter().enumerate() {
@@ -200,17 +202,25 @@ fn accept(state: &mut State, session: u8, claim: RawClaim, class: u32) -> Result
         1 => return Err(NO_VERSION),
         _ => {}
     }
-    let credential = if claim.kind == 1 {
+    let is_elevated = claim.kind == 1;
+    let credential = if is_elevated {
         elevated_credential(state, session)?
     } else {
         count_claim(state, session, claim)?
     };
-    let word = &state[credential_at(credential) + WORD..][..4];
-    if u32::from_le_bytes(*fixed(word)) >> class & 1 == 1 {
-        Ok(())
-    } else {
-        Err(NOT_GRANTED)
+    let at = credential_at(credential);
+    if !is_set(state, at + WORD, class) {
+        return Err(NOT_GRANTED);
     }
+    if !is_elevated && is_set(state, at + SECOND, class) {
+        return Err(ONLY_ELEVATED);
+    }
+    Ok(())
+}
+
+/// Whether the word that begins there has the bit of a class.
+fn is_set(state: &State, at: usize, class: u32) -> bool {
+    u32::from_le_bytes(*fixed(&state[at..][..4])) >> class & 1 == 1
 }
 
 fn elevated_credential(state: &State, session: u8) -> Result<u8, u32> {
@@ -261,7 +271,19 @@ fn next_number(process: &Process) -> u16 {
 #[cfg(test)]
 mod tests {
     use super::*;
-    use crate::states::{standing_state, Differ};
+    use crate::states::{standing_state, Differ, UNPROVISIONED};
+
+    #[test]
+    fn both_words_of_a_credential_that_is_not_provisioned_are_zero() {
+        let state = standing_state(PLACES, Differ::First);
+        assert!(holds(&state));
+        let at = credential_at(UNPROVISIONED as u8);
+        for byte in at + WORD..at + CREDENTIAL_LENGTH {
+            let mut changed = state.clone();
+            changed[byte] = 1;
+            assert!(!holds(&changed), "byte {byte}");
+        }
+    }
 
     /// The inputs of the order go the quick way; the state that all answers are compared on beside them goes the other.
     #[test]

@@ -10,7 +10,7 @@ use crate::numbers::name_of;
 use crate::parts::{Both, Parts};
 use crate::programs::Program;
 use crate::source::Subject;
-use crate::states::{NAME_BYTE, WORD};
+use crate::states::{MARKS, NAME_BYTE, WORD};
 use crate::timing;
 
 /// The input of the order, and the others beside it.
@@ -26,7 +26,7 @@ pub fn print_input(calls: usize) {
         println!("| {number} | {} | {count} |", name_of(number));
     }
     println!();
-    println!("Sessions 0 and 1 are open with version 1.0, session 2 without one, session 3 is closed. Credentials 0 to 6 are provisioned with the word {WORD:#x}, classes 0, 2, 4 .. 30; credential 7 is not, and its word is 0.");
+    println!("Sessions 0 and 1 are open with version 1.0, session 2 without one, session 3 is closed. Credentials 0 to 6 are provisioned with the word {WORD:#x}, classes 0, 2, 4 .. 30; credential 7 is not, and its word is 0. Second words are 0, so that no class is marked.");
     println!("Twelve standing: user processes of credentials 0 to 5 in session 0 and of 0 to 3 in session 1, an elevation of 6 in session 0, a saved process of 6. Eight, four and one standing: the first of these.");
     println!("Names: 48 bytes of {NAME_BYTE:#x}, but that the first byte (twelve-first, eight-first, four-first) or the last (twelve-last, eight-last, four-last) is the place, 0 to 11.");
     println!("Accepted: user claims in turn, each of a process and a class that are drawn. Number 1: one of a session of 4, a kind of 2, a credential of 8, a verdict of 2, a class of 3, a class of 32, drawn evenly.");
@@ -35,6 +35,7 @@ pub fn print_input(calls: usize) {
     println!("None standing: the calls of one standing. No claim can pass there, and what would be accepted, or get 8, 9 or 10, gets 6.");
     println!("Series: twelve standing, {} records of each active user process, one process after another, each in turn with its number and of class 4: all are accepted.", calls / 10);
     println!("Refused: the calls of a series with verdict 0 and number 0: each gets 8 at the last test of its claim, and nothing is written.");
+    println!("Marked: twelve standing, names that differ in the last byte, and the second word {MARKS:#x}, classes 6, 7, 10, 11 .. 30, 31. A quarter each are accepted by a user claim in turn of a class that is granted and not marked; accepted by an elevated claim, of a class that is granted, marked or not; get 10 by a user claim in turn, of a class that is not granted, marked or not; and get 18 by a user claim in turn, of a class that is granted and marked. They are drawn and shuffled as the others are.");
     println!("`slavotuk-bench write NAME FILE` writes each of these with 100000 calls: its state, the calls and their answers.");
     println!();
     println!("entry: slavotuk_record. ordinary: plain Rust on the same slice, which it tests on each call. structured: plain Rust that keeps a struct and tests no slice.");

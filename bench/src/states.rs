@@ -2,13 +2,16 @@
 
 use crate::numbers::DONE;
 use slavotuk::entries;
-use slavotuk::{NAME_LENGTH, STATE_LENGTH};
+use slavotuk::{Credential, NAME_LENGTH, STATE_LENGTH};
 
 pub const WITHOUT_VERSION: u32 = 2;
 pub const CLOSED: u32 = 3;
 pub const UNPROVISIONED: u32 = 7;
 /// Classes 0, 2, 4 and so on to 30.
 pub const WORD: u32 = 0x5555_5555;
+/// The second word where classes are marked. From class 4 on, of each four the first is granted, the second is not, the third is granted only under elevation, and
+/// the fourth is marked and not granted. Class 2 is not marked, or no process could be saved.
+pub const MARKS: u32 = 0xcccc_ccc0;
 /// Every byte of a name but the one in which names differ.
 pub const NAME_BYTE: u8 = 0x5a;
 
@@ -40,20 +43,30 @@ pub fn users() -> impl Iterator<Item = (u32, u32)> {
     in_session_0.chain(in_session_1)
 }
 
-/// The credentials that a module is made of: provisioned or not, and the words.
-pub fn credentials() -> ([u8; 8], [u32; 8]) {
-    let mut provisioned = [1; 8];
-    let mut words = [WORD; 8];
+/// Makes a fresh module of credentials with the word and this second word, but that one is not provisioned.
+pub fn make_fresh(state: &mut [u8], second: u32) -> u32 {
+    let mut provisioned = [1; Credential::COUNT];
+    let mut words = [WORD; Credential::COUNT];
+    let mut seconds = [second; Credential::COUNT];
     provisioned[UNPROVISIONED as usize] = 0;
     words[UNPROVISIONED as usize] = 0;
-    (provisioned, words)
+    seconds[UNPROVISIONED as usize] = 0;
+    entries::fresh(state, &provisioned, &words, &seconds)
 }
 
-/// A state with the first places taken, at most twelve.
+/// A state with the first places taken, at most twelve, and no class marked.
 pub fn standing_state(standing: usize, differ: Differ) -> Vec<u8> {
+    state_of(standing, differ, 0)
+}
+
+/// The same with marked classes.
+pub fn marked_state(standing: usize, differ: Differ) -> Vec<u8> {
+    state_of(standing, differ, MARKS)
+}
+
+fn state_of(standing: usize, differ: Differ, second: u32) -> Vec<u8> {
     let mut state = vec![0; STATE_LENGTH];
-    let (provisioned, words) = credentials();
-    done(entries::fresh(&mut state, &provisioned, &words));
+    done(make_fresh(&mut state, second));
     open_sessions(&mut state);
     let name = |place| differ.process_name(place);
     for (place, (session, credential)) in users().enumerate().take(standing) {

@@ -19,6 +19,7 @@ enum Phase {
 struct Credential {
     provisioned: bool,
     word: u32,
+    second: u32,
 }
 
 #[derive(Clone, Copy, PartialEq, Eq)]
@@ -69,6 +70,7 @@ impl Module {
         for credential in &self.credentials {
             bytes.push(u8::from(credential.provisioned));
             bytes.extend(credential.word.to_le_bytes());
+            bytes.extend(credential.second.to_le_bytes());
         }
         bytes.push(self.processes.len() as u8);
         for process in &self.processes {
@@ -116,7 +118,7 @@ impl Module {
             .iter()
             .find(|process| process.kind == Type::Elevation && process.session == session)
             .ok_or(NO_PROCESS)?;
-        self.credentials[usize::from(elevation.credential)].check_class(class)
+        self.credentials[usize::from(elevation.credential)].check_granted(class)
     }
 
     fn accept_user(&mut self, session: u8, claim: RawClaim, class: u32) -> Result<(), u32> {
@@ -143,16 +145,25 @@ impl Module {
             return Err(VERDICT);
         }
         process.next += 1;
-        credential.check_class(class)
+        credential.check_granted(class)?;
+        credential.check_unmarked(class)
     }
 }
 
 impl Credential {
-    fn check_class(self, class: u32) -> Result<(), u32> {
+    fn check_granted(self, class: u32) -> Result<(), u32> {
         if self.word >> class & 1 == 1 {
             Ok(())
         } else {
             Err(NOT_GRANTED)
+        }
+    }
+
+    fn check_unmarked(self, class: u32) -> Result<(), u32> {
+        if self.second >> class & 1 == 0 {
+            Ok(())
+        } else {
+            Err(ONLY_ELEVATED)
         }
     }
 }
@@ -168,8 +179,13 @@ fn phase_of(byte: u8) -> Phase {
 fn credential_of(bytes: &[u8]) -> Credential {
     Credential {
         provisioned: bytes[state::PROVISIONED] == 1,
-        word: u32::from_le_bytes(std::array::from_fn(|at| bytes[state::WORD + at])),
+        word: word_of(&bytes[state::WORD..]),
+        second: word_of(&bytes[state::SECOND..]),
     }
+}
+
+fn word_of(bytes: &[u8]) -> u32 {
+    u32::from_le_bytes(std::array::from_fn(|at| bytes[at]))
 }
 
 fn process_of(bytes: &[u8]) -> Process {

@@ -83,7 +83,7 @@ mod tests {
 
     #[test]
     fn the_strip_is_filled_and_no_cell_is_too_narrow() {
-        let cells: Vec<Cell> = [Some(4), Some(40), Some(1), Some(636)]
+        let cells: Vec<Cell> = [Some(4), Some(72), Some(1), Some(636)]
             .into_iter()
             .map(cell)
             .collect();
