@@ -11,7 +11,7 @@ use Rattle.module_state.specs.declared.Claim.the-variants.{Elevated}
 use Rattle.module_state.specs.declared.State.{State}
 use Rattle.calls.specs.declared.Wanted.the-variants.{Every, Only}
 use Rattle.calls.specs.Calls.{Open, Close, Select, Start, Continue, Elevate, Drop, End, Record, ListProcesses, Kill, SetWord, withTable, userProcess, fresh}
-use Rattle.calls.proofs.Sequences.{P, Q, R, pairs, name, session, credential, class, userYes, userNo, yes′, no′, Step, _⇒_, Answered, after, computed}
+use Rattle.calls.proofs.Sequences.{plain, P, Q, R, pairs, name, session, credential, class, userYes, userNo, yes′, no′, Step, _⇒_, Answered, after, computed}
 use Rattle.calls.proofs.Orders.{saves, opening, twelve}
 
 -- the state that each table but that of 11 begins with: that of Orders, with one saved, name 1
@@ -37,8 +37,8 @@ argument =
     ∷ (ListProcesses (session 0) (yes′ 0 0) (Only (credential 8)) 616 ⇒ 1)
     ∷ (ListProcesses (session 0) (yes′ 0 0) (Only (credential 7)) 616 ⇒ 0)
     ∷ (ListProcesses (session 0) (yes′ 0 1) Every 616 ⇒ 0)
-    ∷ (SetWord (session 0) (yes′ 0 2) (credential 8) 0 ⇒ 1)
-    ∷ (SetWord (session 0) (yes′ 0 2) (credential 7) 0 ⇒ 5)
+    ∷ (SetWord (session 0) (yes′ 0 2) (credential 8) (plain 0) ⇒ 1)
+    ∷ (SetWord (session 0) (yes′ 0 2) (credential 7) (plain 0) ⇒ 5)
     ∷ []
 
 -- 2: "closed, or for open: already open"
@@ -92,8 +92,8 @@ unprovisioned =
     ∷ (Elevate (session 1) (credential 1) (name 3) true ⇒ 0)
     ∷ (Record (session 0) (yes′ 2 0) (class 4) ⇒ 5)
     ∷ (Record (session 0) (yes′ 1 0) (class 4) ⇒ 0)
-    ∷ (SetWord (session 0) (yes′ 0 0) (credential 2) 16 ⇒ 5)
-    ∷ (SetWord (session 0) (yes′ 0 1) (credential 1) 16 ⇒ 0)
+    ∷ (SetWord (session 0) (yes′ 0 0) (credential 2) (plain 16) ⇒ 5)
+    ∷ (SetWord (session 0) (yes′ 0 1) (credential 1) (plain 16) ⇒ 0)
     ∷ []
 
 -- 6: "none of the stated kind": the claim's, continue's, drop's and kill's. Credential 1 has no process in session 1, and P is not its own
@@ -101,8 +101,8 @@ abbrev noProcess : List Step
 noProcess =
     (Record (session 1) (yes′ 1 0) (class 4) ⇒ 6)
     ∷ (Record (session 0) (yes′ 1 0) (class 4) ⇒ 0)
-    ∷ (SetWord (session 1) Elevated (credential 1) 16 ⇒ 6)
-    ∷ (SetWord (session 0) Elevated (credential 1) 16 ⇒ 0)
+    ∷ (SetWord (session 1) Elevated (credential 1) (plain 16) ⇒ 6)
+    ∷ (SetWord (session 0) Elevated (credential 1) (plain 16) ⇒ 0)
     ∷ (Continue (session 1) (credential 0) Q ⇒ 6)
     ∷ (Continue (session 1) (credential 0) P ⇒ 6)
     ∷ (Continue (session 1) (credential 1) (name 1) ⇒ 6)
@@ -134,7 +134,7 @@ verdict =
     ∷ (End (session 0) (userNo 1 1) false ⇒ 8)
     ∷ (ListProcesses (session 0) (no′ 0 0) Every 616 ⇒ 8)
     ∷ (Kill (session 0) (no′ 0 0) R ⇒ 8)
-    ∷ (SetWord (session 0) (no′ 0 0) (credential 1) 16 ⇒ 8)
+    ∷ (SetWord (session 0) (no′ 0 0) (credential 1) (plain 16) ⇒ 8)
     ∷ (Elevate (session 1) (credential 0) (name 3) false ⇒ 8)
     ∷ (Elevate (session 1) (credential 0) (name 3) true ⇒ 0)
     ∷ []
@@ -158,9 +158,9 @@ notGranted =
     ∷ (ListProcesses (session 0) (yes′ 1 3) (Only (credential 0)) 616 ⇒ 10)
     ∷ (ListProcesses (session 0) (yes′ 1 4) (Only (credential 1)) 616 ⇒ 0)
     ∷ (ListProcesses (session 0) (yes′ 0 0) (Only (credential 1)) 616 ⇒ 0)
-    ∷ (SetWord (session 0) (yes′ 1 5) (credential 1) 20 ⇒ 10)
+    ∷ (SetWord (session 0) (yes′ 1 5) (credential 1) (plain 20) ⇒ 10)
     ∷ (End (session 0) (userYes 1 6) true ⇒ 10)
-    ∷ (SetWord (session 0) (yes′ 0 1) (credential 1) 20 ⇒ 0)
+    ∷ (SetWord (session 0) (yes′ 0 1) (credential 1) (plain 20) ⇒ 0)
     ∷ (End (session 0) (userYes 1 7) true ⇒ 0)
     ∷ []
 

@@ -142,11 +142,11 @@ module _ (st : State) where
   ahead-one (Record s claim class) e h = some-unless _ h
   ahead-one (ListProcesses s claim wanted room) e h = some-unless _ h
   ahead-one (Kill s claim name) e h = absurd (h refl)
-  ahead-one (SetWord s claim c word) e h = some-unless _ h
+  ahead-one (SetWord s claim c words) e h = some-unless _ h
 
--- ---- the numbers that tests after a claim give: "by 5 in set word, 6 in kill, 10, 15, or a refusal that a later order puts after the claim"
+-- ---- the numbers that tests after a claim give: "by 5 in set word, 6 in kill, 10, 15, or a refusal that a later order puts after the claim": 18
 abbrev pub afterClaim : List ℕ
-afterClaim = No.done ∷ No.credential ∷ No.noProcess ∷ No.notGranted ∷ No.room ∷ []
+afterClaim = No.done ∷ No.credential ∷ No.noProcess ∷ No.notGranted ∷ No.room ∷ No.onlyElevated ∷ []
 
 -- it is one of these
 abbrev IsAfter : ℕ → Type 0
@@ -162,7 +162,7 @@ one-passes f n (x ∷ l) h e =
 module _ (st : State) where
   is-grant : (by : Checked) (class : Class) → IsAfter (grantNumber by class)
   unfolding any
-  is-grant = by-grant IsAfter refl refl
+  is-grant = by-grant IsAfter refl refl refl
 
   is-after : (call : Call) (by : Checked) → IsAfter (tests st call .after by)
   unfolding any tests endTests recordTests listTests killTests setWordTests
@@ -177,7 +177,7 @@ module _ (st : State) where
   is-after (Record s claim class) by = is-grant by class
   is-after (ListProcesses s claim wanted room) by = by-then IsAfter _ _ (by-unless IsAfter refl _ _ (is-grant by listOthers)) (by-when IsAfter refl No.room _ refl)
   is-after (Kill s claim name) by = by-unless IsAfter refl No.noProcess _ refl
-  is-after (SetWord s claim c word) by = by-then IsAfter _ _ (is-grant by setWords) (by-unless IsAfter refl No.credential _ refl)
+  is-after (SetWord s claim c words) by = by-then IsAfter _ _ (is-grant by setWords) (by-unless IsAfter refl No.credential _ refl)
 
   rest-after : (w : Protection) (call : Call) → IsAfter (rest st w (tests st call))
   unfolding any rest

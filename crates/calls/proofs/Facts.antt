@@ -5,7 +5,7 @@ use mathlib.Core.Path.{_≡_, refl, sym, ap, _∙_}
 use mathlib.Core.Bool.{Bool, true, false, cond, _||_}
 use mathlib.Core.List.{List, [], _∷_}
 use native.Mathlib.Omega.{arith}
-use lib.Dec.{T, eqb, leb, leb→le}
+use lib.Dec.{eqb}
 use lib.ListN.{getD, set}
 use Rattle.lists.specs.Lists.{any}
 use Rattle.lists.proofs.Tests.{split, clash}
@@ -42,75 +42,71 @@ use Rattle.calls.specs.Run.{step}
 use Rattle.calls.proofs.Cut.{left-passed, left-stopped, accepted}
 use Rattle.calls.proofs.Laws.{outcome-done, outcome-refused, answer-number}
 
--- ---- a number is 0 to the last, so a refusal's is 1 to the last
+-- ---- a number is one of the page's, and so a refusal's is, and not 0
 
--- `T (leb n No.last)` computes, for each of the numbers
-abbrev Small : ℕ → Type 0
-Small n = n ≤ No.last
+-- `No.isKnown n` computes, for each of the numbers
+done-known : No.IsKnown 0
+done-known = record { is = refl }
 
-pub small-when : (n : ℕ) (b : Bool) → T (leb n No.last) → (n when b) ≤ No.last
-small-when n b h = by-when Small (omega arith) n b (leb→le n No.last h)
+pub known-when : (n : ℕ) (b : Bool) → No.isKnown n ≡ true → No.IsKnown (n when b)
+known-when n b h = by-when No.IsKnown done-known n b (record { is = h })
 
-pub small-unless : (n : ℕ) (b : Bool) → T (leb n No.last) → (n unless b) ≤ No.last
-small-unless n b h = by-unless Small (omega arith) n b (leb→le n No.last h)
+pub known-unless : (n : ℕ) (b : Bool) → No.isKnown n ≡ true → No.IsKnown (n unless b)
+known-unless n b h = by-unless No.IsKnown done-known n b (record { is = h })
 
-pub small-then : (n m : ℕ) → n ≤ No.last → m ≤ No.last → (n ▸ m) ≤ No.last
-small-then = by-then Small
+pub known-then : (n m : ℕ) → No.IsKnown n → No.IsKnown m → No.IsKnown (n ▸ m)
+known-then = by-then No.IsKnown
 
-pub ruleset small = (small-when, small-unless, small-then)
+pub ruleset known = (known-when, known-unless, known-then)
 
-small-entered : (st : State) (s : Session) → entered st s ≤ No.last
+known-entered : (st : State) (s : Session) → No.IsKnown (entered st s)
 unfolding entered phaseNumber
-small-entered st s = search small
+known-entered st s = search known
 
-small-turn : (next : ℕ) (u : UserClaim) → turnNumber next u ≤ No.last
+known-turn : (next : ℕ) (u : UserClaim) → No.IsKnown (turnNumber next u)
 unfolding turnNumber
-small-turn next u = search small
+known-turn next u = search known
 
-small-claim : (claim : Claim) (view : ClaimView) → claimNumber claim view ≤ No.last
+known-claim : (claim : Claim) (view : ClaimView) → No.IsKnown (claimNumber claim view)
 unfolding claimNumber
-small-claim Elevated view = search small
-small-claim (ByUser u) view = search (small, small-turn)
+known-claim Elevated view = search known
+known-claim (ByUser u) view = search (known, known-turn)
 
-small-checked : (st : State) (s : Session) (claim : Claim) → checked st s claim .number ≤ No.last
+known-checked : (st : State) (s : Session) (claim : Claim) → No.IsKnown (checked st s claim .number)
 unfolding checked checkOf checkNumber phaseNumber
-small-checked st s claim = search (small, small-claim) depth 12
+known-checked st s claim = search (known, known-claim) depth 12
 
-small-grant : (by : Checked) (class : Class) → grantNumber by class ≤ No.last
-small-grant = by-grant Small (omega arith) (omega arith)
+known-grant : (by : Checked) (class : Class) → No.IsKnown (grantNumber by class)
+known-grant = by-grant No.IsKnown done-known (record { is = refl }) (record { is = refl })
 
-small-none : 0 ≤ No.last
-small-none = omega arith
+known-granted : (by : Checked) (class : Class) (b : Bool) → No.IsKnown (grantNumber by class when b)
+known-granted by class b = by-when No.IsKnown done-known _ b (known-grant by class)
 
-small-granted : (by : Checked) (class : Class) (b : Bool) → (grantNumber by class when b) ≤ No.last
-small-granted by class b = by-when Small (omega arith) _ b (small-grant by class)
+known-others : (by : Checked) (class : Class) (b : Bool) → No.IsKnown (grantNumber by class unless b)
+known-others by class b = by-unless No.IsKnown done-known _ b (known-grant by class)
 
-small-others : (by : Checked) (class : Class) (b : Bool) → (grantNumber by class unless b) ≤ No.last
-small-others by class b = by-unless Small (omega arith) _ b (small-grant by class)
+ruleset all-known = (known, known-entered, known-checked, known-grant, done-known, known-granted, known-others)
 
-ruleset smalls = (small, small-entered, small-checked, small-grant, small-none, small-granted, small-others)
-
-pub number-small : (st : State) (call : Call) → number st call ≤ No.last
+pub number-known : (st : State) (call : Call) → No.IsKnown (number st call)
 unfolding number asked endTests recordTests listTests killTests setWordTests
-number-small st (Open s) = search smalls
-number-small st (Close s) = search smalls
-number-small st (Select s byte) = search smalls
-number-small st (Start s c name) = search smalls depth 12
-number-small st (Continue s c name) = search smalls depth 12
-number-small st (Elevate s c name verdict) = search smalls depth 12
-number-small st (Drop s) = search smalls
-number-small st (End s u keep) = search smalls
-number-small st (Record s claim class) = search smalls
-number-small st (ListProcesses s claim wanted room) = search smalls depth 12
-number-small st (Kill s claim name) = search smalls
-number-small st (SetWord s claim c word) = search smalls depth 12
+number-known st (Open s) = search all-known
+number-known st (Close s) = search all-known
+number-known st (Select s byte) = search all-known
+number-known st (Start s c name) = search all-known depth 12
+number-known st (Continue s c name) = search all-known depth 12
+number-known st (Elevate s c name verdict) = search all-known depth 12
+number-known st (Drop s) = search all-known
+number-known st (End s u keep) = search all-known
+number-known st (Record s claim class) = search all-known
+number-known st (ListProcesses s claim wanted room) = search all-known depth 12
+number-known st (Kill s claim name) = search all-known
+number-known st (SetWord s claim c words) = search all-known depth 12
 
 -- "Numbers a call can answer": no other number is ever answered
-pub refusal-small : (st : State) (call : Call) → (number st call ≡ 0 → ⊥) → (1 ≤ answerNumber (outcome st call .answer)) × (answerNumber (outcome st call .answer) ≤ No.last)
-refusal-small st call h =
+pub refusal-known : (st : State) (call : Call) → (number st call ≡ 0 → ⊥) → (1 ≤ answerNumber (outcome st call .answer)) × No.IsKnown (answerNumber (outcome st call .answer))
+refusal-known st call h =
     let e : answerNumber (outcome st call .answer) ≡ number st call = answer-number st call in
-    let k : number st call ≤ No.last = number-small st call in
-    (omega (arith, e, h), omega (arith, e, k))
+    (omega (arith, e, h), rw e (number-known st call))
 
 -- ---- "Choosing 0x10 a second time is done and changes nothing"
 
@@ -235,7 +231,7 @@ VerdictNeeds st (End s u keep) = Needs st s (ByUser u)
 VerdictNeeds st (Record s claim class) = Needs st s claim
 VerdictNeeds st (ListProcesses s claim wanted room) = Needs st s claim
 VerdictNeeds st (Kill s claim name) = Needs st s claim
-VerdictNeeds st (SetWord s claim c word) = Needs st s claim
+VerdictNeeds st (SetWord s claim c words) = Needs st s claim
 
 module _ (st : State) where
   is-chosen : (s : Session) → entered st s ≡ 0 → isChosen (phaseOf st s) ≡ true
@@ -270,7 +266,7 @@ module _ (st : State) where
   verdict-needs (Record s claim class) e = needs s claim (accepted st (Record s claim class) refl e .claim-passed)
   verdict-needs (ListProcesses s claim wanted room) e = needs s claim (accepted st (ListProcesses s claim wanted room) refl e .claim-passed)
   verdict-needs (Kill s claim name) e = needs s claim (accepted st (Kill s claim name) refl e .claim-passed)
-  verdict-needs (SetWord s claim c word) e = needs s claim (accepted st (SetWord s claim c word) refl e .claim-passed)
+  verdict-needs (SetWord s claim c words) e = needs s claim (accepted st (SetWord s claim c words) refl e .claim-passed)
 
 -- ---- a fresh module "has all sessions closed and no process"
 pub fresh-closed : (pairs : List Grants) (s : Session) → isClosed (phaseOf (fresh pairs) s) ≡ true

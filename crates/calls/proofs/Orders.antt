@@ -10,7 +10,7 @@ use Rattle.module_state.specs.declared.Claim.the-variants.{Elevated}
 use Rattle.module_state.specs.declared.State.{State}
 use Rattle.calls.specs.declared.Wanted.the-variants.{Every, Only}
 use Rattle.calls.specs.Calls.{Open, Close, Select, Start, Continue, Elevate, Drop, End, Record, ListProcesses, Kill, SetWord, fresh}
-use Rattle.calls.proofs.Sequences.{P, Q, R, pairs, name, session, credential, class, userYes, userNo, yes′, no′, Step, _⇒_, Answered, after, computed}
+use Rattle.calls.proofs.Sequences.{plain, P, Q, R, pairs, name, session, credential, class, userYes, userNo, yes′, no′, Step, _⇒_, Answered, after, computed}
 
 -- ---- the state that each table begins with: sessions 0 and 1 have version 1.0, session 2 is open without one, session 3 is closed. In session 0 stand
 -- P, credential 0's, R, credential 1's, and the elevation Q, credential 0's; and credential 0 has saved nine, with the names 1 to 9: twelve in all
@@ -140,7 +140,7 @@ elevatedRecords =
     ∷ (Record (session 2) Elevated (class 4) ⇒ 3)
     ∷ (Record (session 1) Elevated (class 4) ⇒ 6)
     ∷ (Record (session 0) Elevated (class 4) ⇒ 10)
-    ∷ (SetWord (session 0) Elevated (credential 0) 31 ⇒ 0)
+    ∷ (SetWord (session 0) Elevated (credential 0) (plain 31) ⇒ 0)
     ∷ (Record (session 0) Elevated (class 4) ⇒ 0)
     ∷ []
 
@@ -189,12 +189,12 @@ kills =
 -- "claim; 10 by class 3; 5": credential 1 lacks class 3
 abbrev setsWords : List Step
 setsWords =
-    (SetWord (session 0) (no′ 1 1) (credential 8) 0 ⇒ 1)
-    ∷ (SetWord (session 0) (no′ 1 1) (credential 2) 0 ⇒ 9)
-    ∷ (SetWord (session 0) (no′ 1 0) (credential 2) 0 ⇒ 8)
-    ∷ (SetWord (session 0) (yes′ 1 0) (credential 2) 0 ⇒ 10)
-    ∷ (SetWord (session 0) (yes′ 0 0) (credential 2) 0 ⇒ 5)
-    ∷ (SetWord (session 0) (yes′ 0 1) (credential 1) 0 ⇒ 0)
+    (SetWord (session 0) (no′ 1 1) (credential 8) (plain 0) ⇒ 1)
+    ∷ (SetWord (session 0) (no′ 1 1) (credential 2) (plain 0) ⇒ 9)
+    ∷ (SetWord (session 0) (no′ 1 0) (credential 2) (plain 0) ⇒ 8)
+    ∷ (SetWord (session 0) (yes′ 1 0) (credential 2) (plain 0) ⇒ 10)
+    ∷ (SetWord (session 0) (yes′ 0 0) (credential 2) (plain 0) ⇒ 5)
+    ∷ (SetWord (session 0) (yes′ 0 1) (credential 1) (plain 0) ⇒ 0)
     ∷ []
 
 pub record Orders : Type 0 where

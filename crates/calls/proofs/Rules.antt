@@ -28,7 +28,7 @@ use Rattle.table.specs.declared.Table.{Table}
 use Rattle.table.proofs.Laws.{count-few}
 use Rattle.table.proofs.Searched.{found-at, found-none}
 use Rattle.module_state.specs.Numbers.{_when_, _unless_, _▸_}
-use Rattle.module_state.specs.Module.{sessionCount, credentialCount, isCredential, unprovisioned, closedModule, hasActive, activePlace, activeProcess}
+use Rattle.module_state.specs.Module.{sessionCount, credentialCount, isCredential, granted, unprovisioned, wordsOf, closedModule, hasActive, activePlace, activeProcess}
 use Rattle.module_state.specs.Claim.{isSpent, sought, placed, checked, grantNumber}
 use Rattle.module_state.specs.declared.Checked.{Checked}
 use Rattle.module_state.specs.declared.Claim.{Claim}
@@ -40,6 +40,7 @@ use Rattle.module_state.specs.declared.Phase.the-variants.{Closed, Opened, Chos
 use Rattle.module_state.specs.declared.Placed.{Placed}
 use Rattle.module_state.specs.declared.State.{State}
 use Rattle.module_state.specs.declared.UserClaim.{UserClaim}
+use Rattle.module_state.specs.declared.Words.{Words}
 use Rattle.module_state.proofs.Laws.{clear-first, clear-rest, stop, pass, rows, when-true, when-false, unless-true, unless-false, passed-user, checked-number, checked-place}
 use Rattle.module_state.proofs.Rules.{rules as claim-rules, nonzero}
 use Rattle.calls.specs.declared.Answer.the-variants.{Done, Refused}
@@ -281,11 +282,11 @@ module _ (st : State) (at : ℕ) {keep : Bool} {t : Table} {r : State} where
 -- ---- a fresh module
 module _ (pair : Grants) where
   pub taken-whole : pair .provisioned ≡ true → pair ≡ taken pair
-  unfolding taken
+  unfolding taken wordsOf
   taken-whole e = rw e
 
   pub taken-zero : pair .provisioned ≡ false → _≡_ {A = Grants} (unprovisioned) (taken pair)
-  unfolding taken
+  unfolding taken wordsOf
   taken-zero e = rw e
 
 pub take-on : {l₀ l : List Grants} {i : ℕ} {g : Grants} → Mapped taken l₀ l i → length l₀ ≡ credentialCount → i < credentialCount → g ≡ taken (getD l i unprovisioned) → Mapped taken l₀ (set l i g) (i + 1)
@@ -341,9 +342,9 @@ module _ (st : State) {x : State} where
       unfolding effect
       effect-kill name a d f g = g ∙ rw (f, d, a, e)
 
-      pub effect-set-word : (c : Credential) (word : ℕ) → x ≡ withGrants y c (record { provisioned = true; word = word }) → x ≡ effect st (SetWord s claim c word)
+      pub effect-set-word : (c : Credential) (words : Words) → x ≡ withGrants y c (granted words) → x ≡ effect st (SetWord s claim c words)
       unfolding effect
-      effect-set-word c word a = a ∙ rw e
+      effect-set-word c words a = a ∙ rw e
 
   pub effect-record : (s : Session) (claim : Claim) (class : Class) → x ≡ counted st s claim → x ≡ effect st (Record s claim class)
   unfolding effect
@@ -355,9 +356,9 @@ module _ (st : State) (s : Session) (claim : Claim) {by : Checked} (e : by ≡ c
   unfolding tests protection
   record-number class q = number-by st (Record s claim class) refl e q
 
-  pub set-word-number : {n : ℕ} (c : Credential) (word : ℕ) → n ≡ asked (setWordTests st c) by → n ≡ number st (SetWord s claim c word)
+  pub set-word-number : {n : ℕ} (c : Credential) (words : Words) → n ≡ asked (setWordTests st c) by → n ≡ number st (SetWord s claim c words)
   unfolding tests protection
-  set-word-number c word q = number-by st (SetWord s claim c word) refl e q
+  set-word-number c words q = number-by st (SetWord s claim c words) refl e q
 
   pub kill-number : {p : Placed} (name : Name) → p ≡ placed (asked (killTests st name) by) (namedPlace st name (reach by)) → p .number ≡ number st (Kill s claim name)
   unfolding tests protection placed

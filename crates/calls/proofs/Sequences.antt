@@ -14,7 +14,7 @@ use Rattle.names.specs.declared.Name.{Name}
 use Rattle.names.specs.declared.Session.{Session}
 use Rattle.table.specs.Table.{standing, size, tableOf, processAt, firstPlace, isActive, isActiveIn, isAmong, isNamed, appended, replaced, removed, withoutSession}
 use Rattle.module_state.specs.Numbers.{_when_, _unless_, _▸_}
-use Rattle.module_state.specs.Module.{isSession, phaseOf, isClosed, isChosen, isCredential, grantsOf, provisioned, wordGrants, lookup, hasActive, activePlace, activeProcess}
+use Rattle.module_state.specs.Module.{isSession, phaseOf, isClosed, isChosen, isCredential, grantsOf, bothWords, granted, unprovisioned, wordsOf, provisioned, hasBit, lookup, hasActive, activePlace, activeProcess}
 use Rattle.module_state.specs.Claim.{phaseNumber, entered, sought, speaker, claimView, isInRange, isSpent, turnNumber, claimNumber, checkNumber, placed, checkOf, checked, admitted, lookupNumber, grantNumber}
 use Rattle.module_state.specs.declared.Claim.{Claim}
 use Rattle.module_state.specs.declared.Claim.the-variants.{ByUser}
@@ -22,6 +22,7 @@ use Rattle.module_state.specs.declared.Class.{Class}
 use Rattle.module_state.specs.declared.Grants.{Grants}
 use Rattle.module_state.specs.declared.State.{State}
 use Rattle.module_state.specs.declared.UserClaim.{UserClaim}
+use Rattle.module_state.specs.declared.Words.{Words}
 use Rattle.calls.specs.Listing.{rowsOf, messageLength, listing}
 use Rattle.calls.specs.Calls.{Call, isDevice, isVersion, isWanted, isFull, hasNamed, namedPlace, isOwn, isShort, reach, endTests, recordTests, listTests, killTests, setWordTests, tests, asked, numberUnder, number, counted, ended, effect, protection, aheadNumber, protectedNumber, passes, refusedAfter, charged, left, refusal, outcome, taken, fresh}
 use Rattle.calls.specs.Run.{step, run, numbers}
@@ -36,12 +37,13 @@ Q = record { bytes = Names.Q }
 abbrev pub R : Name
 R = record { bytes = Names.R }
 
+-- a grant word, with no class that is granted only under elevation
+abbrev pub plain : ℕ → Words
+plain word = bothWords word 0
+
 -- "Credentials 0 (word 15) and 1 (word 16) are provisioned."
 abbrev pub pairs : List Grants
-pairs =
-    record { provisioned = true; word = 15 }
-    ∷ record { provisioned = true; word = 16 }
-    ∷ replicate 6 (record { provisioned = false; word = 0 })
+pairs = granted (plain 15) ∷ granted (plain 16) ∷ replicate 6 unprovisioned
 
 -- 47 zero bytes, then n
 abbrev pub name : ℕ → Name
@@ -94,5 +96,5 @@ after st steps = run st (callsOf steps)
 
 -- all that a worked sequence computes with: who says `unfolding computed` has it open
 unfoldable pub computed : Type 1
-unfolding any firstIndex reject select join removeAt padded bytesOf sameBytes sameName standing size tableOf processAt firstPlace isActive isActiveIn isAmong isNamed appended replaced removed withoutSession _when_ _unless_ _▸_ isSession phaseOf isClosed isChosen isCredential grantsOf provisioned wordGrants lookup hasActive activePlace activeProcess phaseNumber entered sought speaker claimView isInRange isSpent turnNumber claimNumber checkNumber placed checkOf checked admitted lookupNumber grantNumber rowsOf messageLength listing isDevice isVersion isWanted isFull hasNamed namedPlace isOwn isShort reach endTests recordTests listTests killTests setWordTests tests asked numberUnder number counted ended effect protection aheadNumber protectedNumber passes refusedAfter charged left refusal outcome taken fresh step run numbers
+unfolding any firstIndex reject select join removeAt padded bytesOf sameBytes sameName standing size tableOf processAt firstPlace isActive isActiveIn isAmong isNamed appended replaced removed withoutSession _when_ _unless_ _▸_ isSession phaseOf isClosed isChosen isCredential grantsOf provisioned wordsOf hasBit lookup hasActive activePlace activeProcess phaseNumber entered sought speaker claimView isInRange isSpent turnNumber claimNumber checkNumber placed checkOf checked admitted lookupNumber grantNumber rowsOf messageLength listing isDevice isVersion isWanted isFull hasNamed namedPlace isOwn isShort reach endTests recordTests listTests killTests setWordTests tests asked numberUnder number counted ended effect protection aheadNumber protectedNumber passes refusedAfter charged left refusal outcome taken fresh step run numbers
 computed = Type 0

@@ -8,7 +8,7 @@ use Rattle.table.specs.Table.{standing}
 use Rattle.module_state.specs.declared.Claim.the-variants.{Elevated}
 use Rattle.calls.specs.declared.Wanted.the-variants.{Every, Only}
 use Rattle.calls.specs.Calls.{Call, Open, Select, Start, End, Record, ListProcesses, Kill, SetWord, number, left, fresh}
-use Rattle.calls.proofs.Sequences.{P, Q, R, pairs, name, session, credential, class, userYes, yes′, no′, Step, _⇒_, Answered, computed}
+use Rattle.calls.proofs.Sequences.{plain, P, Q, R, pairs, name, session, credential, class, userYes, yes′, no′, Step, _⇒_, Answered, computed}
 use Rattle.calls.proofs.Conditions.{four}
 
 -- in that state stand P, credential 0's, R, credential 1's, the elevation Q, and name 1, which is saved. A call there is answered the number, and leaves them these
@@ -29,27 +29,27 @@ spentBy1 = 0 ∷ 1 ∷ 0 ∷ 1 ∷ []
 
 pub record Spending : Type 0 where
   -- "by 5 in set word, 6 in kill, 10, 15"
-  pub word-5 : Leaves (SetWord (session 0) (yes′ 0 0) (credential 2) 16) 5 spentBy0
+  pub word-5 : Leaves (SetWord (session 0) (yes′ 0 0) (credential 2) (plain 16)) 5 spentBy0
   pub kill-6 : Leaves (Kill (session 0) (yes′ 0 0) (name 2)) 6 spentBy0
   pub strangers-6 : Leaves (Kill (session 0) (yes′ 1 0) P) 6 spentBy1
   pub end-10 : Leaves (End (session 0) (userYes 1 0) true) 10 spentBy1
   pub record-10 : Leaves (Record (session 0) (yes′ 1 0) (class 5)) 10 spentBy1
   pub list-10 : Leaves (ListProcesses (session 0) (yes′ 1 0) Every 616) 10 spentBy1
-  pub word-10 : Leaves (SetWord (session 0) (yes′ 1 0) (credential 0) 16) 10 spentBy1
+  pub word-10 : Leaves (SetWord (session 0) (yes′ 1 0) (credential 0) (plain 16)) 10 spentBy1
   pub list-15 : Leaves (ListProcesses (session 0) (yes′ 0 0) Every 207) 15 spentBy0
   -- under an elevated claim none
-  pub elevated-5 : Leaves (SetWord (session 0) Elevated (credential 2) 16) 5 asItWas
+  pub elevated-5 : Leaves (SetWord (session 0) Elevated (credential 2) (plain 16)) 5 asItWas
   pub elevated-6 : Leaves (Kill (session 0) Elevated (name 2)) 6 asItWas
   pub elevated-10 : Leaves (Record (session 0) Elevated (class 4)) 10 asItWas
   pub elevated-15 : Leaves (ListProcesses (session 0) Elevated Every 207) 15 asItWas
   -- ahead of the claim, its number being the next and its verdict a yes
   pub early-1 : Leaves (Record (session 0) (yes′ 1 0) (class 3)) 1 asItWas
   pub early-list-1 : Leaves (ListProcesses (session 0) (yes′ 0 0) (Only (credential 8)) 616) 1 asItWas
-  pub early-word-1 : Leaves (SetWord (session 0) (yes′ 0 0) (credential 8) 16) 1 asItWas
+  pub early-word-1 : Leaves (SetWord (session 0) (yes′ 0 0) (credential 8) (plain 16)) 1 asItWas
   pub early-2 : Leaves (Record (session 3) (yes′ 1 0) (class 4)) 2 asItWas
   pub early-3 : Leaves (Record (session 2) (yes′ 1 0) (class 4)) 3 asItWas
   -- and by the claim
-  pub claim-5 : Leaves (SetWord (session 0) (yes′ 2 0) (credential 2) 16) 5 asItWas
+  pub claim-5 : Leaves (SetWord (session 0) (yes′ 2 0) (credential 2) (plain 16)) 5 asItWas
   pub claim-6 : Leaves (Kill (session 1) (yes′ 1 0) R) 6 asItWas
   pub claim-9 : Leaves (Kill (session 0) (yes′ 1 1) P) 9 asItWas
   pub claim-8 : Leaves (Kill (session 0) (no′ 1 0) P) 8 asItWas

@@ -17,7 +17,7 @@ use Rattle.table.specs.declared.Process.{Process}
 use Rattle.table.specs.declared.Table.{Table}
 use Rattle.module_state.specs.Numbers as No
 use Rattle.module_state.specs.Numbers.{_when_, _unless_, _▸_}
-use Rattle.module_state.specs.Module.{isSession, phaseOf, isClosed, isCredential, provisioned, closedModule, hasActive, activePlace, activeProcess}
+use Rattle.module_state.specs.Module.{isSession, phaseOf, isClosed, isCredential, provisioned, wordsOf, granted, closedModule, hasActive, activePlace, activeProcess}
 use Rattle.module_state.specs.Claim.{entered, checked, admitted, grantNumber}
 use Rattle.module_state.specs.declared.Checked.{Checked}
 use Rattle.module_state.specs.declared.Claim.{Claim}
@@ -28,6 +28,7 @@ use Rattle.module_state.specs.declared.Phase.{Phase}
 use Rattle.module_state.specs.declared.Phase.the-variants.{Closed, Opened, Chosen}
 use Rattle.module_state.specs.declared.State.{State}
 use Rattle.module_state.specs.declared.UserClaim.{UserClaim}
+use Rattle.module_state.specs.declared.Words.{Words}
 use Rattle.calls.specs.declared.Answer.{Answer}
 use Rattle.calls.specs.declared.Answer.the-variants.{Done, Refused, RefusedClaim}
 use Rattle.calls.specs.declared.Listed.{Listed}
@@ -47,7 +48,7 @@ pub data Call : Type 0 where
   Record : Session → Claim → Class → Call
   ListProcesses : Session → Claim → Wanted → ℕ → Call
   Kill : Session → Claim → Name → Call
-  SetWord : Session → Claim → Credential → ℕ → Call
+  SetWord : Session → Claim → Credential → Words → Call
 
 -- ---- what the tests ask
 
@@ -98,7 +99,8 @@ isOwn c (Only wanted) = eqb (wanted .0) (c .0)
 unfoldable pub isShort : State → Wanted → ℕ → Bool
 isShort st wanted room = ltb room (messageLength (length (rowsOf st wanted)))
 
--- "It may kill its own credential's processes of every type, and all when class 1 is granted."
+-- "It may kill its own credential's processes of every type, and all when class 1 is granted." Order 7: "in kill a class 1 marked so gives a user claim no reach
+-- beyond its own processes"
 unfoldable pub reach : Checked → Among
 reach by = cond (eqb (grantNumber by killOthers) No.done) All (Of (by .credential))
 
@@ -119,7 +121,7 @@ protection (End s u keep) = Under s (ByUser u)
 protection (Record s claim class) = Under s claim
 protection (ListProcesses s claim wanted room) = Under s claim
 protection (Kill s claim name) = Under s claim
-protection (SetWord s claim c word) = Under s claim
+protection (SetWord s claim c words) = Under s claim
 
 -- ---- the tests of a call, in the page's order: those ahead of the check of its claim, and those after it by what the check hands on; all are ahead where it
 -- carries none
@@ -133,6 +135,8 @@ n ▸claim▸ after = record { ahead = n; after = after }
 
 abbrev pub alone : ℕ → Tests
 alone n = n ▸claim▸ λ by. No.done
+
+-- Order 7: "Refusals: 18 when a user claim gets the third answer, directly after 10". Wherever 10 is asked below, `grantNumber` answers either
 
 -- "End (session, user claim, keep): claim; 10 if keep and class 2 is clear."
 unfoldable pub endTests : Bool → Tests
@@ -156,7 +160,7 @@ listTests st wanted room =
 unfoldable pub killTests : State → Name → Tests
 killTests st name = No.done ▸claim▸ λ by. No.noProcess unless hasNamed st name (reach by)
 
--- "Set word (session, claim, credential, word): claim; 10 by class 3; 5."
+-- "Set word (session, claim, credential, word): claim; 10 by class 3; 5." Order 7: "Set word sets both words"
 unfoldable pub setWordTests : State → Credential → Tests
 setWordTests st c =
     No.argument unless isCredential c
@@ -210,7 +214,7 @@ tests st (End s u keep) = endTests keep
 tests st (Record s claim class) = recordTests class
 tests st (ListProcesses s claim wanted room) = listTests st wanted room
 tests st (Kill s claim name) = killTests st name
-tests st (SetWord s claim c word) = setWordTests st c
+tests st (SetWord s claim c words) = setWordTests st c
 
 -- ---- the number: that of the first test that holds, 0 where none does
 
@@ -280,7 +284,7 @@ effect st (Record s claim class) = counted st s claim
 effect st (ListProcesses s claim wanted room) = counted st s claim
 effect st (Kill s claim name) =
     withTable (counted st s claim) (removed (counted st s claim .table) (namedPlace st name (reach (checked st s claim))))
-effect st (SetWord s claim c word) = withGrants (counted st s claim) c (record { provisioned = true; word = word })
+effect st (SetWord s claim c words) = withGrants (counted st s claim) c (granted words)
 
 -- ---- the tests of a call up to its claim's
 
@@ -347,7 +351,7 @@ listed st s claim wanted room =
 -- ---- "A fresh module is made from eight such pairs; an unprovisioned credential's word is taken as zero. It has all sessions closed and no
 -- process."
 unfoldable pub taken : Grants → Grants
-taken pair = record { provisioned = pair .provisioned; word = cond (pair .provisioned) (pair .word) 0 }
+taken pair = record { provisioned = pair .provisioned; words = wordsOf pair }
 
 unfoldable pub fresh : List Grants → State
 fresh pairs = closedModule (map taken pairs) (tableOf [])

@@ -8,6 +8,7 @@ use module_state::Claim;
 use module_state::DONE;
 use module_state::Grants;
 use module_state::State;
+use module_state::Words;
 use names::Credential;
 use names::Session;
 
@@ -36,8 +37,8 @@ pub fn list(st: State, s: Session, claim: Claim, wanted: Wanted, room: usize) ->
 
 // ---- set word
 
-pub fn set_word(st: State, s: Session, claim: Claim, target: Credential, word: u32) -> Outcome
-    ensures { λ r. ⌜ r ≡ outcome st (SetWord s claim target word) ⌝ }
+pub fn set_word(st: State, s: Session, claim: Claim, target: Credential, words: Words) -> Outcome
+    ensures { λ r. ⌜ r ≡ outcome st (SetWord s claim target words) ⌝ }
 {
     let by = calls_claim::check(st, s, claim);
     let n = calls_protected_tests::set_word_number(st, by, target);
@@ -47,7 +48,7 @@ pub fn set_word(st: State, s: Session, claim: Claim, target: Credential, word: u
     }
     let grants = Grants {
         provisioned: true,
-        word: word,
+        words: words,
     };
     calls_effects::accepted(calls_effects::with_grants(next, target, grants))
 }

@@ -21,7 +21,7 @@ use Rattle.module_state.specs.declared.Claim.the-variants.{Elevated, ByUser}
 use Rattle.module_state.specs.declared.Class.{Class}
 use Rattle.module_state.specs.declared.UserClaim.{UserClaim}
 use Rattle.calls.specs.declared.Wanted.the-variants.{Every, Only}
-use Rattle.entries_arguments.specs.Arguments.{sessionOf, classOf, everyNumber, credentialOf, wantedOf, isFlag, userClaimOf, claimOf, areClaimFlags, arePairs}
+use Rattle.entries_arguments.specs.Arguments.{sessionOf, classOf, everyNumber, credentialOf, wantedOf, isFlag, userClaimOf, claimOf, areClaimFlags, handed, arePairs}
 
 module _ (n : ℕ) where
   pub session-is : {b : ℕ} → b ≡ byteOf n → _≡_ {A = Session} (record { 0 = b }) (sessionOf n)
@@ -113,18 +113,23 @@ module _ {l : List ℕ} {i : ℕ} (v : Flags l i) where
   unfolding every
   flags-all h = sym (v .rest ∙ rw (drop-of-length-le l h))
 
-module _ (flags words : List ℕ) where
-  pub pairs-flags : (length flags ≡ credentialCount → ⊥) → false ≡ arePairs flags words
+module _ (flags words seconds : List ℕ) where
+  pub pairs-flags : (length flags ≡ credentialCount → ⊥) → false ≡ arePairs (handed flags words seconds)
   unfolding arePairs
   pairs-flags h = rw (ne-eqb (length flags) credentialCount h)
 
   module _ (k : length flags ≡ credentialCount) where
-    pub pairs-words : (length words ≡ credentialCount → ⊥) → false ≡ arePairs flags words
+    pub pairs-words : (length words ≡ credentialCount → ⊥) → false ≡ arePairs (handed flags words seconds)
     unfolding arePairs
     pairs-words h = rw (eq-eqb (length flags) credentialCount k, ne-eqb (length words) credentialCount h)
 
-    pub pairs-are : {b : Bool} → length words ≡ credentialCount → b ≡ every isFlag flags → b ≡ arePairs flags words
-    unfolding arePairs
-    pairs-are h e = e ∙ rw (eq-eqb (length flags) credentialCount k, eq-eqb (length words) credentialCount h)
+    module _ (w : length words ≡ credentialCount) where
+      pub pairs-seconds : (length seconds ≡ credentialCount → ⊥) → false ≡ arePairs (handed flags words seconds)
+      unfolding arePairs
+      pairs-seconds h = rw (eq-eqb (length flags) credentialCount k, eq-eqb (length words) credentialCount w, ne-eqb (length seconds) credentialCount h)
 
-pub ruleset rules = (needs, session-is, class-is, credential-in, credential-out, wanted-every, wanted-only, flag-is, user-claim-is, claim-elevated, claim-user, flags-elevated, flags-user, flags-none, fine-both, flags-begin, flags-on, flags-fail, flags-all, pairs-flags, pairs-words, pairs-are)
+      pub pairs-are : {b : Bool} → length seconds ≡ credentialCount → b ≡ every isFlag flags → b ≡ arePairs (handed flags words seconds)
+      unfolding arePairs
+      pairs-are h e = e ∙ rw (eq-eqb (length flags) credentialCount k, eq-eqb (length words) credentialCount w, eq-eqb (length seconds) credentialCount h)
+
+pub ruleset rules = (needs, session-is, class-is, credential-in, credential-out, wanted-every, wanted-only, flag-is, user-claim-is, claim-elevated, claim-user, flags-elevated, flags-user, flags-none, fine-both, flags-begin, flags-on, flags-fail, flags-all, pairs-flags, pairs-words, pairs-seconds, pairs-are)

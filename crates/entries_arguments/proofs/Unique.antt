@@ -55,5 +55,5 @@ are-claim-flags-once κs a x y s t p q = p ∙ sym q
 pub both-once : OneAnswer 0 both-kinds.ps both-kinds.r both.Post
 both-once κs a x y s t p q = p ∙ sym q
 
-pub are-pairs-once : OneAnswer 2 are-pairs-kinds.ps are-pairs-kinds.r are-pairs.Post
+pub are-pairs-once : OneAnswer 3 are-pairs-kinds.ps are-pairs-kinds.r are-pairs.Post
 are-pairs-once κs a x y s t p q = p ∙ sym q

@@ -8,7 +8,7 @@ use Rattle.rows.specs.Bytes.{byteOf}
 use Rattle.rows.specs.Rows.{every}
 use Rattle.names.specs.declared.Credential.{Credential}
 use Rattle.names.specs.declared.Session.{Session}
-use Rattle.module_state.specs.Module.{credentialCount}
+use Rattle.module_state.specs.Module.{credentialCount, bothWords}
 use Rattle.module_state.specs.declared.Claim.{Claim}
 use Rattle.module_state.specs.declared.Claim.the-variants.{Elevated, ByUser}
 use Rattle.module_state.specs.declared.Class.{Class}
@@ -63,12 +63,30 @@ claimKind (ByUser u) = 0
 unfoldable pub areClaimFlags : ℕ → ℕ → Bool
 areClaimFlags kind verdict = isFlag kind && (flagOf kind || isFlag verdict)
 
--- "A fresh module is made from eight such pairs": the pairs as a list of flags and a list of words
-unfoldable pub pairsOf : List ℕ → List ℕ → List Grants
-pairsOf [] words = []
-pairsOf (flag ∷ flags) [] = []
-pairsOf (flag ∷ flags) (word ∷ words) = record { provisioned = flagOf flag; word = word } ∷ pairsOf flags words
+-- "A fresh module is made from eight such pairs": what is handed in for it, a list of flags, one of grant words and one of second words
+pub record Handed : Type 0 where
+  pub flags : List ℕ
+  pub words : List ℕ
+  pub seconds : List ℕ
 
--- eight flags, each 0 or 1, and eight words
-unfoldable pub arePairs : List ℕ → List ℕ → Bool
-arePairs flags words = eqb (length flags) credentialCount && (eqb (length words) credentialCount && every isFlag flags)
+abbrev pub handed : List ℕ → List ℕ → List ℕ → Handed
+handed flags words seconds = record { flags = flags; words = words; seconds = seconds }
+
+-- the pairs that these are
+unfoldable pub pairsFrom : List ℕ → List ℕ → List ℕ → List Grants
+pairsFrom [] words seconds = []
+pairsFrom (flag ∷ flags) [] seconds = []
+pairsFrom (flag ∷ flags) (word ∷ words) [] = []
+pairsFrom (flag ∷ flags) (word ∷ words) (second ∷ seconds) =
+    record { provisioned = flagOf flag; words = bothWords word second } ∷ pairsFrom flags words seconds
+
+abbrev pub pairsOf : Handed → List Grants
+pairsOf h = pairsFrom (h .flags) (h .words) (h .seconds)
+
+-- eight flags, each 0 or 1, eight grant words and eight second words
+unfoldable pub arePairs : Handed → Bool
+arePairs h =
+    eqb (length (h .flags)) credentialCount
+    && (eqb (length (h .words)) credentialCount
+    && (eqb (length (h .seconds)) credentialCount
+    && every isFlag (h .flags)))

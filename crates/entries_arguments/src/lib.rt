@@ -2,7 +2,7 @@
 ghost use mathlib.Core.Path.{_≡_};
 ghost use mathlib.Core.Bool.{_&&_};
 ghost use Rattle.rows.specs.Rows.{every};
-ghost use Rattle.entries_arguments.specs.Arguments.{sessionOf, classOf, credentialOf, wantedOf, isFlag, userClaimOf, claimOf, areClaimFlags, arePairs};
+ghost use Rattle.entries_arguments.specs.Arguments.{sessionOf, classOf, credentialOf, wantedOf, isFlag, userClaimOf, claimOf, areClaimFlags, handed, arePairs};
 use calls::Wanted;
 use module_state::CREDENTIALS;
 use module_state::Claim;
@@ -110,13 +110,16 @@ fn are_all_flags(l: &[u8]) -> bool
     true
 }
 
-pub fn are_pairs(provisioned: &[u8], words: &[u32]) -> bool
-    ensures { λ r. ⌜ r ≡ arePairs (now (provisioned .entry)) (now (words .entry)) ⌝ }
+pub fn are_pairs(provisioned: &[u8], words: &[u32], seconds: &[u32]) -> bool
+    ensures { λ r. ⌜ r ≡ arePairs (handed (now (provisioned .entry)) (now (words .entry)) (now (seconds .entry))) ⌝ }
 {
     if provisioned.len() != CREDENTIALS {
         return false;
     }
     if words.len() != CREDENTIALS {
+        return false;
+    }
+    if seconds.len() != CREDENTIALS {
         return false;
     }
     are_all_flags(provisioned)

@@ -1,18 +1,19 @@
--- "Numbers a call can answer": no call on a slice answers a number over the last.
+-- "Numbers a call can answer": no call on a slice answers another.
 -- Assumes nothing.
-use Prim.Native.Nat.{ℕ, _≤_}
+use Prim.Native.Nat.{ℕ}
 use mathlib.Core.Bool.{Bool}
+use mathlib.Core.Path.{refl}
 use mathlib.Core.List.{List}
 use Rattle.module_state.specs.Numbers as No
 use Rattle.calls.specs.Calls.{Call}
-use Rattle.calls.proofs.Facts.{small-unless, small-then, number-small}
+use Rattle.calls.proofs.Facts.{known-unless, known-then, number-known}
 use Rattle.state_layout.specs.Layout.{stateOf}
 use Rattle.entries_call.specs.CallEntry.{holdsNumber, entryNumber, CallEntry}
 
-pub entry-small : {fine : Bool} {before after : List ℕ} {call : Call} {answer : ℕ} → CallEntry fine before call answer after → answer ≤ No.last
+pub entry-known : {fine : Bool} {before after : List ℕ} {call : Call} {answer : ℕ} → CallEntry fine before call answer after → No.IsKnown answer
 unfolding entryNumber
-entry-small {before = before} {call = call} e = rw (e .number-is) (small-then _ _ (small-unless 1 _ tt) (number-small (stateOf before) call))
+entry-known {before = before} {call = call} e = rw (e .number-is) (known-then _ _ (known-unless 1 _ refl) (number-known (stateOf before) call))
 
-pub holds-small : (bytes : List ℕ) → holdsNumber bytes ≤ No.last
+pub holds-known : (bytes : List ℕ) → No.IsKnown (holdsNumber bytes)
 unfolding holdsNumber
-holds-small bytes = small-unless 1 _ tt
+holds-known bytes = known-unless 1 _ refl

@@ -1,15 +1,16 @@
--- "Numbers a call can answer": neither entry answers a number over the last.
+-- "Numbers a call can answer": neither entry answers another.
 -- Assumes nothing.
-use Prim.Native.Nat.{ℕ, _≤_}
+use Prim.Native.Nat.{ℕ}
+use mathlib.Core.Path.{refl}
 use mathlib.Core.List.{List}
 use Rattle.module_state.specs.Numbers as No
-use Rattle.calls.proofs.Facts.{small-unless, small-when, small-then}
+use Rattle.calls.proofs.Facts.{known-unless, known-when, known-then}
 use Rattle.entries_image.specs.Entries.{imageNumber, restoreNumber, ImageEntry, RestoreEntry}
 
-pub image-small : {state old new : List ℕ} {answer long : ℕ} → ImageEntry state old answer new long → answer ≤ No.last
+pub image-known : {state old new : List ℕ} {answer long : ℕ} → ImageEntry state old answer new long → No.IsKnown answer
 unfolding imageNumber
-image-small e = rw (e .number-is) (small-then _ _ (small-unless 1 _ tt) (small-when 15 _ tt))
+image-known e = rw (e .number-is) (known-then _ _ (known-unless 1 _ refl) (known-when 15 _ refl))
 
-pub restore-small : {before image after : List ℕ} {answer : ℕ} → RestoreEntry before image answer after → answer ≤ No.last
+pub restore-known : {before image after : List ℕ} {answer : ℕ} → RestoreEntry before image answer after → No.IsKnown answer
 unfolding restoreNumber
-restore-small e = rw (e .number-is) (small-then _ _ (small-unless 1 _ tt) (small-unless 14 _ tt))
+restore-known e = rw (e .number-is) (known-then _ _ (known-unless 1 _ refl) (known-unless 14 _ refl))

@@ -1,24 +1,25 @@
--- "Numbers a call can answer": no entry of a message answers a number over the last.
+-- "Numbers a call can answer": no entry of a message answers another.
 -- Assumes nothing.
-use Prim.Native.Nat.{ℕ, _≤_}
+use Prim.Native.Nat.{ℕ}
+use mathlib.Core.Path.{refl}
 use mathlib.Core.List.{List}
 use Rattle.module_state.specs.Numbers as No
-use Rattle.calls.proofs.Facts.{small-unless, small-when, small-then}
+use Rattle.calls.proofs.Facts.{known-unless, known-when, known-then}
 use Rattle.listing_messages.specs.Wire.{requestNumber, readRequest, requestRoom, countNumber, readCount, rowNumber, readRowAt}
 use Rattle.entries_listing.specs.Messages.{rowEntryNumber}
 
-pub request-small : (message : List ℕ) → readRequest message .number ≤ No.last
+pub request-known : (message : List ℕ) → No.IsKnown (readRequest message .number)
 unfolding readRequest requestNumber
-request-small message = small-unless 14 _ tt
+request-known message = known-unless 14 _ refl
 
-pub room-small : (buffer : List ℕ) → requestRoom buffer ≤ No.last
+pub room-known : (buffer : List ℕ) → No.IsKnown (requestRoom buffer)
 unfolding requestRoom
-room-small buffer = small-when 15 _ tt
+room-known buffer = known-when 15 _ refl
 
-pub count-small : (message : List ℕ) → readCount message .number ≤ No.last
+pub count-known : (message : List ℕ) → No.IsKnown (readCount message .number)
 unfolding readCount countNumber
-count-small message = small-unless 14 _ tt
+count-known message = known-unless 14 _ refl
 
-pub row-small : (message : List ℕ) (at : ℕ) (name : List ℕ) → rowEntryNumber message at name ≤ No.last
+pub row-known : (message : List ℕ) (at : ℕ) (name : List ℕ) → No.IsKnown (rowEntryNumber message at name)
 unfolding rowEntryNumber readRowAt rowNumber countNumber
-row-small message at name = small-then _ _ (small-then _ _ (small-unless 14 _ tt) (small-unless 1 _ tt)) (small-unless 1 _ tt)
+row-known message at name = known-then _ _ (known-then _ _ (known-unless 14 _ refl) (known-unless 1 _ refl)) (known-unless 1 _ refl)

@@ -1,32 +1,33 @@
--- "Numbers a call can answer": no entry of a message answers a number over the last.
+-- "Numbers a call can answer": no entry of a message answers another.
 -- Assumes nothing.
-use Prim.Native.Nat.{ℕ, _≤_}
+use Prim.Native.Nat.{ℕ}
+use mathlib.Core.Path.{refl}
 use mathlib.Core.List.{List}
 use native.Mathlib.Omega.{arith}
 use Rattle.module_state.specs.Numbers as No
 use Rattle.lists.proofs.Tests.{split}
-use Rattle.calls.proofs.Facts.{small-unless, small-when, small-then}
+use Rattle.calls.proofs.Facts.{known-unless, known-when, known-then}
 use Rattle.message_fields_write.specs.Bodies.{numberFor}
 use Rattle.message_write.specs.Written.{writeNumber, writePieceNumber}
 use Rattle.message_read.specs.Messages.{isMessage, readMessage}
 use Rattle.entries_messages.specs.Entries.{readMessageNumber, writeMessageNumber, readPieceNumber, putPieceNumber}
 
-message-small : (message : List ℕ) → readMessage message .number ≤ No.last
+message-known : (message : List ℕ) → No.IsKnown (readMessage message .number)
 unfolding readMessage
-message-small message = split (isMessage message) (λ e. rw e (omega arith)) (λ e. rw e (omega arith))
+message-known message = split (isMessage message) (λ e. rw e (record { is = refl })) (λ e. rw e (record { is = refl }))
 
-pub read-message-small : (message values : List ℕ) → readMessageNumber message values ≤ No.last
+pub read-message-known : (message values : List ℕ) → No.IsKnown (readMessageNumber message values)
 unfolding readMessageNumber
-read-message-small message values = small-then _ _ (small-unless 1 _ tt) (message-small message)
+read-message-known message values = known-then _ _ (known-unless 1 _ refl) (message-known message)
 
-pub write-message-small : (code : ℕ) (values rest old : List ℕ) → writeMessageNumber code values rest old ≤ No.last
+pub write-message-known : (code : ℕ) (values rest old : List ℕ) → No.IsKnown (writeMessageNumber code values rest old)
 unfolding writeMessageNumber writeNumber numberFor
-write-message-small code values rest old = small-then _ _ (small-unless 1 _ tt) (small-then _ _ (small-when 15 _ tt) (small-unless 14 _ tt))
+write-message-known code values rest old = known-then _ _ (known-unless 1 _ refl) (known-then _ _ (known-when 15 _ refl) (known-unless 14 _ refl))
 
-pub read-piece-small : (kind : ℕ) (bytes values : List ℕ) → readPieceNumber kind bytes values ≤ No.last
+pub read-piece-known : (kind : ℕ) (bytes values : List ℕ) → No.IsKnown (readPieceNumber kind bytes values)
 unfolding readPieceNumber
-read-piece-small kind bytes values = small-then _ _ (small-unless 1 _ tt) (small-unless 14 _ tt)
+read-piece-known kind bytes values = known-then _ _ (known-unless 1 _ refl) (known-unless 14 _ refl)
 
-pub write-piece-small : (kind : ℕ) (values rest old : List ℕ) → putPieceNumber kind values rest old ≤ No.last
+pub write-piece-known : (kind : ℕ) (values rest old : List ℕ) → No.IsKnown (putPieceNumber kind values rest old)
 unfolding putPieceNumber writePieceNumber numberFor
-write-piece-small kind values rest old = small-then _ _ (small-unless 1 _ tt) (small-then _ _ (small-when 15 _ tt) (small-unless 14 _ tt))
+write-piece-known kind values rest old = known-then _ _ (known-unless 1 _ refl) (known-then _ _ (known-when 15 _ refl) (known-unless 14 _ refl))

@@ -14,6 +14,7 @@ use Rattle.module_state.specs.declared.Claim.{Claim}
 use Rattle.module_state.specs.declared.Class.{Class}
 use Rattle.module_state.specs.declared.State.{State}
 use Rattle.module_state.specs.declared.UserClaim.{UserClaim}
+use Rattle.module_state.specs.declared.Words.{Words}
 use Rattle.calls.specs.Calls.{Call, End, Record, Kill, SetWord, ListProcesses, listed}
 use Rattle.calls.specs.declared.Listed.{Listed}
 use Rattle.calls.specs.declared.Wanted.{Wanted}
@@ -68,7 +69,7 @@ module _ {s t : Session} (e : s ≡ t) where
     pub same-kill : {read other : NameRead} → read ≡ other → Kill s a (read .name) ≡ Kill t b (other .name)
     same-kill g = rw (e, f, g)
 
-    pub same-set-word : {c d : Credential} → c ≡ d → (word : ℕ) → SetWord s a c word ≡ SetWord t b d word
-    same-set-word g word = rw (e, f, g)
+    pub same-set-word : {c d : Credential} → c ≡ d → (words : Words) → SetWord s a c words ≡ SetWord t b d words
+    same-set-word g words = rw (e, f, g)
 
 pub ruleset rules = (needs, call-none, call-made, record-unclaimed, record-claimed, list-none, list-called, same-end, same-kill, same-set-word, fine-fits, fine-both)

@@ -1,11 +1,13 @@
 // The protected calls as programs in C and Rust call them: numbers and byte slices, the state in a slice that they lend.
 ghost use mathlib.Core.Bool.{_&&_};
 ghost use Rattle.names.specs.Names.{readName};
+ghost use Rattle.module_state.specs.Module.{bothWords};
 ghost use Rattle.calls.specs.Calls.{End, Record, Kill, SetWord};
 ghost use Rattle.entries_call.specs.CallEntry.{CallEntry};
 ghost use Rattle.entries_arguments.specs.Arguments.{sessionOf, classOf, credentialOf, wantedOf, isFlag, flagOf, userClaimOf, claimOf, areClaimFlags};
 ghost use Rattle.entries_protected.specs.Listing.{ListEntry};
 use module_state::ARGUMENT;
+use module_state::Words;
 
 #[no_mangle]
 pub extern "C" fn slavotuk_end(
@@ -128,12 +130,17 @@ pub extern "C" fn slavotuk_set_word(
     verdict: u32,
     target: u32,
     word: u32,
+    second: u32,
 ) -> u32
-    ensures { λ r. ⌜ CallEntry (areClaimFlags kind verdict) (now (state .entry)) (SetWord (sessionOf session) (claimOf kind credential number verdict) (credentialOf target) word) r (now (state .exit)) ⌝ }
+    ensures { λ r. ⌜ CallEntry (areClaimFlags kind verdict) (now (state .entry)) (SetWord (sessionOf session) (claimOf kind credential number verdict) (credentialOf target) (bothWords word second)) r (now (state .exit)) ⌝ }
 {
     if !entries_call::is_ready(entries_arguments::are_claim_flags(kind, verdict), state) {
         return ARGUMENT as u32;
     }
+    let words = Words {
+        grant: word,
+        second: second,
+    };
     let st = state_read::read(state);
     entries_call::put_back(
         state,
@@ -142,7 +149,7 @@ pub extern "C" fn slavotuk_set_word(
             entries_arguments::session_of(session),
             entries_arguments::claim_of(kind, credential, number, verdict),
             entries_arguments::credential_of(target),
-            word,
+            words,
         ),
     )
 }

@@ -14,7 +14,7 @@ use Rattle.lists.proofs.Tests.{and-right, and-left}
 use Rattle.names.specs.declared.Credential.{Credential}
 use Rattle.names.specs.declared.NameRead.{NameRead}
 use Rattle.names.specs.declared.Session.{Session}
-use Rattle.module_state.specs.Module.{unprovisioned, credentialCount}
+use Rattle.module_state.specs.Module.{bothWords, unprovisioned, credentialCount}
 use Rattle.module_state.specs.Numbers.{_unless_}
 use Rattle.module_state.specs.declared.Grants.{Grants}
 use Rattle.module_state.specs.declared.State.{State}
@@ -23,7 +23,7 @@ use Rattle.state_layout.specs.Layout.{stateLength, stateWritten, holdsState}
 use Rattle.state_layout.proofs.Laws.{state-written}
 use Rattle.entries_call.specs.CallEntry.{holdsNumber}
 use Rattle.entries_call.proofs.Laws.{call-none, call-made}
-use Rattle.entries_arguments.specs.Arguments.{pairsOf, arePairs}
+use Rattle.entries_arguments.specs.Arguments.{Handed, handed, pairsFrom, pairsOf, arePairs}
 use Rattle.entries_arguments.proofs.Rules.{fine-fits, fine-both}
 use Rattle.entries_unprotected.specs.Fresh.{canFresh, FreshEntry}
 
@@ -52,73 +52,98 @@ module _ {s t : Session} (e : s ≡ t) where
     same-elevate verdict = rw (e, f, g)
 
 -- ---- a fresh module
-module _ (flags words : List ℕ) (e : arePairs flags words ≡ true) where
-  pub flags-long : length flags ≡ credentialCount
-  unfolding arePairs
-  flags-long = eqb-true (length flags) credentialCount (and-left (eqb (length flags) credentialCount) _ e)
+pub record Eight (pairs : Handed) : Type 0 where
+  pub flags : length (pairs .flags) ≡ credentialCount
+  pub words : length (pairs .words) ≡ credentialCount
+  pub seconds : length (pairs .seconds) ≡ credentialCount
 
-  pub words-long : length words ≡ credentialCount
-  unfolding arePairs
-  words-long = eqb-true (length words) credentialCount (and-left (eqb (length words) credentialCount) _ (and-right (eqb (length flags) credentialCount) _ e))
+pub eight : (pairs : Handed) → arePairs pairs ≡ true → Eight pairs
+unfolding arePairs
+eight pairs e =
+    let e₁ = and-right (eqb (length (pairs .flags)) credentialCount) _ e in
+    let e₂ = and-right (eqb (length (pairs .words)) credentialCount) _ e₁ in
+    record {
+      flags = eqb-true (length (pairs .flags)) credentialCount (and-left (eqb (length (pairs .flags)) credentialCount) _ e);
+      words = eqb-true (length (pairs .words)) credentialCount (and-left (eqb (length (pairs .words)) credentialCount) _ e₁);
+      seconds = eqb-true (length (pairs .seconds)) credentialCount (and-left (eqb (length (pairs .seconds)) credentialCount) _ e₂);
+    }
 
-pub pairs-length : (flags words : List ℕ) → length flags ≡ length words → length (pairsOf flags words) ≡ length flags
-unfolding pairsOf
-pairs-length [] words h = refl
-pairs-length (f ∷ flags) [] h = absurd (omega arith)
-pairs-length (f ∷ flags) (w ∷ words) h = let k : length flags ≡ length words = omega arith in rw (pairs-length flags words k)
+abbrev pairAt : List ℕ → List ℕ → List ℕ → ℕ → Grants
+pairAt flags words seconds i = record { provisioned = eqb (getD flags i 0) 1; words = bothWords (getD words i 0) (getD seconds i 0) }
 
-pairs-at : (flags words : List ℕ) (i : ℕ) → length flags ≡ length words → i < length flags → getD (pairsOf flags words) i unprovisioned ≡ record { provisioned = eqb (getD flags i 0) 1; word = getD words i 0 }
-unfolding pairsOf
-pairs-at [] words i h k = absurd (omega arith)
-pairs-at (f ∷ flags) [] i h k = absurd (omega arith)
-pairs-at (f ∷ flags) (w ∷ words) zero h k = refl
-pairs-at (f ∷ flags) (w ∷ words) (suc i) h k = pairs-at flags words i (omega arith) (omega arith)
+pairs-length : (flags words seconds : List ℕ) → length flags ≡ length words → length flags ≡ length seconds → length (pairsFrom flags words seconds) ≡ length flags
+unfolding pairsFrom
+pairs-length [] words seconds h k = refl
+pairs-length (f ∷ flags) [] seconds h k = absurd (omega arith)
+pairs-length (f ∷ flags) (w ∷ words) [] h k = absurd (omega arith)
+pairs-length (f ∷ flags) (w ∷ words) (s ∷ seconds) h k =
+    let a : length flags ≡ length words = omega arith in
+    let b : length flags ≡ length seconds = omega arith in
+    rw (pairs-length flags words seconds a b)
 
-module _ (flags words : List ℕ) (a : length flags ≡ credentialCount) (b : length words ≡ credentialCount) where
-  long-pairs : length (pairsOf flags words) ≡ credentialCount
-  long-pairs = pairs-length flags words (a ∙ sym b) ∙ a
+pairs-at : (flags words seconds : List ℕ) (i : ℕ) → length flags ≡ length words → length flags ≡ length seconds → i < length flags → getD (pairsFrom flags words seconds) i unprovisioned ≡ pairAt flags words seconds i
+unfolding pairsFrom
+pairs-at [] words seconds i h k l = absurd (omega arith)
+pairs-at (f ∷ flags) [] seconds i h k l = absurd (omega arith)
+pairs-at (f ∷ flags) (w ∷ words) [] i h k l = absurd (omega arith)
+pairs-at (f ∷ flags) (w ∷ words) (s ∷ seconds) zero h k l = refl
+pairs-at (f ∷ flags) (w ∷ words) (s ∷ seconds) (suc i) h k l = pairs-at flags words seconds i (omega arith) (omega arith) (omega arith)
 
-  pub pairs-begin : Copied (pairsOf flags words) (replicate credentialCount unprovisioned) (replicate credentialCount unprovisioned) 0
-  pairs-begin = copied-none (pairsOf flags words) (replicate credentialCount unprovisioned) (sym long-pairs)
+pub pairs-long : (pairs : Handed) → arePairs pairs ≡ true → length (pairsOf pairs) ≡ credentialCount
+pairs-long pairs e =
+    let v = eight pairs e in
+    pairs-length (pairs .flags) (pairs .words) (pairs .seconds) (v .flags ∙ sym (v .words)) (v .flags ∙ sym (v .seconds)) ∙ v .flags
 
-  module _ {d l : List Grants} {i : ℕ} (v : Copied (pairsOf flags words) d l i) where
-    pub pairs-on : i < credentialCount → Copied (pairsOf flags words) d (set l i (record { provisioned = eqb (getD flags i 0) 1; word = getD words i 0 })) (i + 1)
+module _ (flags words seconds : List ℕ) (e : arePairs (handed flags words seconds) ≡ true) where
+  pub flags-eight : length flags ≡ credentialCount
+  flags-eight = eight (handed flags words seconds) e .flags
+
+  pub words-eight : length words ≡ credentialCount
+  words-eight = eight (handed flags words seconds) e .words
+
+  pub seconds-eight : length seconds ≡ credentialCount
+  seconds-eight = eight (handed flags words seconds) e .seconds
+
+  long-pairs : length (pairsFrom flags words seconds) ≡ credentialCount
+  long-pairs = pairs-long (handed flags words seconds) e
+
+  pub pairs-begin : Copied (pairsFrom flags words seconds) (replicate credentialCount unprovisioned) (replicate credentialCount unprovisioned) 0
+  pairs-begin = copied-none (pairsFrom flags words seconds) (replicate credentialCount unprovisioned) (sym long-pairs)
+
+  module _ {d l : List Grants} {i : ℕ} (v : Copied (pairsFrom flags words seconds) d l i) where
+    pub pairs-on : i < credentialCount → Copied (pairsFrom flags words seconds) d (set l i (pairAt flags words seconds i)) (i + 1)
     pairs-on h =
-        let e : getD (pairsOf flags words) i unprovisioned ≡ record { provisioned = eqb (getD flags i 0) 1; word = getD words i 0 } = pairs-at flags words i (a ∙ sym b) (rw a h) in
-        rw e at (copied-more v unprovisioned (rw long-pairs h))
+        let q : getD (pairsFrom flags words seconds) i unprovisioned ≡ pairAt flags words seconds i = pairs-at flags words seconds i (flags-eight ∙ sym words-eight) (flags-eight ∙ sym seconds-eight) (rw flags-eight h) in
+        rw q at (copied-more v unprovisioned (rw long-pairs h))
 
-    pub pairs-all : credentialCount ≤ i → l ≡ pairsOf flags words
+    pub pairs-all : credentialCount ≤ i → l ≡ pairsFrom flags words seconds
     pairs-all h = copied-all v (rw long-pairs h)
 
-module _ (before flags words : List ℕ) where
-  fresh-kept : canFresh before flags words ≡ false → FreshEntry before flags words 1 before
+module _ (before : List ℕ) (pairs : Handed) where
+  fresh-kept : canFresh before pairs ≡ false → FreshEntry before pairs 1 before
   unfolding _unless_
   fresh-kept z = record { number-is = rw z; bytes-are = rw z }
 
-  pub fresh-long : (length before ≡ stateLength → ⊥) → FreshEntry before flags words 1 before
+  pub fresh-long : (length before ≡ stateLength → ⊥) → FreshEntry before pairs 1 before
   unfolding canFresh
   fresh-long h = fresh-kept (rw (ne-eqb (length before) stateLength h))
 
-  module _ (k : length before ≡ stateLength) {h : Bool} (e : h ≡ arePairs flags words) where
-    pub fresh-refused : not h ≡ true → FreshEntry before flags words 1 before
+  module _ (k : length before ≡ stateLength) {h : Bool} (e : h ≡ arePairs pairs) where
+    pub fresh-refused : not h ≡ true → FreshEntry before pairs 1 before
     unfolding canFresh
     fresh-refused n = fresh-kept (rw (eq-eqb (length before) stateLength k, ← e, not-true h n))
 
-    pub fresh-made : {pairs : List Grants} {st : State} {after : List ℕ} → not h ≡ false → pairs ≡ pairsOf flags words → st ≡ fresh pairs → after ≡ stateWritten before st → FreshEntry before flags words 0 after
+    pub fresh-made : {made : List Grants} {st : State} {after : List ℕ} → not h ≡ false → made ≡ pairsOf pairs → st ≡ fresh made → after ≡ stateWritten before st → FreshEntry before pairs 0 after
     unfolding canFresh _unless_
     fresh-made n p q w =
-        let z : arePairs flags words ≡ true = sym e ∙ not-false h n in
+        let z : arePairs pairs ≡ true = sym e ∙ not-false h n in
         record {
           number-is = rw (eq-eqb (length before) stateLength k, z);
           bytes-are = w ∙ rw (state-written before _ k, q, p, eq-eqb (length before) stateLength k, z);
         }
 
-module _ (flags words : List ℕ) {h : Bool} (e : h ≡ arePairs flags words) (n : not h ≡ false) where
-  pub eight-flags : length flags ≡ credentialCount
-  eight-flags = flags-long flags words (sym e ∙ not-false h n)
-
-  pub eight-words : length words ≡ credentialCount
-  eight-words = words-long flags words (sym e ∙ not-false h n)
+pub pairs-tested : (pairs : Handed) {h : Bool} → h ≡ arePairs pairs → not h ≡ false → arePairs pairs ≡ true
+pairs-tested pairs {h} e n = sym e ∙ not-false h n
 
 -- ---- whether a slice holds a state; the library's version
 module _ (bytes : List ℕ) {h : Bool} (e : h ≡ holdsState bytes) where
@@ -130,4 +155,4 @@ module _ (bytes : List ℕ) {h : Bool} (e : h ≡ holdsState bytes) where
   unfolding holdsNumber _unless_
   holds-none t = rw (sym e ∙ t)
 
-pub ruleset rules = (needs, call-none, call-made, same-open, same-close, same-select, same-drop, same-start, same-continue, same-elevate, fine-fits, fine-both, pairs-begin, pairs-on, pairs-all, eight-flags, eight-words, fresh-long, fresh-refused, fresh-made, holds-done, holds-none)
+pub ruleset rules = (needs, call-none, call-made, same-open, same-close, same-select, same-drop, same-start, same-continue, same-elevate, fine-fits, fine-both, flags-eight, words-eight, seconds-eight, pairs-begin, pairs-on, pairs-all, pairs-tested, fresh-long, fresh-refused, fresh-made, holds-done, holds-none)

@@ -9,12 +9,12 @@ use Rattle.module_state.specs.Numbers as No
 use Rattle.module_state.specs.Numbers.{_unless_}
 use Rattle.calls.specs.Calls.{fresh}
 use Rattle.state_layout.specs.Layout.{stateLength, stateBytes}
-use Rattle.entries_arguments.specs.Arguments.{pairsOf, arePairs}
+use Rattle.entries_arguments.specs.Arguments.{Handed, pairsOf, arePairs}
 
 -- "Making a fresh module tests only the length"
-unfoldable pub canFresh : List ℕ → List ℕ → List ℕ → Bool
-canFresh before flags words = eqb (length before) stateLength && arePairs flags words
+unfoldable pub canFresh : List ℕ → Handed → Bool
+canFresh before pairs = eqb (length before) stateLength && arePairs pairs
 
-pub record FreshEntry (before flags words : List ℕ) (answer : ℕ) (after : List ℕ) : Type 0 where
-  pub number-is : answer ≡ No.argument unless canFresh before flags words
-  pub bytes-are : after ≡ cond (canFresh before flags words) (stateBytes (fresh (pairsOf flags words))) before
+pub record FreshEntry (before : List ℕ) (pairs : Handed) (answer : ℕ) (after : List ℕ) : Type 0 where
+  pub number-is : answer ≡ No.argument unless canFresh before pairs
+  pub bytes-are : after ≡ cond (canFresh before pairs) (stateBytes (fresh (pairsOf pairs))) before

@@ -2,13 +2,11 @@
 // whether a slice holds a state, and the library's version.
 ghost use mathlib.Core.Path.{_≡_};
 ghost use mathlib.Core.Bool.{true, _&&_};
-ghost use lib.ListN.{length};
 ghost use Rattle.rows.specs.Bytes.{byteOf};
 ghost use Rattle.names.specs.Names.{readName};
-ghost use Rattle.module_state.specs.Module.{credentialCount};
 ghost use Rattle.calls.specs.Calls.{Open, Close, Select, Start, Continue, Elevate, Drop};
 ghost use Rattle.entries_call.specs.CallEntry.{holdsNumber, CallEntry};
-ghost use Rattle.entries_arguments.specs.Arguments.{sessionOf, credentialOf, isFlag, flagOf, pairsOf};
+ghost use Rattle.entries_arguments.specs.Arguments.{sessionOf, credentialOf, isFlag, flagOf, handed, pairsFrom, arePairs};
 ghost use Rattle.entries_unprotected.specs.Fresh.{FreshEntry};
 ghost use Rattle.entries_unprotected.specs.Version.{libraryVersion};
 use module_state::ARGUMENT;
@@ -16,6 +14,7 @@ use module_state::CREDENTIALS;
 use module_state::DONE;
 use module_state::Grants;
 use module_state::UNPROVISIONED;
+use module_state::Words;
 use state_layout::STATE_LENGTH;
 
 // ---- the calls
@@ -162,16 +161,19 @@ pub extern "C" fn slavotuk_drop(state: &mut [u8], session: u32) -> u32
 
 // ---- a fresh module
 
-fn pairs_of(provisioned: &[u8], words: &[u32]) -> [Grants; CREDENTIALS]
-    requires { ⌜ (length (now provisioned) ≡ credentialCount) × (length (now words) ≡ credentialCount) ⌝ }
-    ensures { λ r. ⌜ r ≡ pairsOf (now (provisioned .entry)) (now (words .entry)) ⌝ }
+fn pairs_of(provisioned: &[u8], words: &[u32], seconds: &[u32]) -> [Grants; CREDENTIALS]
+    requires { ⌜ arePairs (handed (now provisioned) (now words) (now seconds)) ≡ true ⌝ }
+    ensures { λ r. ⌜ r ≡ pairsFrom (now (provisioned .entry)) (now (words .entry)) (now (seconds .entry)) ⌝ }
 {
     let mut pairs = [UNPROVISIONED; CREDENTIALS];
     let mut i: usize = 0;
     while i < CREDENTIALS {
         pairs[i] = Grants {
             provisioned: provisioned[i] == 1,
-            word: words[i],
+            words: Words {
+                grant: words[i],
+                second: seconds[i],
+            },
         };
         i += 1;
     }
@@ -179,16 +181,16 @@ fn pairs_of(provisioned: &[u8], words: &[u32]) -> [Grants; CREDENTIALS]
 }
 
 #[no_mangle]
-pub extern "C" fn slavotuk_fresh(state: &mut [u8], provisioned: &[u8], words: &[u32]) -> u32
-    ensures { λ r. ⌜ FreshEntry (now (state .entry)) (now (provisioned .entry)) (now (words .entry)) r (now (state .exit)) ⌝ }
+pub extern "C" fn slavotuk_fresh(state: &mut [u8], provisioned: &[u8], words: &[u32], seconds: &[u32]) -> u32
+    ensures { λ r. ⌜ FreshEntry (now (state .entry)) (handed (now (provisioned .entry)) (now (words .entry)) (now (seconds .entry))) r (now (state .exit)) ⌝ }
 {
     if state.len() != STATE_LENGTH {
         return ARGUMENT as u32;
     }
-    if !entries_arguments::are_pairs(provisioned, words) {
+    if !entries_arguments::are_pairs(provisioned, words, seconds) {
         return ARGUMENT as u32;
     }
-    let next = calls_effects::fresh(pairs_of(provisioned, words));
+    let next = calls_effects::fresh(pairs_of(provisioned, words, seconds));
     state_write::write(state, next);
     DONE as u32
 }
@@ -206,7 +208,7 @@ pub extern "C" fn slavotuk_holds(state: &[u8]) -> u32
 }
 
 // major * 65536 + minor * 256 + patch: include/slavotuk.h and host/Cargo.toml have the same version
-const LIBRARY_VERSION: u32 = 0x020001;
+const LIBRARY_VERSION: u32 = 0x030000;
 
 #[no_mangle]
 pub extern "C" fn slavotuk_version() -> u32

@@ -62,7 +62,7 @@ ahead-same st last (End t w keep) s u e = refl
 ahead-same st last (Record t claim class) s u e = refl
 ahead-same st last (ListProcesses t claim wanted room) s u e = refl
 ahead-same st last (Kill t claim name) s u e = refl
-ahead-same st last (SetWord t claim c word) s u e = refl
+ahead-same st last (SetWord t claim c words) s u e = refl
 
 claim-is : (st : State) (call : Call) (s : Session) (u : UserClaim) → protection call ≡ Under s (ByUser u) → protectedNumber st (protection call) ≡ admitted st s (ByUser u)
 unfolding protectedNumber

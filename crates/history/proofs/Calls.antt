@@ -93,7 +93,7 @@ module _ (n : Name) (st : State) (life : Life) (is : look n (processes st) ≡ G
   after-keeps (Record s claim class) z h = refl
   after-keeps (ListProcesses s claim wanted room) z h = refl
   after-keeps (Kill s claim name) z h = split (sameName name n) (λ q. absurd (h (rw q))) (λ q. rw q)
-  after-keeps (SetWord s claim c word) z h = refl
+  after-keeps (SetWord s claim c words) z h = refl
 
 -- ---- a call that starts no process of the name does the same on top of earlier numbers
 module _ (old : List ℕ) where
@@ -139,7 +139,7 @@ module _ (old : List ℕ) where
   after-onto n (Record s claim class) h life = refl
   after-onto n (ListProcesses s claim wanted room) h life = refl
   after-onto n (Kill s claim name) h life = split (sameName name n) (λ e. rw e) (λ e. rw e)
-  after-onto n (SetWord s claim c word) h life = refl
+  after-onto n (SetWord s claim c words) h life = refl
 
 -- one that starts one forgets what was before
 after-new : (n : Name) (call : Call) → isGone (after call n Gone) ≡ false → (a b : Life) → after call n a ≡ after call n b
@@ -155,7 +155,7 @@ after-new n (End s u keep) h a b = clash refl h
 after-new n (Record s claim class) h a b = clash refl h
 after-new n (ListProcesses s claim wanted room) h a b = clash refl h
 after-new n (Kill s claim name) h a b = split (sameName name n) (λ e. clash refl (rw e at h)) (λ e. clash refl (rw e at h))
-after-new n (SetWord s claim c word) h a b = clash refl h
+after-new n (SetWord s claim c words) h a b = clash refl h
 
 -- ---- a call
 module _ (st : State) (call : Call) where

@@ -118,7 +118,7 @@ module _ (st : State) where
   Facts (Record s claim class) = ClaimPassed s claim
   Facts (ListProcesses s claim wanted room) = ClaimPassed s claim
   Facts (Kill s claim name) = Killed s claim name
-  Facts (SetWord s claim c word) = Set s claim c
+  Facts (SetWord s claim c words) = Set s claim c
 
   pub facts : (call : Call) → number st call ≡ 0 → Facts call
   unfolding number killTests setWordTests hasNamed namedPlace hasActive
@@ -154,8 +154,8 @@ module _ (st : State) where
         passed = passed s claim (all .claim-passed);
         stands = found (isNamed name (reach (checked st s claim))) (processes st) freePlace (clear-unless No.noProcess tt _ (all .after));
       }
-  facts (SetWord s claim c word) e =
-      let all = accepted st (SetWord s claim c word) refl e in
+  facts (SetWord s claim c words) e =
+      let all = accepted st (SetWord s claim c words) refl e in
       record {
         passed = passed s claim (all .claim-passed);
         owner = clear-unless No.credential tt _ (clear-rest _ _ (all .after));

@@ -238,7 +238,7 @@ module _ (n : Name) (st : State) (v : Rules st) where
       sym
       (follows-killed n (counted st s claim) (kept-counted st v s claim (f .passed)) name among (namedPlace st name among)
       (stands-counted st s claim (f .passed) (isNamed name among) (named-more name among) (namedPlace st name among) (f .stands)))
-  follows (SetWord s claim c word) f = refl
+  follows (SetWord s claim c words) f = refl
 
 -- ---- the claim of a call, by what is told of it: its number, and whether the claim passed
 module _ (n : Name) (st : State) (v : Rules st) where

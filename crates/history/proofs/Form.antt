@@ -58,7 +58,7 @@ module _ (P : Process → Type 0) (st : State) where
   Begins (Record s claim class) = Unit {0}
   Begins (ListProcesses s claim wanted room) = Unit {0}
   Begins (Kill s claim name) = Unit {0}
-  Begins (SetWord s claim c word) = Unit {0}
+  Begins (SetWord s claim c words) = Unit {0}
 
   module _ (l : Lasts) (v : Each P (processes st)) where
     more-passed : (s : Session) (u : UserClaim) → UserPassed st s u → P (oneMore (activeProcess st (UserOf s (u .credential))))
@@ -119,7 +119,7 @@ module _ (P : Process → Type 0) (st : State) where
         let i : ℕ = namedPlace st name among in
         let stands = stands-counted st s claim (f .passed) (isNamed name among) (named-more name among) i (f .stands) in
         rw (standing-removed (counted st s claim .table) i) (each-remove i (stands .inside) (each-counted s claim (f .passed)))
-    each-effect (SetWord s claim c word) f b = each-counted s claim (f .passed)
+    each-effect (SetWord s claim c words) f b = each-counted s claim (f .passed)
 
 -- ---- around the processes: sessions and credentials as many as before, words of 32 bits where the call has one (F), a tidy table
 pub record Around (F : Type 0) (st next : State) : Type 0 where
@@ -183,7 +183,7 @@ around st (End s u keep) f = around-then (around-counted st s (ByUser u)) (aroun
 around st (Record s claim class) f = around-counted st s claim
 around st (ListProcesses s claim wanted room) f = around-counted st s claim
 around st (Kill s claim name) f = around-then (around-counted st s claim) (around-table (counted st s claim) _ (tidy-of _))
-around st (SetWord s claim c word) f =
+around st (SetWord s claim c words) f =
     around-then (around-counted st s claim) (around-grants (counted st s claim) c _ (λ w. record { word = w; zero = λ e. clash refl e }))
 
 -- ---- the form
@@ -210,7 +210,7 @@ module _ (st : State) (v : IsState st) where
   formed-begins (Record s claim class) f w = tt
   formed-begins (ListProcesses s claim wanted room) f w = tt
   formed-begins (Kill s claim name) f w = tt
-  formed-begins (SetWord s claim c word) f w = tt
+  formed-begins (SetWord s claim c words) f w = tt
 
   -- by what is around the processes, and each of them
   pub state-by : {F : Type 0} {next : State} → Rules next → Around F st next → F → Each FormedProcess (processes next) → IsState next

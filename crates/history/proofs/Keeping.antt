@@ -195,7 +195,7 @@ module _ (st : State) (v : Rules st) where
       let among : Among = reach (checked st s claim) in
       kept-removed (counted st s claim) (kept-counted st v s claim (f .passed)) (namedPlace st name among)
       (stands-counted st s claim (f .passed) (isNamed name among) (named-more name among) (namedPlace st name among) (f .stands) .inside)
-  rules-effect (SetWord s claim c word) f =
+  rules-effect (SetWord s claim c words) f =
       rules-grants (counted st s claim) (kept-counted st v s claim (f .passed)) c _ refl
 
 -- ---- a call, refused or not: by what it does where it is accepted, and by the claim counted where it is refused after it

@@ -55,7 +55,7 @@ module _ (st : State) where
   owners-effect (Record s claim class) f = owners-same _ (credentials-counted s claim)
   owners-effect (ListProcesses s claim wanted room) f = owners-same _ (credentials-counted s claim)
   owners-effect (Kill s claim name) f = owners-same _ (credentials-counted s claim)
-  owners-effect (SetWord s claim c word) f = owners-grants (counted st s claim) (credentials-counted s claim) c _ (f .owner) refl
+  owners-effect (SetWord s claim c words) f = owners-grants (counted st s claim) (credentials-counted s claim) c _ (f .owner) refl
 
   owners-step : (call : Call) → SameOwners st (step st call)
   owners-step call =

@@ -54,7 +54,7 @@ onRecord f a (End s u keep) = a
 onRecord f a (Record s claim class) = f s claim class
 onRecord f a (ListProcesses s claim wanted room) = a
 onRecord f a (Kill s claim name) = a
-onRecord f a (SetWord s claim c word) = a
+onRecord f a (SetWord s claim c words) = a
 
 abbrev Fails : Build → List Call → Type 0
 Fails build calls = Demand3 nobody (said build (fresh pairs) calls) (left build (fresh pairs) calls) → ⊥

@@ -28,7 +28,7 @@ Fits (End s u keep) = Unit {0}
 Fits (Record s claim class) = Unit {0}
 Fits (ListProcesses s claim wanted room) = Unit {0}
 Fits (Kill s claim name) = IsWhole name
-Fits (SetWord s claim c word) = IsWord word
+Fits (SetWord s claim c words) = IsWord word
 
 -- "A fresh module is made from eight such pairs"
 pub record Eight (pairs : List Grants) : Type 0 where

@@ -56,7 +56,7 @@ after (End s u keep) name life = ends s (u .credential) keep life
 after (Record s claim class) name life = life
 after (ListProcesses s claim wanted room) name life = life
 after (Kill s claim old) name life = cond (sameName old name) Gone life
-after (SetWord s claim c word) name life = life
+after (SetWord s claim c words) name life = life
 
 -- ---- the history
 

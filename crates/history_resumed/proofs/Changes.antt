@@ -206,7 +206,7 @@ module _ (st : State) where
   same-effect (Record s claim class) f h = same-counted st s claim f
   same-effect (ListProcesses s claim wanted room) f h = same-counted st s claim f
   same-effect (Kill s claim name) f h = same-killed s claim name f h
-  same-effect (SetWord s claim c word) f h = clash refl h
+  same-effect (SetWord s claim c words) f h = clash refl h
 
 -- ---- a call, refused or not
 pub image-kept : (st : State) (call : Call) → changesImage st call (number st call) ≡ false → stateImage (step st call) ≡ stateImage st
@@ -296,7 +296,7 @@ module _ (st : State) (v : Rules st) where
   rows-effect (Record s claim class) f h = clash h refl
   rows-effect (ListProcesses s claim wanted room) f h = clash h refl
   rows-effect (Kill s claim name) f h = rows-killed s claim name f h
-  rows-effect (SetWord s claim c word) f h = unfold effect savedOf in ap length (same-counted st s claim (f .passed) .saved)
+  rows-effect (SetWord s claim c words) f h = unfold effect savedOf in ap length (same-counted st s claim (f .passed) .saved)
 
   pub rows-changed : (call : Call) → changesImage st call (number st call) ≡ true → RowsChange call (length (savedOf st)) (length (savedOf (step st call)))
   rows-changed call h =

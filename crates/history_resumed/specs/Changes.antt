@@ -32,7 +32,7 @@ touchesImage st (End s u keep) = keep
 touchesImage st (Record s claim class) = false
 touchesImage st (ListProcesses s claim wanted room) = false
 touchesImage st (Kill s claim name) = hasSaved st name
-touchesImage st (SetWord s claim c word) = true
+touchesImage st (SetWord s claim c words) = true
 
 -- where they are done: `n` is the number that the call was answered. A refusal changes none: the number that it may spend is an active process's, which is in no image
 abbrev pub changesImage : State → Call → ℕ → Bool
@@ -51,7 +51,7 @@ RowsChange (End s u keep) n m = m ≡ n + 1
 RowsChange (Record s claim class) n m = ⊥
 RowsChange (ListProcesses s claim wanted room) n m = ⊥
 RowsChange (Kill s claim name) n m = n ≡ m + 1
-RowsChange (SetWord s claim c word) n m = m ≡ n
+RowsChange (SetWord s claim c words) n m = m ≡ n
 
 -- the image that was written last, `image` being that before the calls
 unfoldable pub newest : List ℕ → State → List Call → List ℕ

@@ -62,8 +62,14 @@ isCredential c = leb (c .0) lastCredential
 abbrev pub wordSize : ℕ
 wordSize = 4
 
+abbrev pub bothWords : ℕ → ℕ → Words
+bothWords grant second = record { grant = grant; second = second }
+
 abbrev pub noWords : Words
-noWords = record { grant = 0; second = 0 }
+noWords = bothWords 0 0
+
+abbrev pub granted : Words → Grants
+granted words = record { provisioned = true; words = words }
 
 abbrev pub unprovisioned : Grants
 unprovisioned = record { provisioned = false; words = noWords }

@@ -1,6 +1,7 @@
 -- "Numbers a call can answer"
 use Prim.Native.Nat.{ℕ}
-use mathlib.Core.Bool.{Bool, cond, _||_}
+use mathlib.Core.Path.{_≡_}
+use mathlib.Core.Bool.{Bool, true, cond, _||_}
 use lib.Dec.{eqb, leb}
 
 abbrev pub done : ℕ
@@ -58,6 +59,9 @@ onlyElevated = 18
 -- all of them, and no others
 abbrev pub isKnown : ℕ → Bool
 isKnown n = leb n room || eqb n onlyElevated
+
+pub record IsKnown (n : ℕ) : Type 0 where
+  pub is : isKnown n ≡ true
 
 -- "Each is given exactly on its condition, at its place in the order."
 infix 25 _when_

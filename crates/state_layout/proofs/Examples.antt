@@ -14,10 +14,10 @@ use Rattle.names.specs.declared.Kind.{Kind}
 use Rattle.names.specs.declared.Kind.the-variants.{User, Elevation, Saved}
 use Rattle.table.specs.Table.{standing, tableOf, isActive, isActiveIn}
 use Rattle.table.specs.declared.Process.{Process}
-use Rattle.module_state.specs.Module.{lastSession, closedSession, unprovisioned, provisioned, phaseOf, isChosen}
+use Rattle.module_state.specs.Module.{lastSession, closedSession, bothWords, granted, unprovisioned, provisioned, phaseOf, isChosen}
 use Rattle.module_state.specs.declared.Phase.the-variants.{Opened, Chosen}
 use Rattle.module_state.specs.declared.State.{State}
-use Rattle.state_layout.specs.Layout.{flagAt, wordAt, credentialSize, ownerAt, kindAt, sessionAt, nextAt, nameAt, placeSize, sessionsAt, credentialsAt, countAt, placesAt, stateLength, sessionBytes, sessionFrom, sessionFits, grantsBytes, grantsFrom, grantsFit, processBytes, processFrom, processFits, countIn, placesIn, stateBytes, nothingHeld, stateOf, isOwned, areRivals, areApart, sound, ownersFit, restIsFree, shaped, holdsState}
+use Rattle.state_layout.specs.Layout.{flagAt, wordAt, secondAt, credentialSize, ownerAt, kindAt, sessionAt, nextAt, nameAt, placeSize, sessionsAt, credentialsAt, countAt, placesAt, stateLength, sessionBytes, sessionFrom, sessionFits, grantsBytes, grantsFrom, grantsFit, processBytes, processFrom, processFits, countIn, placesIn, stateBytes, nothingHeld, stateOf, isOwned, areRivals, areApart, sound, ownersFit, restIsFree, shaped, holdsState}
 
 -- all that an example computes with: who says `unfolding computed` has it open
 unfoldable computed : Type 1
@@ -27,13 +27,13 @@ computed = Type 0
 abbrev process : ℕ → Kind → ℕ → ℕ → List ℕ → Process
 process c k s n name = record { credential = record { 0 = c }; kind = k; session = record { 0 = s }; next = n; name = record { bytes = name } }
 
--- sessions 0 and 1 are open, 0 with version 1.0; credentials 0 (word 15) and 1 (word 16) are provisioned. P is credential 0's active user process in
+-- sessions 0 and 1 are open, 0 with version 1.0; credentials 0 (word 15) and 1 (word 16, second word 0x1234) are provisioned. P is credential 0's active user process in
 -- session 0, its next number 3; Q is a saved one of credential 1, its next number 300; R is the elevation of credential 1 in session 0
 abbrev drawn : State
 drawn =
     record {
       sessions = record { phase = Chosen } ∷ record { phase = Opened } ∷ replicate 2 closedSession;
-      credentials = record { provisioned = true; word = 15 } ∷ record { provisioned = true; word = 16 } ∷ replicate 6 unprovisioned;
+      credentials = granted (bothWords 15 0) ∷ granted (bothWords 16 0x1234) ∷ replicate 6 unprovisioned;
       table = tableOf (process 0 User 0 3 P ∷ process 1 Saved 0 300 Q ∷ process 1 Elevation 0 0 R ∷ []);
     }
 
@@ -42,22 +42,22 @@ bytes =
     -- at 0: the sessions
     (2 ∷ 1 ∷ 0 ∷ 0 ∷ [])
     -- at 4: the credentials
-    ++ ((1 ∷ 15 ∷ 0 ∷ 0 ∷ 0 ∷ [])
-    ++ ((1 ∷ 16 ∷ 0 ∷ 0 ∷ 0 ∷ [])
-    ++ (replicate 30 0
-    -- at 44: the count
+    ++ ((1 ∷ 15 ∷ 0 ∷ 0 ∷ 0 ∷ 0 ∷ 0 ∷ 0 ∷ 0 ∷ [])
+    ++ ((1 ∷ 16 ∷ 0 ∷ 0 ∷ 0 ∷ 0x34 ∷ 0x12 ∷ 0 ∷ 0 ∷ [])
+    ++ (replicate 54 0
+    -- at 76: the count
     ++ (3
-    -- at 45, 98 and 151: the places that stand
+    -- at 77, 130 and 183: the places that stand
     ∷ ((0 ∷ 0 ∷ 0 ∷ 0x03 ∷ 0x00 ∷ P)
     ++ ((1 ∷ 2 ∷ 0 ∷ 0x2c ∷ 0x01 ∷ Q)
     ++ ((1 ∷ 1 ∷ 0 ∷ 0x00 ∷ 0x00 ∷ R)
-    -- from 204 to 680: the free places
+    -- from 236 to 712: the free places
     ++ replicate 477 0)))))))
 
 pub record Drawn : Type 0 where
   pub written : stateBytes drawn ≡ bytes
   pub read : stateOf bytes ≡ drawn
-  pub long : length bytes ≡ 681
+  pub long : length bytes ≡ 713
   pub held : holdsState bytes ≡ true
   pub nothing-held : holdsState (replicate stateLength 0) ≡ true
   pub nothing-written : stateBytes nothingHeld ≡ replicate stateLength 0
@@ -93,6 +93,7 @@ pub record Refused : Type 0 where
   pub session-4 : changed (place 0 + sessionAt) 4 ≡ false
   -- "a field kept zero isn't zero (an unprovisioned credential's word too)"
   pub word-unprovisioned : changed (credential 2 + wordAt + 3) 1 ≡ false
+  pub second-unprovisioned : changed (credential 2 + secondAt + 3) 1 ≡ false
   pub saved-session : changed (place 1 + sessionAt) 1 ≡ false
   pub elevation-next : changed (place 2 + nextAt + 1) 1 ≡ false
   pub free-place : changed (stateLength - 1) 1 ≡ false
@@ -115,7 +116,7 @@ pub record Held : Type 0 where
 
 pub refused : Refused
 unfolding computed
-refused = record { short = refl; long = refl; phase-3 = refl; flag-2 = refl; count-13 = refl; credential-8 = refl; type-3 = refl; session-4 = refl; word-unprovisioned = refl; saved-session = refl; elevation-next = refl; free-place = refl; count-too-low = refl; saved-uncounted = refl; owner = refl; session-without-version = refl; session-closed = refl; name-twice = refl; user-twice = refl; count-too-high = refl; elevation-twice = refl }
+refused = record { short = refl; long = refl; phase-3 = refl; flag-2 = refl; count-13 = refl; credential-8 = refl; type-3 = refl; session-4 = refl; word-unprovisioned = refl; second-unprovisioned = refl; saved-session = refl; elevation-next = refl; free-place = refl; count-too-low = refl; saved-uncounted = refl; owner = refl; session-without-version = refl; session-closed = refl; name-twice = refl; user-twice = refl; count-too-high = refl; elevation-twice = refl }
 
 pub held : Held
 unfolding computed

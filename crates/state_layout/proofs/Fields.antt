@@ -22,9 +22,9 @@ use Rattle.table.specs.declared.Process.{Process}
 use Rattle.module_state.specs.declared.Grants.{Grants}
 use Rattle.module_state.specs.declared.Phase.{Phase}
 use Rattle.module_state.specs.declared.Phase.the-variants.{Closed, Opened, Chosen}
-use Rattle.state_layout.specs.Layout.{flagAt, wordAt, credentialSize, ownerAt, kindAt, sessionAt, nextAt, nextSize, placeSize, sessionSize, lastPhase, phaseByte, phaseFrom, sessionBytes, sessionFrom, sessionFits, setFlag, flagNumber, grantsBytes, grantsFrom, grantsFit, processBytes, processFrom, kindFits, processFits}
-use Rattle.module_rules.specs.Facts.{WideGrants, WideProcess, FormedGrants, FormedProcess}
-use Rattle.module_state.specs.Module.{lastSession, lastCredential, wordSize}
+use Rattle.state_layout.specs.Layout.{flagAt, wordAt, secondAt, credentialSize, ownerAt, kindAt, sessionAt, nextAt, nextSize, placeSize, sessionSize, lastPhase, phaseByte, phaseFrom, sessionBytes, sessionFrom, sessionFits, setFlag, flagNumber, grantsBytes, grantsFrom, grantsFit, processBytes, processFrom, kindFits, processFits}
+use Rattle.module_rules.specs.Facts.{AreWords, WideGrants, WideProcess, FormedGrants, FormedProcess}
+use Rattle.module_state.specs.Module.{lastSession, lastCredential, wordSize, noWords}
 
 -- ---- a session
 pub phase-forth : (b : ℕ) → b ≤ lastPhase → phaseByte (phaseFrom b) ≡ b
@@ -76,9 +76,14 @@ unfolding grantsFit grantsBytes bytesOf every
 grants-fits g v true e = rw e
 grants-fits g v false e = rw (e, v .zero e)
 
-grants-word : (g : Grants) → g .word < 256 ^ wordSize → numberAt wordSize wordAt (grantsBytes g) ≡ g .word
-unfolding grantsBytes
-grants-word g h = rw append-nil at (number-in wordSize (g .word) (flagNumber (g .provisioned) ∷ []) [] h)
+module _ (g : Grants) (v : AreWords (g .words)) where
+  grants-word : numberAt wordSize wordAt (grantsBytes g) ≡ g .words .grant
+  unfolding grantsBytes
+  grants-word = number-in wordSize (g .words .grant) (flagNumber (g .provisioned) ∷ []) (bytesOf wordSize (g .words .second)) (v .grant)
+
+  grants-second : numberAt wordSize secondAt (grantsBytes g) ≡ g .words .second
+  unfolding grantsBytes bytesOf
+  grants-second = rw append-nil at (number-in wordSize (g .words .second) (flagNumber (g .provisioned) ∷ bytesOf wordSize (g .words .grant)) [] (v .second))
 
 -- a credential that is not provisioned is zeros behind its flag
 grants-clear : (part : List ℕ) → grantsFit part ≡ true → eqb (getD part flagAt 0) setFlag ≡ false → every isZero (drop wordAt part) ≡ true
@@ -89,29 +94,35 @@ pub grants-codec : Codec credentialSize grantsBytes grantsFrom grantsFit WideGra
 unfolding grantsBytes grantsFrom grantsFit
 grants-codec =
     record {
-      wide = λ g v. record { word = v .word };
-      long = λ g v. ap suc (length-bytes wordSize (g .word));
+      wide = λ g v. record { words = v .words };
+      long = λ g v. ap suc (rw (length-append, length-bytes wordSize (g .words .grant), length-bytes wordSize (g .words .second)));
       only = only;
-      back = λ g v. rw (flag-back (g .provisioned), grants-word g (v .word));
+      back = λ g v. rw (flag-back (g .provisioned), grants-word g (v .words), grants-second g (v .words));
       fits = λ g v. grants-fits g v (g .provisioned) refl;
       forth = forth;
       good = good;
     }
   where
+    -- what follows a flag that is not set says no words
+    none : (b : List ℕ) → grantsFit b ≡ true → grantsFrom b .provisioned ≡ false → grantsFrom b .words ≡ noWords
+    none b e k =
+        rw (number-clear wordSize wordAt wordAt b (grants-clear b e k) (omega arith), number-clear wordSize secondAt wordAt b (grants-clear b e k) (omega arith))
+
     only : (g : Grants) → WideGrants g → grantsFit (grantsBytes g) ≡ true → FormedGrants g
     only g v e =
         record {
-          word = v .word;
-          zero = λ k. sym (grants-word g (v .word)) ∙ number-clear wordSize wordAt wordAt (grantsBytes g) (grants-clear (grantsBytes g) e (flag-back (g .provisioned) ∙ k)) (omega arith);
+          words = v .words;
+          zero = λ k. rw (grants-word g (v .words), grants-second g (v .words)) at (none (grantsBytes g) e (flag-back (g .provisioned) ∙ k));
         }
 
     forth : (b : List ℕ) → length b ≡ credentialSize → Bytes b → grantsFit b ≡ true → grantsBytes (grantsFrom b) ≡ b
     forth b n h e =
         let f : flagNumber (eqb (getD b flagAt 0) setFlag) ≡ getD b flagAt 0 = flag-forth (getD b flagAt 0) (leb-true (getD b flagAt 0) setFlag (and-left (leb (getD b flagAt 0) setFlag) _ e)) in
-        rw (f, number-taken wordSize wordAt b h (omega arith), part-last wordSize wordAt b (omega arith)) (byte-front flagAt b (omega arith))
+        rw (f, number-taken wordSize wordAt b h (omega arith), number-taken wordSize secondAt b h (omega arith), part-last wordSize secondAt b (omega arith), part-front wordSize wordAt b)
+        (byte-front flagAt b (omega arith))
 
     good : (b : List ℕ) → length b ≡ credentialSize → Bytes b → grantsFit b ≡ true → FormedGrants (grantsFrom b)
-    good b n h e = record { word = number-low wordSize wordAt b h; zero = λ k. number-clear wordSize wordAt wordAt b (grants-clear b e k) (omega arith) }
+    good b n h e = record { words = record { grant = number-low wordSize wordAt b h; second = number-low wordSize secondAt b h }; zero = none b e }
 
 -- ---- a place
 kind-test : (k : Kind) (s n : ℕ) → (k ≡ Saved → s ≡ 0) → (k ≡ Elevation → n ≡ 0) → (k ≡ Saved → 1 ≤ n) → kindFits k s n ≡ true

@@ -1,4 +1,4 @@
--- "It lends the state as a slice too, in one fixed layout": sessions, credentials, a count and places, 681 bytes.
+-- "It lends the state as a slice too, in one fixed layout": sessions, credentials, a count and places, 713 bytes.
 -- docs/STATE.md draws it.
 use Prim.Native.Nat.{ℕ, zero, suc, _+_, _*_}
 use mathlib.Core.Bool.{Bool, true, false, cond, not, _&&_, _||_}
@@ -14,7 +14,7 @@ use Rattle.names.specs.declared.Kind.the-variants.{User, Elevation, Saved}
 use Rattle.table.specs.Table.{standing, tableOf, processAt, replaced, isUser, isElevation, isActive, isActiveIn, places}
 use Rattle.table.specs.declared.Active.the-variants.{UserOf, ElevationIn}
 use Rattle.table.specs.declared.Process.{Process}
-use Rattle.module_state.specs.Module.{phaseOf, isChosen, unprovisioned, provisioned, sessionCount, credentialCount, lastSession, lastCredential, closedModule, wordSize}
+use Rattle.module_state.specs.Module.{phaseOf, isChosen, bothWords, unprovisioned, provisioned, sessionCount, credentialCount, lastSession, lastCredential, closedModule, wordSize}
 use Rattle.module_state.specs.declared.Grants.{Grants}
 use Rattle.module_state.specs.declared.Phase.{Phase}
 use Rattle.module_state.specs.declared.Phase.the-variants.{Closed, Opened, Chosen}
@@ -28,8 +28,11 @@ flagAt = 0
 abbrev pub wordAt : ℕ
 wordAt = flagAt + 1
 
+abbrev pub secondAt : ℕ
+secondAt = wordAt + wordSize
+
 abbrev pub credentialSize : ℕ
-credentialSize = wordAt + wordSize
+credentialSize = secondAt + wordSize
 
 -- ---- of a place
 abbrev pub ownerAt : ℕ
@@ -110,7 +113,7 @@ sessionFrom part = record { phase = phaseFrom (getD part 0 0) }
 unfoldable pub sessionFits : List ℕ → Bool
 sessionFits part = leb (getD part 0 0) lastPhase
 
--- ---- a credential: "Each is provisioned or not, and has a grant word of 32 bits". A flag, and the word, little endian
+-- ---- a credential: "Each is provisioned or not, and has a grant word of 32 bits", and "a second 32-bit word". A flag, and the words, little endian
 abbrev pub setFlag : ℕ
 setFlag = 1
 
@@ -119,12 +122,16 @@ flagNumber true = setFlag
 flagNumber false = 0
 
 unfoldable pub grantsBytes : Grants → List ℕ
-grantsBytes g = flagNumber (g .provisioned) ∷ bytesOf wordSize (g .word)
+grantsBytes g = flagNumber (g .provisioned) ∷ (bytesOf wordSize (g .words .grant) ++ bytesOf wordSize (g .words .second))
 
 unfoldable pub grantsFrom : List ℕ → Grants
-grantsFrom part = record { provisioned = eqb (getD part flagAt 0) setFlag; word = numberAt wordSize wordAt part }
+grantsFrom part =
+    record {
+      provisioned = eqb (getD part flagAt 0) setFlag;
+      words = bothWords (numberAt wordSize wordAt part) (numberAt wordSize secondAt part);
+    }
 
--- "a field kept zero isn't zero (an unprovisioned credential's word too)"
+-- "a field kept zero isn't zero (an unprovisioned credential's word too)", and its second word
 unfoldable pub grantsFit : List ℕ → Bool
 grantsFit part = leb (getD part flagAt 0) setFlag && (eqb (getD part flagAt 0) setFlag || every isZero (drop wordAt part))
 

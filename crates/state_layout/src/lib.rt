@@ -18,7 +18,7 @@ pub const LAST_PHASE: u8 = CHOSEN_BYTE;
 
 pub const SESSION_SIZE: usize = 1;
 
-// ---- a credential: the flag that it is provisioned, which then has this value, and its grant word
+// ---- a credential: the flag that it is provisioned, which then has this value, its grant word and its second word
 
 pub const SET_FLAG: u8 = 1;
 
@@ -26,7 +26,9 @@ pub const FLAG_AT: usize = 0;
 
 pub const WORD_AT: usize = FLAG_AT + 1;
 
-pub const CREDENTIAL_SIZE: usize = WORD_AT + WORD_SIZE;
+pub const SECOND_AT: usize = WORD_AT + WORD_SIZE;
+
+pub const CREDENTIAL_SIZE: usize = SECOND_AT + WORD_SIZE;
 
 // ---- a place
 

@@ -3,7 +3,7 @@
 use Prim.Native.Nat.{ℕ, zero, suc, _+_, _-_, _*_, _/_, _<_, _≤_}
 use mathlib.Core.Path.{_≡_, refl, sym, ap, _∙_}
 use mathlib.Core.Bool.{Bool, true, false, _&&_, not}
-use mathlib.Core.List.{List, [], _∷_}
+use mathlib.Core.List.{List, [], _∷_, _++_}
 use native.Mathlib.Omega.{arith}
 use native.Mathlib.Nat.{add-zero}
 use borrow.Author.Needs.{needs}
@@ -16,10 +16,11 @@ use Rattle.rows.specs.Bytes.{isZero, numberOf, numberAt, Widened}
 use Rattle.lists.proofs.Lists.{length-mapped}
 use Rattle.lists.proofs.Tests.{split}
 use Rattle.rows.specs.Rows.{rows, every}
+use Rattle.rows.proofs.Bytes.{part-front}
 use Rattle.rows.proofs.Loops.{RowsTo, rows-begin, rows-on, rows-fail, rows-all, or-zero, and-assoc, and-true, and-false}
 use Rattle.table.specs.Table.{places}
 use Rattle.module_state.specs.Module.{sessionCount, credentialCount, wordSize}
-use Rattle.state_layout.specs.Layout.{lastPhase, setFlag, flagAt, wordAt, credentialSize, placeSize, sessionsAt, sessionSize, credentialsAt, countAt, placesAt, stateLength, sessionFits, grantsFit, countIn, restIsFree, ownersFit}
+use Rattle.state_layout.specs.Layout.{lastPhase, setFlag, flagAt, wordAt, secondAt, credentialSize, placeSize, sessionsAt, sessionSize, credentialsAt, countAt, placesAt, stateLength, sessionFits, grantsFit, countIn, restIsFree, ownersFit}
 use Rattle.state_layout.proofs.Parts.{grants-part}
 
 -- ---- tests in another order
@@ -151,6 +152,11 @@ unfolding numberOf every
 zero-number [] = refl
 zero-number (x ∷ l) = zero-digits x (numberOf l) ∙ ap (λ (b : Bool). isZero x && b) (zero-number l)
 
+every-both : (x y : List ℕ) → every isZero (x ++ y) ≡ (every isZero x && every isZero y)
+unfolding every
+every-both [] y = refl
+every-both (a ∷ x) y = rw (every-both x y) (sym (and-assoc (isZero a) (every isZero x) (every isZero y)))
+
 module _ (x : List ℕ) where
   pub grants-high : setFlag < getD x flagAt 0 → false ≡ grantsFit x
   unfolding grantsFit
@@ -160,12 +166,24 @@ module _ (x : List ℕ) where
   unfolding grantsFit
   grants-on e = rw e
 
-  pub grants-off : length x ≡ credentialSize → getD x flagAt 0 ≤ setFlag → (getD x flagAt 0 ≡ setFlag → ⊥) → {r : ℕ} → r ≡ numberAt wordSize wordAt x → eqb r 0 ≡ grantsFit x
-  unfolding grantsFit numberAt
-  grants-off l h n e =
-      let few : length (drop wordAt x) ≤ wordSize = simp length-drop (omega arith) in
-      let word : eqb (numberOf (drop wordAt x)) 0 ≡ every isZero (drop wordAt x) = zero-number (drop wordAt x) in
-      rw (e, le-leb (getD x flagAt 0) setFlag h, ne-eqb (getD x flagAt 0) setFlag n, take-all wordSize (drop wordAt x) few) word
+  module _ (h : getD x flagAt 0 ≤ setFlag) (n : getD x flagAt 0 ≡ setFlag → ⊥) {w : ℕ} (e : w ≡ numberAt wordSize wordAt x) where
+    -- the words of one that is not provisioned: the first, and what is behind it
+    words-tested : (eqb w 0 && every isZero (drop secondAt x)) ≡ grantsFit x
+    unfolding grantsFit numberAt
+    words-tested =
+        let word : eqb (numberOf (take wordSize (drop wordAt x))) 0 ≡ every isZero (take wordSize (drop wordAt x)) = zero-number (take wordSize (drop wordAt x)) in
+        rw (e, le-leb (getD x flagAt 0) setFlag h, ne-eqb (getD x flagAt 0) setFlag n, word)
+        (sym (every-both (take wordSize (drop wordAt x)) (drop secondAt x)) ∙ ap (every isZero) (part-front wordSize wordAt x))
+
+    pub grants-word : (w ≡ 0 → ⊥) → false ≡ grantsFit x
+    grants-word z = rw (ne-eqb w 0 z) at words-tested
+
+    pub grants-off : length x ≡ credentialSize → w ≡ 0 → {s : ℕ} → s ≡ numberAt wordSize secondAt x → eqb s 0 ≡ grantsFit x
+    unfolding numberAt
+    grants-off l z q =
+        let few : length (drop secondAt x) ≤ wordSize = simp length-drop (omega arith) in
+        let second : eqb (numberOf (drop secondAt x)) 0 ≡ every isZero (drop secondAt x) = zero-number (drop secondAt x) in
+        rw (q, take-all wordSize (drop secondAt x) few) (second ∙ rw (eq-eqb w 0 z) at words-tested)
 
 -- ---- the rows of a slice of a state's length
 module _ {s : List ℕ} {i : ℕ} (v : RowsTo sessionFits sessionCount sessionSize sessionsAt s i) (h : i < sessionCount) where
@@ -199,4 +217,4 @@ module _ (b : List ℕ) (h : length b ≡ stateLength) {p : Bool} (e : p ≡ eve
   unfolding ownersFit
   owners-credentials t f = f ∙ rw (eq-eqb (length b) stateLength h, ← e, not-false p t)
 
-pub ruleset rules = (needs, length-mapped, parted-begin, parted-on, parted-all, rest-short, rest-many, rest-free, grants-high, grants-on, grants-off, grants-part, session-on, session-fail, session-all, rows-begin, rows-on, rows-fail, rows-all, owners-short, owners-sessions, owners-credentials)
+pub ruleset rules = (needs, length-mapped, parted-begin, parted-on, parted-all, rest-short, rest-many, rest-free, grants-high, grants-on, grants-word, grants-off, grants-part, session-on, session-fail, session-all, rows-begin, rows-on, rows-fail, rows-all, owners-short, owners-sessions, owners-credentials)

@@ -17,6 +17,7 @@ use state_layout::FLAG_AT;
 use state_layout::LAST_PHASE;
 use state_layout::PLACE_SIZE;
 use state_layout::PLACES_AT;
+use state_layout::SECOND_AT;
 use state_layout::SET_FLAG;
 use state_layout::STATE_LENGTH;
 use state_layout::WORD_AT;
@@ -91,7 +92,10 @@ fn grants_fit(part: &[u8]) -> bool
     if flag == SET_FLAG {
         return true;
     }
-    rows::number32(part, WORD_AT) == 0
+    if rows::number32(part, WORD_AT) != 0 {
+        return false;
+    }
+    rows::number32(part, SECOND_AT) == 0
 }
 
 fn credentials_fit(s: &[u8]) -> bool

@@ -21,13 +21,13 @@ use Rattle.names.specs.declared.NameRead.{NameRead}
 use Rattle.table.specs.Table.{tableOf, places}
 use Rattle.table.specs.declared.Process.{Process}
 use Rattle.table.specs.declared.Table.{Table}
-use Rattle.module_state.specs.Module.{unprovisioned, closedModule, sessionCount, credentialCount, wordSize}
+use Rattle.module_state.specs.Module.{bothWords, unprovisioned, closedModule, sessionCount, credentialCount, wordSize}
 use Rattle.module_state.specs.declared.Grants.{Grants}
 use Rattle.module_state.specs.declared.Phase.{Phase}
 use Rattle.module_state.specs.declared.Phase.the-variants.{Closed}
 use Rattle.module_state.specs.declared.SessionState.{SessionState}
 use Rattle.module_state.specs.declared.State.{State}
-use Rattle.state_layout.specs.Layout.{openedByte, chosenByte, setFlag, flagAt, ownerAt, kindAt, sessionAt, nameAt, wordAt, credentialSize, nextAt, nextSize, placeSize, sessionsAt, sessionSize, credentialsAt, countAt, placesAt, stateLength, phaseFrom, sessionFrom, grantsFrom, processFrom, placesIn, countIn, nothingHeld, stateOf}
+use Rattle.state_layout.specs.Layout.{openedByte, chosenByte, setFlag, flagAt, ownerAt, kindAt, sessionAt, nameAt, wordAt, secondAt, credentialSize, nextAt, nextSize, placeSize, sessionsAt, sessionSize, credentialsAt, countAt, placesAt, stateLength, phaseFrom, sessionFrom, grantsFrom, processFrom, placesIn, countIn, nothingHeld, stateOf}
 use Rattle.state_layout.proofs.Laws.{state-in, state-not-in}
 
 -- ---- a phase
@@ -50,9 +50,9 @@ module _ {s : List ℕ} {out₀ out : List SessionState} {i : ℕ} (v : FilledBy
   session-done h = filled-done v h
 
 -- ---- grants
-pub grants-read : (x : List ℕ) {f w : ℕ} → f ≡ getD x flagAt 0 → w ≡ numberAt wordSize wordAt x → _≡_ {A = Grants} (record { provisioned = eqb f setFlag; word = w }) (grantsFrom x)
+pub grants-read : (x : List ℕ) {f w s : ℕ} → f ≡ getD x flagAt 0 → w ≡ numberAt wordSize wordAt x → s ≡ numberAt wordSize secondAt x → _≡_ {A = Grants} (record { provisioned = eqb f setFlag; words = bothWords w s }) (grantsFrom x)
 unfolding grantsFrom
-grants-read x e q = rw (e, q)
+grants-read x e q r = rw (e, q, r)
 
 -- ---- places
 pub process-read : (x : List ℕ) {c : ℕ} {k : Kind} {n : ℕ} {read : NameRead}

@@ -13,6 +13,7 @@ use module_state::SESSIONS;
 use module_state::SessionState;
 use module_state::State;
 use module_state::UNPROVISIONED;
+use module_state::Words;
 use names::Credential;
 use names::Kind;
 use names::Session;
@@ -28,6 +29,7 @@ use state_layout::OPENED_BYTE;
 use state_layout::OWNER_AT;
 use state_layout::PLACE_SIZE;
 use state_layout::PLACES_AT;
+use state_layout::SECOND_AT;
 use state_layout::SESSION_AT;
 use state_layout::SET_FLAG;
 use state_layout::STATE_LENGTH;
@@ -81,7 +83,10 @@ pub fn grants_from(part: &[u8]) -> Grants
 {
     Grants {
         provisioned: rows::byte_at(part, FLAG_AT) == SET_FLAG,
-        word: rows::number32(part, WORD_AT),
+        words: Words {
+            grant: rows::number32(part, WORD_AT),
+            second: rows::number32(part, SECOND_AT),
+        },
     }
 }
 

@@ -20,7 +20,7 @@ use Rattle.module_state.specs.Module.{closedSession, unprovisioned, sessionCoun
 use Rattle.module_state.specs.declared.Grants.{Grants}
 use Rattle.module_state.specs.declared.SessionState.{SessionState}
 use Rattle.module_state.specs.declared.State.{State}
-use Rattle.state_layout.specs.Layout.{setFlag, flagAt, wordAt, credentialSize, placeSize, sessionsAt, sessionSize, credentialsAt, countAt, countSize, stateLength, phaseByte, sessionBytes, flagNumber, grantsBytes, processBytes, stateBytes, stateWritten}
+use Rattle.state_layout.specs.Layout.{setFlag, flagAt, wordAt, secondAt, credentialSize, placeSize, sessionsAt, sessionSize, credentialsAt, countAt, countSize, stateLength, phaseByte, sessionBytes, flagNumber, grantsBytes, processBytes, stateBytes, stateWritten}
 use Rattle.state_layout.proofs.Laws.{state-written, state-not-written}
 use Rattle.table.specs.Table.{places}
 
@@ -32,16 +32,24 @@ pub flag-false : (f : Bool) → f ≡ false → 0 ≡ flagNumber f
 flag-false f e = rw e
 
 -- ---- a row: its fields, written one after another
-module _ (part : List ℕ) (g : Grants) (f : ℕ) (h : length part ≡ credentialSize) where
-  pub grants-same : {new : List ℕ} → new ≡ over wordAt wordSize (bytesOf wordSize (g .word)) (set part flagAt f) → length new ≡ length part
-  grants-same p = ap length p ∙ over-length wordAt wordSize (bytesOf wordSize (g .word)) (set part flagAt f) (length-bytes wordSize (g .word)) ∙ length-set part flagAt f
+word-put : (at word : ℕ) (old : List ℕ) {new : List ℕ} → new ≡ over at wordSize (bytesOf wordSize word) old → Put at wordSize (bytesOf wordSize word) old new
+word-put at word old p = record { long = length-bytes wordSize word; is = p }
 
-  pub grants-put : {new : List ℕ} → f ≡ flagNumber (g .provisioned) → new ≡ over wordAt wordSize (bytesOf wordSize (g .word)) (set part flagAt f) → new ≡ grantsBytes g
+word-same : (at word : ℕ) (old : List ℕ) {new : List ℕ} → new ≡ over at wordSize (bytesOf wordSize word) old → length new ≡ length old
+word-same at word old p = ap length p ∙ over-length at wordSize (bytesOf wordSize word) old (length-bytes wordSize word)
+
+module _ (part : List ℕ) (g : Grants) (f : ℕ) (h : length part ≡ credentialSize) where
+  pub grants-same : {first new : List ℕ} → first ≡ over wordAt wordSize (bytesOf wordSize (g .words .grant)) (set part flagAt f) → new ≡ over secondAt wordSize (bytesOf wordSize (g .words .second)) first → length new ≡ length part
+  grants-same {first} p q = word-same secondAt (g .words .second) first q ∙ word-same wordAt (g .words .grant) (set part flagAt f) p ∙ length-set part flagAt f
+
+  pub grants-put : {first new : List ℕ} → f ≡ flagNumber (g .provisioned)
+      → first ≡ over wordAt wordSize (bytesOf wordSize (g .words .grant)) (set part flagAt f) → new ≡ over secondAt wordSize (bytesOf wordSize (g .words .second)) first
+      → new ≡ grantsBytes g
   unfolding grantsBytes
-  grants-put {new} e p =
+  grants-put {first} e p q =
       let flag-put : Put flagAt 1 (f ∷ []) part (set part flagAt f) = put-byte flagAt f part (omega arith) in
-      let word-put : Put wordAt wordSize (bytesOf wordSize (g .word)) (set part flagAt f) new = record { long = length-bytes wordSize (g .word); is = p } in
-      put-whole (put-next flag-put word-put (omega arith)) h ∙ rw e
+      let words-put = put-next (word-put wordAt (g .words .grant) (set part flagAt f) p) (word-put secondAt (g .words .second) first q) (omega (arith, length-set part flagAt f)) in
+      put-whole (put-next flag-put words-put (omega arith)) h ∙ rw e
 
 -- ---- the rows of an array
 pub sessions-begin : (l : List SessionState) (old : List ℕ) → length l ≡ sessionCount → length old ≡ stateLength → Wrote sessionBytes sessionSize sessionsAt l old old 0

@@ -19,6 +19,7 @@ use state_layout::CREDENTIAL_SIZE;
 use state_layout::CREDENTIALS_AT;
 use state_layout::FLAG_AT;
 use state_layout::OPENED_BYTE;
+use state_layout::SECOND_AT;
 use state_layout::SET_FLAG;
 use state_layout::STATE_LENGTH;
 use state_layout::WORD_AT;
@@ -61,7 +62,8 @@ fn put_grants(part: &mut [u8], g: Grants)
     ensures { λ r. ⌜ now (part .exit) ≡ grantsBytes g ⌝ }
 {
     part[FLAG_AT] = flag_number(g.provisioned);
-    rows::put_number32(part, WORD_AT, g.word);
+    rows::put_number32(part, WORD_AT, g.words.grant);
+    rows::put_number32(part, SECOND_AT, g.words.second);
 }
 
 fn put_credentials(s: &mut [u8], l: [Grants; CREDENTIALS])

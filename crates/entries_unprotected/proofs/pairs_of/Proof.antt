@@ -1,6 +1,6 @@
 -- written by tools/scaffold, which keeps the answers that are not a plain search
 use Rattle.lists.proofs.Loops.{Copied}
-use Rattle.entries_arguments.specs.Arguments.{pairsOf}
+use Rattle.entries_arguments.specs.Arguments.{pairsFrom}
 use Prim.Native.Nat.{_-_}
 use Rattle.module_state.specs.Module.{credentialCount}
 use Rattle.entries_unprotected.proofs.Rules.{rules}
@@ -8,10 +8,10 @@ use Rattle.entries_unprotected.proofs.pairs_of.Statement.{statement}
 use Rattle.entries_unprotected.proofs.pairs_of.Tie as tie
 
 abbrev Inv-loop : tie.InvT-loop
-Inv-loop provisioned words pairs₀ i₀ pairs i = Copied (pairsOf provisioned words) pairs₀ pairs i
+Inv-loop provisioned words seconds pairs₀ i₀ pairs i = Copied (pairsFrom provisioned words seconds) pairs₀ pairs i
 
 abbrev μ-loop : tie.MeasureT-loop
-μ-loop provisioned words pairs₀ i₀ pairs i = credentialCount - i
+μ-loop provisioned words seconds pairs₀ i₀ pairs i = credentialCount - i
 
 loop-holds : tie.Need-loop-holds Inv-loop μ-loop
 loop-holds c = search rules

@@ -18,6 +18,12 @@ number32-requires c κs = search rules
 returns-3 : tie.Need-returns-3
 returns-3 c = search rules
 
+number32-requires-2 : tie.Need-number32-requires-2
+number32-requires-2 c κs = search rules
+
+returns-4 : tie.Need-returns-4
+returns-4 c = search rules
+
 pub grants-fit-spec : {M : Type 1} → statement M
 grants-fit-spec =
     tie.close
@@ -26,4 +32,6 @@ grants-fit-spec =
     returns
     returns-2
     number32-requires
-    returns-3)
+    returns-3
+    number32-requires-2
+    returns-4)

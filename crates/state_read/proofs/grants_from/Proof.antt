@@ -9,8 +9,12 @@ byte-at-requires c κs = search rules
 number32-requires : tie.Need-number32-requires
 number32-requires c κs = search rules
 
+number32-requires-2 : tie.Need-number32-requires-2
+number32-requires-2 c κs = search rules
+
 returns : tie.Need-returns
 returns c = search rules
 
 pub grants-from-spec : {M : Type 1} → statement M
-grants-from-spec = tie.close (tie.spec byte-at-requires number32-requires returns)
+grants-from-spec =
+    tie.close (tie.spec byte-at-requires number32-requires number32-requires-2 returns)

@@ -12,6 +12,9 @@ slice-write-part c = search rules
 put-number32-requires : tie.Need-put-number32-requires
 put-number32-requires c κs = search rules
 
+put-number32-requires-2 : tie.Need-put-number32-requires-2
+put-number32-requires-2 c κs = search rules
+
 same-length : tie.Need-same-length
 same-length c = search rules
 
@@ -21,4 +24,10 @@ returns c = search rules
 pub put-grants-spec : {M : Type 1} → statement M
 put-grants-spec =
     tie.close
-    (tie.spec flag-number-requires slice-write-part put-number32-requires same-length returns)
+    (tie.spec
+    flag-number-requires
+    slice-write-part
+    put-number32-requires
+    put-number32-requires-2
+    same-length
+    returns)
