@@ -36,16 +36,23 @@
  *             OUT_OF_TURN where the number is not the next
  *             VERDICT where the verdict is 0
  *
- * A user claim that passes these tests adds one to that process's next number, whatever the call is answered afterwards; no
- * other byte of the state changes with a refusal. A claim that fails one adds nothing, nor does an elevated claim. The refusals
- * after a claim are NOT_GRANTED, ROOM in slavotuk_list, NO_PROCESS in slavotuk_kill and CREDENTIAL in slavotuk_set_word; each
- * comment has them behind "the claim's tests". So no number passes twice while its process stands, and whoever tries again
- * after such a refusal, say with a longer buffer, signs the next number: the old one is OUT_OF_TURN.
+ * A credential has two words, the grant word and the second word. A class is granted where its bit is set in the grant word;
+ * where its bit in the second word is set too, it is granted only under elevation, that is to an elevated claim. A bit of the
+ * second word alone says nothing. NOT_GRANTED, wherever it is listed, is for a claim whose credential lacks the class in its
+ * grant word. ONLY_ELEVATED, directly behind it, is for a user claim whose credential has the class only under elevation, also
+ * while an elevation stands in the session.
  *
- * In short: after DONE, NOT_GRANTED, ROOM, NO_PROCESS and CREDENTIAL the next user claim has the next number, after any other
- * answer of this header the same. Where NO_PROCESS or CREDENTIAL came of the claim's own tests, there is no process to go on
- * with. A process that is spent, by an accepted call or by a refused one, can't end itself: a kill under another claim or the
- * closing of its session removes it.
+ * A user claim that passes its tests adds one to that process's next number, whatever the call is answered afterwards; no other
+ * byte of the state changes with a refusal. A claim that fails one adds nothing, nor does an elevated claim. The refusals after
+ * a claim are NOT_GRANTED, ONLY_ELEVATED, ROOM in slavotuk_list, NO_PROCESS in slavotuk_kill and CREDENTIAL in
+ * slavotuk_set_word; each comment has them behind "the claim's tests". So no number passes twice while its process stands, and
+ * whoever tries again after such a refusal, say with a longer buffer or under elevation, signs anew: the old number is
+ * OUT_OF_TURN.
+ *
+ * In short: after DONE, NOT_GRANTED, ONLY_ELEVATED, ROOM, NO_PROCESS and CREDENTIAL the next user claim has the next number,
+ * after any other answer of this header the same. Where NO_PROCESS or CREDENTIAL came of the claim's own tests, there is no
+ * process to go on with. A process that is spent, by an accepted call or by a refused one, can't end itself: a kill under
+ * another claim or the closing of its session removes it.
  */
 #ifndef SLAVOTUK_H
 #define SLAVOTUK_H
@@ -67,11 +74,14 @@ extern "C" {
 /*
  * The library's version. Where a call, what it leaves or the state's bytes change, the major number does, and with it the
  * soname. With version 2 a refusal after the claim's tests spends the number: see to a host of version 1 that sends the same
- * number again after NOT_GRANTED or ROOM. Since 2.0.1 the reads do not tell where names differ.
+ * number again after NOT_GRANTED or ROOM. Since 2.0.1 the reads do not tell where names differ. With version 3 each credential
+ * has a second word, the state has 713 bytes, not 681, and slavotuk_fresh and slavotuk_set_word take second words: a host comes
+ * from version 2 by writing an image with the old library and restoring it with the new; active processes end; an old library
+ * refuses a new image (14).
  */
-#define SLAVOTUK_VERSION_MAJOR 2
+#define SLAVOTUK_VERSION_MAJOR 3
 #define SLAVOTUK_VERSION_MINOR 0
-#define SLAVOTUK_VERSION_PATCH 1
+#define SLAVOTUK_VERSION_PATCH 0
 
 /* The same as one number, in which a later version is larger. */
 #define SLAVOTUK_VERSION_NUMBER (SLAVOTUK_VERSION_MAJOR * 65536 + SLAVOTUK_VERSION_MINOR * 256 + SLAVOTUK_VERSION_PATCH)
@@ -93,10 +103,11 @@ enum slavotuk_number {
     SLAVOTUK_REFUSED_NAME_TAKEN = 12,    /* equals a name in the table */
     SLAVOTUK_REFUSED_SPENT = 13,         /* the next number is 65535 */
     SLAVOTUK_REFUSED_MESSAGE = 14,       /* the bytes don't fit the message's layout, or are no image */
-    SLAVOTUK_REFUSED_ROOM = 15           /* the buffer is too short */
+    SLAVOTUK_REFUSED_ROOM = 15,          /* the buffer is too short */
+    SLAVOTUK_REFUSED_ONLY_ELEVATED = 18  /* a user claim, and the class is granted only under elevation */
 };
 
-/* A number's name in document 01; "unknown" for a number that this header does not have. */
+/* A number's name, document 01's where it has one; "unknown" for a number that this header does not have. */
 static inline const char *slavotuk_number_name(uint32_t number)
 {
     switch (number) {
@@ -116,6 +127,7 @@ static inline const char *slavotuk_number_name(uint32_t number)
     case SLAVOTUK_REFUSED_SPENT: return "spent";
     case SLAVOTUK_REFUSED_MESSAGE: return "message";
     case SLAVOTUK_REFUSED_ROOM: return "room";
+    case SLAVOTUK_REFUSED_ONLY_ELEVATED: return "only elevated";
     default: return "unknown";
     }
 }
@@ -126,7 +138,7 @@ static inline const char *slavotuk_number_name(uint32_t number)
 #define SLAVOTUK_PROCESSES 12
 
 /* Bytes of the state, of a name, and of the messages: GET_AUTH_PROCESSES, and AUTH_PROCESSES with its header and rows. */
-#define SLAVOTUK_STATE_SIZE 681
+#define SLAVOTUK_STATE_SIZE 713
 #define SLAVOTUK_NAME_SIZE 48
 #define SLAVOTUK_REQUEST_SIZE 4
 #define SLAVOTUK_HEADER_SIZE 4
@@ -135,8 +147,9 @@ static inline const char *slavotuk_number_name(uint32_t number)
 /* Bytes of the longest listing: a response of this size always has the room. */
 #define SLAVOTUK_LISTING_SIZE (SLAVOTUK_HEADER_SIZE + SLAVOTUK_ROW_SIZE * SLAVOTUK_PROCESSES)
 
-/* Bytes of an image: before its rows, and of a row. */
-#define SLAVOTUK_IMAGE_HEADER_SIZE 42
+/* Bytes of an image: before its rows, the same in an image of before version 3, which has no second words, and of a row. */
+#define SLAVOTUK_IMAGE_HEADER_SIZE 74
+#define SLAVOTUK_IMAGE_OLD_HEADER_SIZE 42
 #define SLAVOTUK_IMAGE_ROW_SIZE 52
 
 /* Bytes of the longest image: a buffer of this size always has the room. */
@@ -154,7 +167,10 @@ static inline const char *slavotuk_number_name(uint32_t number)
 #define SLAVOTUK_TYPE_ACTIVE_ELEVATION 1
 #define SLAVOTUK_TYPE_SAVED_USER 2
 
-/* Classes; bit k of a grant word grants class k. The first four are the module's, the others are device operations. */
+/*
+ * Classes; bit k of a grant word grants class k, and bit k of both words only under an elevated claim. The first four are the
+ * module's, the others are device operations.
+ */
 #define SLAVOTUK_CLASS_LIST_OTHERS 0
 #define SLAVOTUK_CLASS_KILL_OTHERS 1
 #define SLAVOTUK_CLASS_SAVE_OWN 2
@@ -221,12 +237,14 @@ uint32_t slavotuk_version(void);
  * Makes a fresh module: every session closed, no process. The state's old bytes don't matter.
  *
  *   provisioned  SLAVOTUK_CREDENTIALS flags, one for each credential
- *   words        as many grant words; that of a credential that is not provisioned is taken as zero
+ *   words        as many grant words
+ *   seconds      as many second words; both words of a credential that is not provisioned are taken as zero
  *
  * Refused: ARGUMENT, for a slice of another length or a flag other than 0 or 1 and for nothing else.
  */
 uint32_t slavotuk_fresh(uint8_t *SLAVOTUK_RESTRICT state, size_t state_length, const uint8_t *provisioned,
-                        size_t provisioned_length, const uint32_t *words, size_t words_length);
+                        size_t provisioned_length, const uint32_t *words, size_t words_length, const uint32_t *seconds,
+                        size_t seconds_length);
 
 /*
  * Asks whether a slice holds a state. It is only read, so read-only memory serves.
@@ -306,8 +324,8 @@ uint32_t slavotuk_drop(uint8_t *state, size_t state_length, uint32_t session);
  *
  *   keep  1 saves the process, 0 removes it
  *
- * Refused: ARGUMENT; SESSION; NO_VERSION; the claim's tests; NOT_GRANTED where keep is 1 and SLAVOTUK_CLASS_SAVE_OWN is not
- * granted.
+ * Refused: ARGUMENT; SESSION; NO_VERSION; the claim's tests; where keep is 1, NOT_GRANTED and ONLY_ELEVATED by
+ * SLAVOTUK_CLASS_SAVE_OWN: a credential that has it only under elevation can't save.
  */
 uint32_t slavotuk_end(uint8_t *state, size_t state_length, uint32_t session, uint32_t credential, uint16_t number,
                       uint32_t verdict, uint32_t keep);
@@ -319,8 +337,8 @@ uint32_t slavotuk_end(uint8_t *state, size_t state_length, uint32_t session, uin
  *
  *   device_class  the operation's class, SLAVOTUK_CLASS_DEVICE_FIRST to SLAVOTUK_CLASS_DEVICE_LAST
  *
- * Refused: ARGUMENT, for a class out of that range too; SESSION; NO_VERSION; the claim's tests; NOT_GRANTED where the claim's
- * credential lacks the class.
+ * Refused: ARGUMENT, for a class out of that range too; SESSION; NO_VERSION; the claim's tests; NOT_GRANTED and ONLY_ELEVATED
+ * by the class.
  */
 uint32_t slavotuk_record(uint8_t *state, size_t state_length, uint32_t session, uint32_t kind, uint32_t credential,
                          uint16_t number, uint32_t verdict, uint32_t device_class);
@@ -333,9 +351,9 @@ uint32_t slavotuk_record(uint8_t *state, size_t state_length, uint32_t session, 
  *   response  the buffer; SLAVOTUK_LISTING_SIZE bytes are always enough
  *   length    handed out: the message's length, 0 on a refusal
  *
- * Refused: ARGUMENT, for every other value of wanted too; SESSION; NO_VERSION; the claim's tests; NOT_GRANTED where wanted is
- * not the claim's credential, which lacks SLAVOTUK_CLASS_LIST_OTHERS; ROOM. To list again into a longer response takes the
- * next number.
+ * Refused: ARGUMENT, for every other value of wanted too; SESSION; NO_VERSION; the claim's tests; where wanted is not the
+ * claim's credential, NOT_GRANTED and ONLY_ELEVATED by SLAVOTUK_CLASS_LIST_OTHERS; ROOM. To list again into a longer response
+ * takes the next number.
  */
 uint32_t slavotuk_list(uint8_t *SLAVOTUK_RESTRICT state, size_t state_length, uint32_t session, uint32_t kind,
                        uint32_t credential, uint16_t number, uint32_t verdict, uint32_t wanted,
@@ -343,42 +361,47 @@ uint32_t slavotuk_list(uint8_t *SLAVOTUK_RESTRICT state, size_t state_length, ui
 
 /*
  * Removes the process of that name, of whichever type. A claim may kill its own credential's processes, and all where
- * SLAVOTUK_CLASS_KILL_OTHERS is granted.
+ * SLAVOTUK_CLASS_KILL_OTHERS is granted; a user claim that has it only under elevation may kill its own alone.
  *
- * Refused: ARGUMENT; SESSION; NO_VERSION; the claim's tests; NO_PROCESS where no process that the claim may kill has the name.
+ * Refused: ARGUMENT; SESSION; NO_VERSION; the claim's tests; NO_PROCESS where no process that the claim may kill has the name,
+ * whatever its credential lacks.
  */
 uint32_t slavotuk_kill(uint8_t *SLAVOTUK_RESTRICT state, size_t state_length, uint32_t session, uint32_t kind,
                        uint32_t credential, uint16_t number, uint32_t verdict, const uint8_t *name, size_t name_length);
 
 /*
- * Sets a credential's grant word.
+ * Sets both words of a credential. Whoever wants to keep one hands in what it was.
  *
- *   target  the credential whose word is set
- *   word    the new word; every value is taken
+ *   target  the credential whose words are set
+ *   word    the new grant word; every value is taken
+ *   second  the new second word; every value is taken
  *
- * Refused: ARGUMENT; SESSION; NO_VERSION; the claim's tests; NOT_GRANTED where the claim's credential lacks
- * SLAVOTUK_CLASS_SET_WORDS; CREDENTIAL where the target is not provisioned.
+ * Refused: ARGUMENT; SESSION; NO_VERSION; the claim's tests; NOT_GRANTED and ONLY_ELEVATED by SLAVOTUK_CLASS_SET_WORDS;
+ * CREDENTIAL where the target is not provisioned.
  */
 uint32_t slavotuk_set_word(uint8_t *state, size_t state_length, uint32_t session, uint32_t kind, uint32_t credential,
-                           uint16_t number, uint32_t verdict, uint32_t target, uint32_t word);
+                           uint16_t number, uint32_t verdict, uint32_t target, uint32_t word, uint32_t second);
 
 /*
  * ---- through a power cycle
  *
- * An image is what a module keeps while it is without power: its credentials, their words, and its saved processes with their
- * next numbers; docs/IMAGE.md draws it. Sessions and active processes are not in it and are lost, also a process that was saved
- * and continued.
+ * An image is what a module keeps while it is without power: its credentials, both words of each, and its saved processes with
+ * their next numbers; docs/IMAGE.md draws it. Sessions and active processes are not in it and are lost, also a process that was
+ * saved and continued.
  *
  * It changes where slavotuk_end keeps a process, slavotuk_continue takes one up, slavotuk_kill removes a saved one,
- * slavotuk_set_word sets a word, and where slavotuk_fresh or slavotuk_restore makes a module: write it again after each of these
+ * slavotuk_set_word sets words, and where slavotuk_fresh or slavotuk_restore makes a module: write it again after each of these
  * that is done, before the answer goes out and before the next call; after a restore from the newest it is the same. No other
  * call changes it, and none that is refused. The memory that keeps it has to hand back the newest. From an older one, numbers
  * that were spent since are good again, processes that were killed since stand again, and words are the old ones.
+ *
+ * An image of before version 3 has the old layout: no second words, and the rows where they would stand. It is restored with
+ * all second words zero. What is written has the new layout, so after such a restore write the image at once.
  */
 
 /*
- * Writes the image of a module to the front of a buffer. Later bytes of the buffer are not touched. The state is only read, so
- * read-only memory serves.
+ * Writes the image of a module to the front of a buffer, in the new layout. Later bytes of the buffer are not touched. The
+ * state is only read, so read-only memory serves.
  *
  *   image   the buffer; SLAVOTUK_IMAGE_SIZE bytes are always enough
  *   length  handed out: the image's length, 0 on a refusal
@@ -392,7 +415,7 @@ uint32_t slavotuk_image(const uint8_t *state, size_t state_length, uint8_t *SLAV
  * Makes a module from an image: its credentials and words, every session closed, and its processes, saved, in their order and
  * with their next numbers. The state's old bytes don't matter.
  *
- *   image  the whole image and no byte more
+ *   image  the whole image and no byte more, in the new layout or the old
  *
  * Refused: ARGUMENT, for a slice of another length and for nothing else; MESSAGE for bytes that are no image.
  */

@@ -1,8 +1,15 @@
 /*
- * A program of the time before the library had a version: it declares the seventeen entries as they stood then, with its own
- * names for the numbers, and includes no header of ours. It goes through document 01's steps 1 to 11 and a step for each other
- * entry. Linked to today's library it gets the answers that it got then, but where it sends a number again that a refused call
- * has had: those numbers are spent, so it gets 9 and goes on with the next. Exit code: 0 where it does, else 1.
+ * A program of version 2, brought to version 3. It includes no header of ours and declares the entries that it calls as they
+ * stood then, with its own names for the numbers; slavotuk_fresh and slavotuk_set_word alone take second words as well. Three
+ * things are asked:
+ *
+ * - the state that it kept, of 681 bytes, is none any more: every entry answers 1 and leaves it;
+ * - the image that it wrote with its own library is restored, and its process goes on at its number;
+ * - with second words zero it gets the answers that it got then, in document 01's steps 1 to 11 and a step for each other
+ *   entry. Where it sends a number again that a refused call has had, as a program of version 1 does, that number is spent: it
+ *   gets 9 and goes on with the next.
+ *
+ * Exit code: 0 where all is so, else 1.
  */
 #include <stddef.h>
 #include <stdint.h>
@@ -10,7 +17,7 @@
 #include <string.h>
 
 uint32_t slavotuk_fresh(uint8_t *state, size_t state_length, const uint8_t *provisioned, size_t provisioned_length,
-                        const uint32_t *words, size_t words_length);
+                        const uint32_t *words, size_t words_length, const uint32_t *seconds, size_t seconds_length);
 uint32_t slavotuk_open(uint8_t *state, size_t state_length, uint32_t session);
 uint32_t slavotuk_close(uint8_t *state, size_t state_length, uint32_t session);
 uint32_t slavotuk_select(uint8_t *state, size_t state_length, uint32_t session, uint32_t version);
@@ -31,19 +38,25 @@ uint32_t slavotuk_list(uint8_t *state, size_t state_length, uint32_t session, ui
 uint32_t slavotuk_kill(uint8_t *state, size_t state_length, uint32_t session, uint32_t kind, uint32_t credential,
                        uint16_t number, uint32_t verdict, const uint8_t *name, size_t name_length);
 uint32_t slavotuk_set_word(uint8_t *state, size_t state_length, uint32_t session, uint32_t kind, uint32_t credential,
-                           uint16_t number, uint32_t verdict, uint32_t target, uint32_t word);
+                           uint16_t number, uint32_t verdict, uint32_t target, uint32_t word, uint32_t second);
 uint32_t slavotuk_read_request(const uint8_t *message, size_t message_length, uint16_t *credential);
 uint32_t slavotuk_write_request(uint8_t *buffer, size_t buffer_length, uint16_t credential);
 uint32_t slavotuk_read_count(const uint8_t *message, size_t message_length, uint16_t *count);
 uint32_t slavotuk_read_row(const uint8_t *message, size_t message_length, size_t at, uint16_t *credential, uint8_t *kind,
                            uint8_t *name, size_t name_length);
+uint32_t slavotuk_holds(const uint8_t *state, size_t state_length);
+uint32_t slavotuk_image(const uint8_t *state, size_t state_length, uint8_t *image, size_t image_length, size_t *length);
+uint32_t slavotuk_restore(uint8_t *state, size_t state_length, const uint8_t *image, size_t image_length);
 
 #define EXPECT(value, expected) expect(__LINE__, #value, (unsigned long)(value), (unsigned long)(expected))
 #define MODULE state, sizeof state
 #define USER(credential, number) 0, credential, number, 1
 
+/* Where the next number of the first process lies, and how long a header an image has: its own and today's. */
+enum { NEXT = 80, OLD_HEADER = 42, HEADER = 74, ROW = 52 };
+
 static int differences = 0;
-static uint8_t state[681];
+static uint8_t state[713];
 static uint8_t p[48], q[48], r[48];
 
 static void expect(int line, const char *text, unsigned long value, unsigned long expected)
@@ -62,11 +75,56 @@ static void make_names(void)
     r[47] = 0x12;
 }
 
+/* Credential 0 (word 15) has P active in session 0. Only entries are called whose parameters are as they were. */
+static void its_state_is_none(void)
+{
+    uint8_t old[681] = {2, 0, 0, 0, 1, 15}, kept[681], response[55], image[698];
+    size_t length = 7;
+    old[44] = 1;
+    memcpy(old + 50, p, sizeof p);
+    memcpy(kept, old, sizeof old);
+#define OLD old, sizeof old
+    EXPECT(slavotuk_holds(OLD), 1);
+    EXPECT(slavotuk_open(OLD, 1), 1);
+    EXPECT(slavotuk_close(OLD, 0), 1);
+    EXPECT(slavotuk_select(OLD, 0, 0x10), 1);
+    EXPECT(slavotuk_start(OLD, 0, 0, q, 48), 1);
+    EXPECT(slavotuk_continue(OLD, 0, 0, p, 48), 1);
+    EXPECT(slavotuk_elevate(OLD, 0, 0, q, 48, 1), 1);
+    EXPECT(slavotuk_drop(OLD, 0), 1);
+    EXPECT(slavotuk_end(OLD, 0, 0, 0, 1, 1), 1);
+    EXPECT(slavotuk_record(OLD, 0, USER(0, 0), 4), 1);
+    EXPECT(slavotuk_list(OLD, 0, USER(0, 0), 0, response, 55, &length), 1);
+    EXPECT(slavotuk_kill(OLD, 0, USER(0, 0), p, 48), 1);
+    EXPECT(slavotuk_image(OLD, image, sizeof image, &length), 1);
+#undef OLD
+    EXPECT(memcmp(old, kept, sizeof old), 0);
+}
+
+/* Words 15 and 16, and P of credential 0 saved at number 4. Written again, the image has today's layout. */
+static void its_image_is_restored(void)
+{
+    uint8_t old[OLD_HEADER + ROW] = {3, 0, 8, 0, 10, 0, 1, 0, OLD_HEADER, 0, 15, 0, 0, 0, 16}, image[698];
+    size_t length = 7;
+    old[OLD_HEADER + 2] = 4;
+    memcpy(old + OLD_HEADER + 4, p, sizeof p);
+    EXPECT(slavotuk_restore(MODULE, old, sizeof old), 0);
+    EXPECT(slavotuk_image(MODULE, image, sizeof image, &length), 0);
+    EXPECT(length, HEADER + ROW);
+    EXPECT(memcmp(image + HEADER, old + OLD_HEADER, ROW), 0);
+    EXPECT(slavotuk_open(MODULE, 1), 0);
+    EXPECT(slavotuk_select(MODULE, 1, 0x10), 0);
+    EXPECT(slavotuk_continue(MODULE, 1, 0, p, 48), 0);
+    EXPECT(state[NEXT], 4);
+    EXPECT(slavotuk_end(MODULE, 1, 0, 3, 1, 1), 9);
+    EXPECT(slavotuk_end(MODULE, 1, 0, 4, 1, 1), 0);
+}
+
 static void steps_1_to_9(void)
 {
     const uint8_t provisioned[8] = {1, 1};
-    const uint32_t words[8] = {15, 16};
-    EXPECT(slavotuk_fresh(MODULE, provisioned, 8, words, 8), 0);
+    const uint32_t words[8] = {15, 16}, seconds[8] = {0};
+    EXPECT(slavotuk_fresh(MODULE, provisioned, 8, words, 8, seconds, 8), 0);
     EXPECT(slavotuk_open(MODULE, 4), 1);
     EXPECT(slavotuk_open(MODULE, 0), 0);
     EXPECT(slavotuk_open(MODULE, 0), 2);
@@ -109,14 +167,14 @@ static void steps_10_and_11(void)
     EXPECT(slavotuk_select(MODULE, 1, 0x10), 0);
     EXPECT(slavotuk_continue(MODULE, 1, 0, q, 48), 6);
     EXPECT(slavotuk_continue(MODULE, 1, 0, p, 48), 0);
-    EXPECT(state[48], 4);
+    EXPECT(state[NEXT], 4);
 }
 
 static void the_other_entries(void)
 {
     uint8_t request[4];
     uint16_t wanted = 9;
-    EXPECT(slavotuk_set_word(MODULE, 1, USER(0, 4), 1, 0x80000010), 0);
+    EXPECT(slavotuk_set_word(MODULE, 1, USER(0, 4), 1, 0x80000010, 0), 0);
     EXPECT(slavotuk_elevate(MODULE, 1, 1, q, 48, 1), 0);
     EXPECT(slavotuk_record(MODULE, 1, 1, 99, 99, 99, 31), 0);
     EXPECT(slavotuk_drop(MODULE, 1), 0);
@@ -129,6 +187,8 @@ static void the_other_entries(void)
 int main(void)
 {
     make_names();
+    its_state_is_none();
+    its_image_is_restored();
     steps_1_to_9();
     steps_10_and_11();
     the_other_entries();

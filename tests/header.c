@@ -1,5 +1,5 @@
 /*
- * Does the header say what the archive does? Each constant is tried at its bound and one past it, each of the sixteen numbers
+ * Does the header say what the archive does? Each constant is tried at its bound and one past it, each of the header's numbers
  * is met, and every slice is handed in as null with length 0. Slices are allocated with just their length, so that valgrind
  * sees a byte read or written past them. Also compiled as C++. Exit code: 0 where all agree, else 1.
  */
@@ -15,6 +15,7 @@
 #define MODULE state, SLAVOTUK_STATE_SIZE
 #define NAMED(last) named(last), SLAVOTUK_NAME_SIZE
 #define VALUES values, SLAVOTUK_MESSAGE_VALUES
+#define WORDS words, SLAVOTUK_CREDENTIALS
 
 /* Where docs/STATE.md has the next number of the process at a place: the places are last, and a name is last in each. */
 #define PLACE_SIZE (5 + SLAVOTUK_NAME_SIZE)
@@ -68,27 +69,34 @@ static const uint8_t *named(unsigned last)
     return name;
 }
 
-/* Tries a fresh module in a slice of its own of this length, of this many credentials. */
-static uint32_t fresh_of(size_t state_length, size_t credentials)
+/* Tries a fresh module in a slice of its own of this length, of this many flags, grant words and second words. */
+static uint32_t fresh_of(size_t state_length, size_t flags, size_t words, size_t seconds)
 {
     uint8_t provisioned[SLAVOTUK_CREDENTIALS + 1] = {0};
-    uint32_t words[SLAVOTUK_CREDENTIALS + 1] = {0};
+    uint32_t zeros[SLAVOTUK_CREDENTIALS + 1] = {0};
     uint8_t *bytes = allocate(state_length);
-    uint32_t number = slavotuk_fresh(bytes, state_length, provisioned, credentials, words, credentials);
+    uint32_t number = slavotuk_fresh(bytes, state_length, provisioned, flags, zeros, words, zeros, seconds);
     free(bytes);
     return number;
 }
 
 static void check_fresh(void)
 {
-    EXPECT(fresh_of(SLAVOTUK_STATE_SIZE - 1, SLAVOTUK_CREDENTIALS), SLAVOTUK_REFUSED_ARGUMENT);
-    EXPECT(fresh_of(SLAVOTUK_STATE_SIZE, SLAVOTUK_CREDENTIALS), SLAVOTUK_DONE);
-    EXPECT(fresh_of(SLAVOTUK_STATE_SIZE + 1, SLAVOTUK_CREDENTIALS), SLAVOTUK_REFUSED_ARGUMENT);
-    EXPECT(fresh_of(SLAVOTUK_STATE_SIZE, SLAVOTUK_CREDENTIALS - 1), SLAVOTUK_REFUSED_ARGUMENT);
-    EXPECT(fresh_of(SLAVOTUK_STATE_SIZE, SLAVOTUK_CREDENTIALS + 1), SLAVOTUK_REFUSED_ARGUMENT);
+    const size_t all = SLAVOTUK_CREDENTIALS;
+    EXPECT(fresh_of(SLAVOTUK_STATE_SIZE - 1, all, all, all), SLAVOTUK_REFUSED_ARGUMENT);
+    EXPECT(fresh_of(SLAVOTUK_STATE_SIZE, all, all, all), SLAVOTUK_DONE);
+    EXPECT(fresh_of(SLAVOTUK_STATE_SIZE + 1, all, all, all), SLAVOTUK_REFUSED_ARGUMENT);
+    for (size_t other = all - 1; other <= all + 1; other += 2) {
+        EXPECT(fresh_of(SLAVOTUK_STATE_SIZE, other, all, all), SLAVOTUK_REFUSED_ARGUMENT);
+        EXPECT(fresh_of(SLAVOTUK_STATE_SIZE, all, other, all), SLAVOTUK_REFUSED_ARGUMENT);
+        EXPECT(fresh_of(SLAVOTUK_STATE_SIZE, all, all, other), SLAVOTUK_REFUSED_ARGUMENT);
+    }
 }
 
-/* Credentials 0 to 3 have the module's class of that number alone, 4 the first device class, 5 the last; 7 is not provisioned. */
+/*
+ * Credentials 0 to 3 have the module's class of that number alone, 4 the first device class, 5 the last; 7 is not provisioned.
+ * The second words mark no class of these.
+ */
 static void make_module(void)
 {
     const uint8_t provisioned[SLAVOTUK_CREDENTIALS] = {1, 1, 1, 1, 1, 1, 1, 0};
@@ -97,7 +105,10 @@ static void make_module(void)
         UINT32_C(1) << SLAVOTUK_CLASS_SAVE_OWN,     UINT32_C(1) << SLAVOTUK_CLASS_SET_WORDS,
         UINT32_C(1) << SLAVOTUK_CLASS_DEVICE_FIRST, UINT32_C(1) << SLAVOTUK_CLASS_DEVICE_LAST,
     };
-    EXPECT(slavotuk_fresh(MODULE, provisioned, SLAVOTUK_CREDENTIALS, words, SLAVOTUK_CREDENTIALS), SLAVOTUK_DONE);
+    const uint32_t seconds[SLAVOTUK_CREDENTIALS] = {~words[0], ~words[1], ~words[2], ~words[3],
+                                                    ~words[4], ~words[5], 0,         UINT32_MAX};
+    EXPECT(slavotuk_fresh(MODULE, provisioned, SLAVOTUK_CREDENTIALS, words, SLAVOTUK_CREDENTIALS, seconds,
+                          SLAVOTUK_CREDENTIALS), SLAVOTUK_DONE);
 }
 
 /* What lies in read-only memory: a write would end the program. All zero is a fresh module without credentials. */
@@ -122,15 +133,16 @@ static void check_version(void)
     EXPECT(slavotuk_version(), SLAVOTUK_VERSION_NUMBER);
 }
 
-/* As document 01's table of numbers has them. */
+/* As document 01's table of numbers has them, and document 02's 18. */
 static void check_names(void)
 {
     static const char *const names[] = {
-        "done",       "argument",       "session", "no version",  "version",     "credential",
-        "no process", "already active", "verdict", "out of turn", "not granted", "full",
-        "name taken", "spent",          "message", "room",        "unknown",
+        "done",          "argument",       "session", "no version",  "version",     "credential",
+        "no process",    "already active", "verdict", "out of turn", "not granted", "full",
+        "name taken",    "spent",          "message", "room",        "unknown",     "unknown",
+        "only elevated", "unknown",
     };
-    for (uint32_t number = 0; number <= SLAVOTUK_REFUSED_ROOM + 1; number++) {
+    for (uint32_t number = 0; number <= SLAVOTUK_REFUSED_ONLY_ELEVATED + 1; number++) {
         EXPECT(strcmp(slavotuk_number_name(number), names[number]), 0);
     }
     EXPECT(strcmp(slavotuk_number_name(UINT32_MAX), "unknown"), 0);
@@ -145,9 +157,10 @@ static void check_nulls(void)
     uint16_t number = 1;
     uint8_t type = 1;
     const uint8_t one_row[SLAVOTUK_HEADER_SIZE + SLAVOTUK_ROW_SIZE] = {0x0e, 0, 1};
-    EXPECT(slavotuk_fresh(NULL, 0, flags, sizeof flags, words, SLAVOTUK_CREDENTIALS), SLAVOTUK_REFUSED_ARGUMENT);
-    EXPECT(slavotuk_fresh(MODULE, NULL, 0, words, SLAVOTUK_CREDENTIALS), SLAVOTUK_REFUSED_ARGUMENT);
-    EXPECT(slavotuk_fresh(MODULE, flags, sizeof flags, NULL, 0), SLAVOTUK_REFUSED_ARGUMENT);
+    EXPECT(slavotuk_fresh(NULL, 0, flags, sizeof flags, WORDS, WORDS), SLAVOTUK_REFUSED_ARGUMENT);
+    EXPECT(slavotuk_fresh(MODULE, NULL, 0, WORDS, WORDS), SLAVOTUK_REFUSED_ARGUMENT);
+    EXPECT(slavotuk_fresh(MODULE, flags, sizeof flags, NULL, 0, WORDS), SLAVOTUK_REFUSED_ARGUMENT);
+    EXPECT(slavotuk_fresh(MODULE, flags, sizeof flags, WORDS, NULL, 0), SLAVOTUK_REFUSED_ARGUMENT);
     EXPECT(slavotuk_holds(NULL, 0), SLAVOTUK_REFUSED_ARGUMENT);
     EXPECT(slavotuk_open(NULL, 0, 0), SLAVOTUK_REFUSED_ARGUMENT);
     EXPECT(slavotuk_close(NULL, 0, 0), SLAVOTUK_REFUSED_ARGUMENT);
@@ -166,7 +179,7 @@ static void check_nulls(void)
     EXPECT(length, 0);
     EXPECT(slavotuk_kill(NULL, 0, 0, USER(0, 0), NAMED(0)), SLAVOTUK_REFUSED_ARGUMENT);
     EXPECT(slavotuk_kill(MODULE, 0, USER(0, 0), NULL, 0), SLAVOTUK_REFUSED_ARGUMENT);
-    EXPECT(slavotuk_set_word(NULL, 0, 0, USER(0, 0), 0, 0), SLAVOTUK_REFUSED_ARGUMENT);
+    EXPECT(slavotuk_set_word(NULL, 0, 0, USER(0, 0), 0, 0, 0), SLAVOTUK_REFUSED_ARGUMENT);
     length = 1;
     EXPECT(slavotuk_image(NULL, 0, listing, SLAVOTUK_LISTING_SIZE, &length), SLAVOTUK_REFUSED_ARGUMENT);
     EXPECT(length, 0);
@@ -264,9 +277,38 @@ static void check_own_classes(void)
     EXPECT(slavotuk_kill(MODULE, 0, USER(1, 0), NAMED(6)), SLAVOTUK_DONE);
     SPENDS(3, slavotuk_end(MODULE, 0, 3, 2, 1, 1), SLAVOTUK_REFUSED_NOT_GRANTED);
     EXPECT(slavotuk_end(MODULE, 0, 2, 0, 1, 1), SLAVOTUK_DONE);
-    SPENDS(0, slavotuk_set_word(MODULE, 0, USER(0, 2), 6, 0), SLAVOTUK_REFUSED_NOT_GRANTED);
-    SPENDS(3, slavotuk_set_word(MODULE, 0, USER(3, 3), SLAVOTUK_CREDENTIALS - 1, 0), SLAVOTUK_REFUSED_CREDENTIAL);
-    EXPECT(slavotuk_set_word(MODULE, 0, USER(3, 4), 6, 0), SLAVOTUK_DONE);
+    SPENDS(0, slavotuk_set_word(MODULE, 0, USER(0, 2), 6, 0, 0), SLAVOTUK_REFUSED_NOT_GRANTED);
+    SPENDS(3, slavotuk_set_word(MODULE, 0, USER(3, 3), SLAVOTUK_CREDENTIALS - 1, 0, 0), SLAVOTUK_REFUSED_CREDENTIAL);
+    EXPECT(slavotuk_set_word(MODULE, 0, USER(3, 4), 6, 0, 0), SLAVOTUK_DONE);
+}
+
+/*
+ * Credential 6 has every class, each only under elevation, and a process in session 2. A user claim is refused, ahead of what
+ * follows, and an elevated one is not; a kill is refused as one of an unknown name is. In the end all is as before.
+ */
+static void check_only_elevated(void)
+{
+    const unsigned place = 7;
+    size_t length = 0;
+    uint8_t *before = allocate(SLAVOTUK_STATE_SIZE);
+    memcpy(before, state, SLAVOTUK_STATE_SIZE);
+    EXPECT(slavotuk_open(MODULE, 2), SLAVOTUK_DONE);
+    EXPECT(slavotuk_select(MODULE, 2, SLAVOTUK_VERSION_1_0), SLAVOTUK_DONE);
+    EXPECT(slavotuk_set_word(MODULE, 0, USER(3, 5), 6, UINT32_MAX, UINT32_MAX), SLAVOTUK_DONE);
+    EXPECT(slavotuk_start(MODULE, 2, 6, NAMED(40)), SLAVOTUK_DONE);
+    EXPECT(slavotuk_elevate(MODULE, 2, 6, NAMED(41), 1), SLAVOTUK_DONE);
+    SPENDS(place, slavotuk_record(MODULE, 2, USER(6, 0), SLAVOTUK_CLASS_DEVICE_FIRST), SLAVOTUK_REFUSED_ONLY_ELEVATED);
+    SPENDS(place, slavotuk_record(MODULE, 2, USER(6, 1), SLAVOTUK_CLASS_DEVICE_LAST), SLAVOTUK_REFUSED_ONLY_ELEVATED);
+    SPENDS(place, slavotuk_list(MODULE, 2, USER(6, 2), SLAVOTUK_WANTED_ALL, NULL, 0, &length), SLAVOTUK_REFUSED_ONLY_ELEVATED);
+    SPENDS(place, slavotuk_end(MODULE, 2, 6, 3, 1, 1), SLAVOTUK_REFUSED_ONLY_ELEVATED);
+    SPENDS(place, slavotuk_set_word(MODULE, 2, USER(6, 4), 7, 0, 0), SLAVOTUK_REFUSED_ONLY_ELEVATED);
+    SPENDS(place, slavotuk_kill(MODULE, 2, USER(6, 5), NAMED(0)), SLAVOTUK_REFUSED_NO_PROCESS);
+    EXPECT(slavotuk_record(MODULE, 2, ELEVATED, SLAVOTUK_CLASS_DEVICE_FIRST), SLAVOTUK_DONE);
+    EXPECT(slavotuk_list(MODULE, 2, ELEVATED, SLAVOTUK_WANTED_ALL, listing, SLAVOTUK_LISTING_SIZE, &length), SLAVOTUK_DONE);
+    EXPECT(slavotuk_set_word(MODULE, 2, ELEVATED, 7, 0, 0), SLAVOTUK_REFUSED_CREDENTIAL);
+    EXPECT(slavotuk_kill(MODULE, 2, ELEVATED, NAMED(0)), SLAVOTUK_DONE);
+    memcpy(state, before, SLAVOTUK_STATE_SIZE);
+    free(before);
 }
 
 /* Seven processes stand: five users, the elevation, the saved one. Five more fill the table. */
@@ -448,29 +490,46 @@ static void check_pieces(void)
     }
 }
 
-/* An image of so many rows, which all are credential 0's, differ in their names and have next number 1. */
-static uint8_t *image_of(unsigned rows, size_t *length)
+/*
+ * An image of so many rows behind a header of this size, that of the new layout or the old. They all are credential 0's, differ
+ * in their names and have next number 1.
+ */
+static uint8_t *image_of(unsigned header, unsigned rows, size_t *length)
 {
-    const uint8_t head[] = {1, 0, SLAVOTUK_CREDENTIALS, 0, 10, 0, (uint8_t)rows, 0, SLAVOTUK_IMAGE_HEADER_SIZE, 0};
+    const uint8_t head[] = {1, 0, SLAVOTUK_CREDENTIALS, 0, 10, 0, (uint8_t)rows, 0, (uint8_t)header, 0};
     uint8_t *image;
-    *length = SLAVOTUK_IMAGE_HEADER_SIZE + SLAVOTUK_IMAGE_ROW_SIZE * rows;
+    *length = header + SLAVOTUK_IMAGE_ROW_SIZE * rows;
     image = allocate(*length);
     memset(image, 0, *length);
     memcpy(image, head, sizeof head);
     for (unsigned at = 0; at < rows; at++) {
-        uint8_t *row = image + SLAVOTUK_IMAGE_HEADER_SIZE + SLAVOTUK_IMAGE_ROW_SIZE * at;
+        uint8_t *row = image + header + SLAVOTUK_IMAGE_ROW_SIZE * at;
         row[2] = 1;
         memcpy(row + SLAVOTUK_IMAGE_ROW_SIZE - SLAVOTUK_NAME_SIZE, named(at), SLAVOTUK_NAME_SIZE);
     }
     return image;
 }
 
-/* Images of no row to one more than there are places: restored, and written again into just the room that they take. */
-static void check_images(void)
+/* The image of a state that one of so many rows has made, in either layout: the new one's, in just the room that it takes. */
+static void check_written(const uint8_t *restored, unsigned rows)
+{
+    size_t room, length = 9;
+    uint8_t *image = image_of(SLAVOTUK_IMAGE_HEADER_SIZE, rows, &room), *written = allocate(room);
+    EXPECT(slavotuk_image(restored, SLAVOTUK_STATE_SIZE, written, room - 1, &length), SLAVOTUK_REFUSED_ROOM);
+    EXPECT(length, 0);
+    EXPECT(slavotuk_image(restored, SLAVOTUK_STATE_SIZE, written, room, &length), SLAVOTUK_DONE);
+    EXPECT(length, room);
+    EXPECT(memcmp(written, image, room), 0);
+    free(image);
+    free(written);
+}
+
+/* Images of no row to one more than there are places: restored, and written again. */
+static void check_images_of(unsigned header)
 {
     for (unsigned rows = 0; rows <= SLAVOTUK_PROCESSES + 1; rows++) {
-        size_t room, length = 9;
-        uint8_t *image = image_of(rows, &room), *restored = allocate(SLAVOTUK_STATE_SIZE + 1), *written = allocate(room);
+        size_t room;
+        uint8_t *image = image_of(header, rows, &room), *restored = allocate(SLAVOTUK_STATE_SIZE + 1);
         memset(restored, 0xee, SLAVOTUK_STATE_SIZE + 1);
         EXPECT(slavotuk_restore(restored, SLAVOTUK_STATE_SIZE - 1, image, room), SLAVOTUK_REFUSED_ARGUMENT);
         EXPECT(slavotuk_restore(restored, SLAVOTUK_STATE_SIZE + 1, image, room), SLAVOTUK_REFUSED_ARGUMENT);
@@ -480,15 +539,30 @@ static void check_images(void)
                rows <= SLAVOTUK_PROCESSES ? SLAVOTUK_DONE : SLAVOTUK_REFUSED_MESSAGE);
         EXPECT(restored[SLAVOTUK_STATE_SIZE], 0xee);
         if (rows <= SLAVOTUK_PROCESSES) {
-            EXPECT(slavotuk_image(restored, SLAVOTUK_STATE_SIZE, written, room - 1, &length), SLAVOTUK_REFUSED_ROOM);
-            EXPECT(length, 0);
-            EXPECT(slavotuk_image(restored, SLAVOTUK_STATE_SIZE, written, room, &length), SLAVOTUK_DONE);
-            EXPECT(length, room);
-            EXPECT(memcmp(written, image, room), 0);
+            check_written(restored, rows);
         }
         free(image);
         free(restored);
-        free(written);
+    }
+}
+
+static void check_images(void)
+{
+    check_images_of(SLAVOTUK_IMAGE_HEADER_SIZE);
+    check_images_of(SLAVOTUK_IMAGE_OLD_HEADER_SIZE);
+}
+
+/* The rows begin at one of the two offsets, and nowhere else. */
+static void check_offsets(void)
+{
+    for (unsigned header = SLAVOTUK_IMAGE_OLD_HEADER_SIZE - 1; header <= SLAVOTUK_IMAGE_HEADER_SIZE + 1; header++) {
+        const int is_layout = header == SLAVOTUK_IMAGE_OLD_HEADER_SIZE || header == SLAVOTUK_IMAGE_HEADER_SIZE;
+        size_t length;
+        uint8_t *image = image_of(header, 1, &length), *restored = allocate(SLAVOTUK_STATE_SIZE);
+        EXPECT(slavotuk_restore(restored, SLAVOTUK_STATE_SIZE, image, length),
+               is_layout ? SLAVOTUK_DONE : SLAVOTUK_REFUSED_MESSAGE);
+        free(image);
+        free(restored);
     }
 }
 
@@ -497,7 +571,7 @@ static void check_image(void)
 {
     size_t length = 9, longest;
     uint8_t *image = allocate(SLAVOTUK_IMAGE_SIZE), *restored = allocate(SLAVOTUK_STATE_SIZE);
-    free(image_of(SLAVOTUK_PROCESSES, &longest));
+    free(image_of(SLAVOTUK_IMAGE_HEADER_SIZE, SLAVOTUK_PROCESSES, &longest));
     EXPECT(longest, SLAVOTUK_IMAGE_SIZE);
     EXPECT(slavotuk_image(read_only, SLAVOTUK_STATE_SIZE - 1, image, SLAVOTUK_IMAGE_SIZE, &length), SLAVOTUK_REFUSED_ARGUMENT);
     EXPECT(length, 0);
@@ -542,6 +616,7 @@ int main(void)
     check_nulls();
     check_records();
     check_own_classes();
+    check_only_elevated();
     check_full();
     check_listing();
     check_request();
@@ -550,6 +625,7 @@ int main(void)
     check_no_messages();
     check_pieces();
     check_images();
+    check_offsets();
     check_image();
     check_spent();
     free(state);

@@ -12,7 +12,7 @@
 
 #include "slavotuk.h"
 
-enum { STACK = 256 * 1024, PAINT = 0xa5 };
+enum { STACK = 256 * 1024, PAINT = 0xa5, BEFORE = 6 };
 
 #define MODULE state, SLAVOTUK_STATE_SIZE
 #define USER(credential, number) SLAVOTUK_CLAIM_USER, credential, number, 1
@@ -26,6 +26,7 @@ static uint8_t state[SLAVOTUK_STATE_SIZE];
 static uint8_t name[SLAVOTUK_NAME_SIZE];
 static uint8_t listing[SLAVOTUK_LISTING_SIZE];
 static uint8_t image[SLAVOTUK_IMAGE_SIZE];
+static size_t image_length;
 static uint8_t request[SLAVOTUK_REQUEST_SIZE];
 static size_t length;
 static uint16_t number;
@@ -60,13 +61,14 @@ static size_t use_of(void (*call)(void))
     return (size_t)(top - (stack + lowest));
 }
 
-static uint32_t word = UINT32_MAX;
+static uint32_t word = UINT32_MAX, second = 0;
 
 static void fresh(void)
 {
     const uint8_t provisioned[SLAVOTUK_CREDENTIALS] = {1, 1, 1, 1, 1, 1, 1, 1};
     const uint32_t words[SLAVOTUK_CREDENTIALS] = {word, word, word, word};
-    slavotuk_fresh(MODULE, provisioned, SLAVOTUK_CREDENTIALS, words, SLAVOTUK_CREDENTIALS);
+    const uint32_t seconds[SLAVOTUK_CREDENTIALS] = {second, second, second, second};
+    slavotuk_fresh(MODULE, provisioned, SLAVOTUK_CREDENTIALS, words, SLAVOTUK_CREDENTIALS, seconds, SLAVOTUK_CREDENTIALS);
 }
 static void holds(void) { slavotuk_holds(MODULE); }
 static void open0(void) { slavotuk_open(MODULE, 0); }
@@ -80,9 +82,9 @@ static void end0(void) { slavotuk_end(MODULE, 0, 1, 0, 1, 1); }
 static void record0(void) { slavotuk_record(MODULE, 0, USER(0, 0), SLAVOTUK_CLASS_DEVICE_FIRST); }
 static void list0(void) { slavotuk_list(MODULE, 0, USER(0, 0), SLAVOTUK_WANTED_ALL, listing, sizeof listing, &length); }
 static void kill0(void) { slavotuk_kill(MODULE, 0, USER(0, 0), name, sizeof name); }
-static void set_word0(void) { slavotuk_set_word(MODULE, 0, USER(0, 0), 1, 0); }
-static void image0(void) { slavotuk_image(MODULE, image, sizeof image, &length); }
-static void restore0(void) { slavotuk_restore(MODULE, image, sizeof image); }
+static void set_word0(void) { slavotuk_set_word(MODULE, 0, USER(0, 0), 1, 0, 0); }
+static void image0(void) { slavotuk_image(MODULE, image, sizeof image, &image_length); }
+static void restore0(void) { slavotuk_restore(MODULE, image, image_length); }
 static void write_request0(void) { slavotuk_write_request(request, sizeof request, SLAVOTUK_WANTED_ALL); }
 static void read_request0(void) { slavotuk_read_request(request, sizeof request, &number); }
 static void read_count0(void) { slavotuk_read_count(listing, length, &number); }
@@ -131,6 +133,15 @@ static void not_granted(void)
     start0();
     word = UINT32_MAX;
 }
+
+/* They have every class, each only under elevation: what they ask for is refused one test later. */
+static void only_elevated(void)
+{
+    second = UINT32_MAX;
+    one();
+    start0();
+    second = 0;
+}
 static void nearly_full(void) { standing(SLAVOTUK_PROCESSES - 1); }
 static void full(void) { standing(SLAVOTUK_PROCESSES); }
 static void killable(void) { full(); named(0); }
@@ -138,8 +149,22 @@ static void elevated(void) { nearly_full(); elevate0(); }
 static void ending(void) { nearly_full(); start0(); }
 static void saved(void) { ending(); end0(); }
 static void all_saved(void) { saved(); slavotuk_end(MODULE, 0, 0, 0, 1, 1); }
-static void no_image(void) { memset(image, 0, sizeof image); }
+static void no_image(void)
+{
+    image_length = sizeof image;
+    memset(image, 0, sizeof image);
+}
 static void imaged(void) { all_saved(); image0(); }
+
+/* The same in the old layout: without second words, the rows where they stood. */
+static void imaged_old(void)
+{
+    imaged();
+    image[8] = SLAVOTUK_IMAGE_OLD_HEADER_SIZE;
+    image_length -= SLAVOTUK_IMAGE_HEADER_SIZE - SLAVOTUK_IMAGE_OLD_HEADER_SIZE;
+    memmove(image + SLAVOTUK_IMAGE_OLD_HEADER_SIZE, image + SLAVOTUK_IMAGE_HEADER_SIZE,
+            image_length - SLAVOTUK_IMAGE_OLD_HEADER_SIZE);
+}
 static void listed(void) { full(); list0(); write_request0(); }
 
 /* The last name is then the first: of all that the image is asked, no more than this fails. */
@@ -177,7 +202,7 @@ static void policies(void)
 static const struct {
     const char *entry;
     void (*call)(void);
-    void (*before[5])(void);
+    void (*before[BEFORE])(void);
 } measured[] = {
     {"slavotuk_fresh", fresh, {nothing, full}},
     {"slavotuk_holds", holds, {nothing, fresh, full}},
@@ -188,13 +213,13 @@ static const struct {
     {"slavotuk_continue", continue0, {nothing, opened, saved, full}},
     {"slavotuk_elevate", elevate0, {nothing, opened, nearly_full, full}},
     {"slavotuk_drop", drop0, {nothing, opened, elevated, full}},
-    {"slavotuk_end", end0, {nothing, opened, ending, full, not_granted}},
-    {"slavotuk_record", record0, {nothing, opened, one, full, not_granted}},
-    {"slavotuk_list", list0, {nothing, opened, one, full, not_granted}},
-    {"slavotuk_kill", kill0, {nothing, opened, full, killable}},
-    {"slavotuk_set_word", set_word0, {nothing, opened, one, full, not_granted}},
+    {"slavotuk_end", end0, {nothing, opened, ending, full, not_granted, only_elevated}},
+    {"slavotuk_record", record0, {nothing, opened, one, full, not_granted, only_elevated}},
+    {"slavotuk_list", list0, {nothing, opened, one, full, not_granted, only_elevated}},
+    {"slavotuk_kill", kill0, {nothing, opened, full, killable, only_elevated}},
+    {"slavotuk_set_word", set_word0, {nothing, opened, one, full, not_granted, only_elevated}},
     {"slavotuk_image", image0, {nothing, fresh, full, all_saved}},
-    {"slavotuk_restore", restore0, {no_image, imaged, damaged}},
+    {"slavotuk_restore", restore0, {no_image, imaged, imaged_old, damaged}},
     {"slavotuk_read_request", read_request0, {nothing, listed}},
     {"slavotuk_write_request", write_request0, {nothing}},
     {"slavotuk_read_count", read_count0, {nothing, listed}},
@@ -212,7 +237,7 @@ int main(int count, char **words)
     int within = 1;
     for (size_t at = 0; at < sizeof measured / sizeof *measured; at++) {
         size_t most = 0;
-        for (size_t of = 0; of < 5 && measured[at].before[of] != NULL; of++) {
+        for (size_t of = 0; of < BEFORE && measured[at].before[of] != NULL; of++) {
             size_t use;
             memset(state, 0xff, sizeof state);
             measured[at].before[of]();

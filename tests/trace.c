@@ -166,7 +166,9 @@ static void open_sessions(uint32_t word)
 {
     const uint8_t provisioned[SLAVOTUK_CREDENTIALS] = {1, 1, 1, 1, 1, 1, 1, 1};
     const uint32_t words[SLAVOTUK_CREDENTIALS] = {word, word, word, word, word, word, word, word};
-    done("fresh", slavotuk_fresh(MODULE, provisioned, SLAVOTUK_CREDENTIALS, words, SLAVOTUK_CREDENTIALS));
+    const uint32_t seconds[SLAVOTUK_CREDENTIALS] = {0};
+    done("fresh", slavotuk_fresh(MODULE, provisioned, SLAVOTUK_CREDENTIALS, words, SLAVOTUK_CREDENTIALS, seconds,
+                                 SLAVOTUK_CREDENTIALS));
     for (unsigned session = 0; session < SLAVOTUK_SESSIONS; session++) {
         done("open", slavotuk_open(MODULE, session));
         done("select", slavotuk_select(MODULE, session, SLAVOTUK_VERSION_1_0));

@@ -1,11 +1,11 @@
 //! Carries commands out on the module that the console holds.
 
-use crate::line::{quoted, visible, Command, Records, Words, DOCUMENT_01};
+use crate::line::{quoted, visible, AllGrants, Command, Records, DOCUMENT_01};
 use crate::write::Written;
 use crate::{draw, files, formats, help, read};
 use slavotuk::entries::{self, RawClaim};
 use slavotuk::{
-    Call, Listing, Module, WireCredential, FULL_IMAGE_LENGTH, REQUEST_LENGTH, STATE_LENGTH,
+    Call, Listing, Module, Refusal, WireCredential, FULL_IMAGE_LENGTH, REQUEST_LENGTH, STATE_LENGTH,
 };
 use std::io::{self, Write};
 use std::path::Path;
@@ -73,7 +73,7 @@ impl Console {
     /// A console with document 01's module.
     pub fn new() -> Console {
         let mut state = [0; STATE_LENGTH];
-        make_fresh(&mut state, DOCUMENT_01);
+        make_fresh(&mut state, &DOCUMENT_01);
         Console {
             state,
             history: History::since("the start, with fresh 0=15 1=16"),
@@ -88,7 +88,7 @@ impl Console {
         out: &mut impl Write,
     ) -> Result<Next, Trouble> {
         match command {
-            Command::Fresh(words) => self.fresh(words, line, out)?,
+            Command::Fresh(grants) => self.fresh(&grants, line, out)?,
             Command::Call(call) => self.call(call, line, out)?,
             Command::Records(records) => self.records(records, line, out)?,
             Command::Show { whole } => draw::module(&self.module()?, whole, out)?,
@@ -131,8 +131,8 @@ impl Console {
         writeln!(out, "a new history begins")
     }
 
-    fn fresh(&mut self, words: Words, line: &str, out: &mut impl Write) -> io::Result<()> {
-        writeln!(out, "{}", draw::answer(make_fresh(&mut self.state, words)))?;
+    fn fresh(&mut self, grants: &AllGrants, line: &str, out: &mut impl Write) -> io::Result<()> {
+        writeln!(out, "{}", draw::answer(make_fresh(&mut self.state, grants)))?;
         self.begin_history(line, out)
     }
 
@@ -205,9 +205,9 @@ impl Console {
     }
 }
 
-fn make_fresh(state: &mut [u8], words: Words) -> u32 {
-    let provisioned = words.map(|word| u8::from(word.is_some()));
-    entries::fresh(state, &provisioned, &words.map(Option::unwrap_or_default))
+fn make_fresh(state: &mut [u8], grants: &AllGrants) -> u32 {
+    let made = Module::fresh_in(state, grants);
+    made.map_or_else(Refusal::number, |_| 0)
 }
 
 fn sent(state: &mut [u8], records: &Records, number: u16) -> u32 {

@@ -1,5 +1,5 @@
 //! The part of docs/IMAGE.md that is computed: the lines of an example with their answers, the image that it writes, field by field, and changes of that
-//! image that are refused.
+//! image that are refused, in both layouts.
 
 use crate::bytes;
 use crate::console::Console;
@@ -19,30 +19,67 @@ const RENEW: &str = "RENEW_IMAGE";
 
 const EXAMPLE: &str = "examples/power-cycle.txt";
 
-/// Changes of the example's first image: the offset, the new bytes, and why it is an image no more.
-const CHANGES: [(usize, &[u8], &str); 14] = [
+/// A change of an image: the offset, the new bytes, and why it is an image no more.
+type Change = (usize, &'static [u8], &'static str);
+
+/// Changes of the example's first image.
+const CHANGES: [Change; 17] = [
     (
         MASK_AT,
         &[1],
-        "credential 1 is then not provisioned, and its word not zero",
+        "credential 1 is then not provisioned, and its words not zero",
     ),
     (MASK_AT + 1, &[1], "there is no credential 8"),
     (WORD_COUNT_AT, &[7], "there are 8 words"),
     (WORDS_OFFSET_AT, &[11], "the words begin at 10"),
-    (ROW_COUNT_AT, &[1], "an image with one row has 94 bytes"),
-    (ROW_COUNT_AT, &[3], "an image with three rows has 198 bytes"),
-    (ROWS_OFFSET_AT, &[ROWS_AT as u8 + 1], "the rows begin at 42"),
+    (ROW_COUNT_AT, &[1], "an image with one row has 126 bytes"),
+    (ROW_COUNT_AT, &[3], "an image with three rows has 230 bytes"),
+    (ROWS_OFFSET_AT, &[ROWS_AT as u8 + 1], "the rows begin at 74"),
+    (
+        ROWS_OFFSET_AT,
+        &[OLD_ROWS_AT as u8],
+        "an old image with two rows has 146 bytes",
+    ),
     (
         word_at(2),
         &[1],
-        "the word of a credential that is not provisioned",
+        "a word of a credential that is not provisioned",
     ),
     (word_at(7) + 3, &[128], "the same"),
+    (second_at(2), &[1], "the same"),
+    (second_at(7) + 3, &[128], "the same"),
     (row_at(0) + OWNER, &[2], "credential 2 is not provisioned"),
     (row_at(0) + OWNER + 1, &[1], "there is no credential 256"),
     (row_at(0) + NEXT, &[0], "a save has counted one"),
     (row_at(1) + NEXT, &[0, 0], "the same"),
     (row_at(1) + NAME + 16, &[0x11; 32], "Q is then P"),
+];
+
+/// Changes of the same in the old layout.
+const OLD_CHANGES: [Change; 7] = [
+    (WORD_COUNT_AT, &[16], "there are 8 words"),
+    (ROW_COUNT_AT, &[1], "an old image with one row has 94 bytes"),
+    (
+        ROWS_OFFSET_AT,
+        &[OLD_ROWS_AT as u8 + 1],
+        "the rows begin at 42",
+    ),
+    (
+        ROWS_OFFSET_AT,
+        &[ROWS_AT as u8],
+        "an image with two rows has 178 bytes",
+    ),
+    (
+        word_at(7) + 3,
+        &[128],
+        "a word of a credential that is not provisioned",
+    ),
+    (
+        old_row_at(0) + OWNER,
+        &[2],
+        "credential 2 is not provisioned",
+    ),
+    (old_row_at(1) + NEXT, &[0, 0], "a save has counted one"),
 ];
 
 /// What the example's lines are answered, and the images that they write.
@@ -141,12 +178,14 @@ fn drawn(image: &[u8]) -> String {
     let rows = fields.number(2);
     fields.draw(2, &format!("count of rows: {rows}"));
     fields.draw(2, &format!("offset of rows: {}", fields.number(2)));
-    for credential in 0..Credential::COUNT {
-        let says = match is_provisioned(credential) {
-            true => format!("word of credential {credential}: {}", fields.number(4)),
-            false => format!("credential {credential} is not provisioned"),
-        };
-        fields.draw(4, &says);
+    for what in ["word", "second word"] {
+        for credential in 0..Credential::COUNT {
+            let says = match is_provisioned(credential) {
+                true => format!("{what} of credential {credential}: {}", fields.number(4)),
+                false => format!("credential {credential} is not provisioned"),
+            };
+            fields.draw(4, &says);
+        }
     }
     for row in 0..rows {
         fields.draw(2, &format!("row {row}: credential {}", fields.number(2)));
@@ -172,9 +211,20 @@ fn hexadecimal(bytes: &[u8]) -> String {
     }
 }
 
-fn changes(image: &[u8]) -> String {
+/// The same without second words. It is restored, and written again as the image with second words zero.
+fn in_old_layout(image: &[u8]) -> Vec<u8> {
+    let mut old = [&image[..SECONDS_AT], &image[ROWS_AT..]].concat();
+    old[ROWS_OFFSET_AT] = OLD_ROWS_AT as u8;
+    let mut unmarked = image.to_vec();
+    unmarked[SECONDS_AT..ROWS_AT].fill(0);
+    let restored = Module::restore(&old).unwrap();
+    assert_eq!(*restored.image().unwrap(), unmarked);
+    old
+}
+
+fn changes(image: &[u8], changes: &[Change]) -> String {
     let mut text = String::from("| At | From | To | Because |\n|---|---|---|---|\n");
-    for (at, to, why) in CHANGES {
+    for &(at, to, why) in changes {
         let mut changed = image.to_vec();
         let field = &mut changed[at..at + to.len()];
         let from = hexadecimal(field);
@@ -197,12 +247,17 @@ fn computed() -> String {
     let image = &images[0];
     let length = image.len();
     let drawn = drawn(image);
-    let changes = changes(image);
+    let refused = changes(image, &CHANGES);
+    let old = in_old_layout(image);
+    let old_length = old.len();
+    let old_refused = changes(&old, &OLD_CHANGES);
     format!(
         "\n## An example\n\n\
          The lines of `{EXAMPLE}`, each with its answer:\n\n{text}\n\
          The first image of these, {length} bytes. In a name `00*16` is 16 bytes of `00`.\n\n{drawn}\n\
-         Each of these changes of it makes bytes that are no image:\n\n{changes}"
+         Each of these changes of it makes bytes that are no image:\n\n{refused}\n\
+         In the old layout it has {old_length} bytes: `2a` at 8, no second words, and row 0 at 42. That is restored with second words zero, so that no\n\
+         class is marked, and written again in the new layout. Each of these changes of it makes bytes that are no image:\n\n{old_refused}"
     )
 }
 

@@ -2,8 +2,8 @@
 
 use crate::bytes;
 use slavotuk::{
-    Class, Credential, Grants, Listing, Module, Process, Row, Session, WireCredential, NAME_LENGTH,
-    PLACES,
+    Class, Credential, Grants, Listing, Lookup, Module, Process, Row, Session, WireCredential,
+    NAME_LENGTH, PLACES,
 };
 use std::fmt::Display;
 use std::io::{self, Write};
@@ -41,23 +41,33 @@ pub fn module(module: &Module, whole: bool, out: &mut impl Write) -> io::Result<
     table(&processes, whole, out)
 }
 
-/// A provisioned credential's word and what it grants.
+/// A provisioned credential's words and what they grant. The second word is drawn where it is not zero.
 fn granted(grants: Grants) -> String {
-    let own = grants.classes().filter_map(own_class);
-    let mut classes: Vec<String> = own.map(String::from).collect();
-    let device = ranges(
-        grants
-            .classes()
-            .filter(|class| class.is_device())
-            .map(Class::number),
-    );
-    if !device.is_empty() {
-        classes.push(format!("device {device}"));
-    }
-    if classes.is_empty() {
-        classes.push("no class".into());
-    }
-    format!("word 0x{:08x}  {}", grants.word(), classes.join(", "))
+    let second = match grants.second() {
+        0 => String::new(),
+        second => format!("/0x{second:08x}"),
+    };
+    let plain = classes_of(grants, Lookup::Yes);
+    let marked = classes_of(grants, Lookup::OnlyElevated);
+    let classes = match (plain.is_empty(), marked.is_empty()) {
+        (true, true) => "no class".into(),
+        (false, true) => plain,
+        (true, false) => format!("only elevated: {marked}"),
+        (false, false) => format!("{plain}; only elevated: {marked}"),
+    };
+    format!("word 0x{:08x}{second}  {classes}", grants.word())
+}
+
+/// The classes of which the lookup says this.
+fn classes_of(grants: Grants, wanted: Lookup) -> String {
+    let said = grants.classes().filter(|(_, answer)| *answer == wanted);
+    let (device, own): (Vec<Class>, Vec<Class>) = said
+        .map(|(class, _)| class)
+        .partition(|class| class.is_device());
+    let own = own.into_iter().filter_map(own_class).map(String::from);
+    let device = ranges(device.into_iter().map(Class::number));
+    let device = (!device.is_empty()).then(|| format!("device {device}"));
+    own.chain(device).collect::<Vec<String>>().join(", ")
 }
 
 /// The module's own classes by what they grant.
@@ -224,6 +234,7 @@ mod tests {
         assert_eq!(answer(0), "0 done");
         assert_eq!(answer(15), "15 room");
         assert_eq!(answer(16), "16 unknown");
+        assert_eq!(answer(18), "18 only elevated");
         assert_eq!(answer(u32::MAX), "4294967295 unknown");
     }
 
@@ -279,5 +290,18 @@ mod tests {
             granted(Grants::of_word(0xffff_fff9)),
             "word 0xfffffff9  0 list others, 3 set words, device 4 to 31"
         );
+    }
+
+    #[test]
+    fn what_is_granted_only_under_elevation_is_marked() {
+        let drawn = [
+            ((0x30, 0x60), "word 0x00000030/0x00000060  device 4; only elevated: device 5"),
+            ((15, 4), "word 0x0000000f/0x00000004  0 list others, 1 kill others, 3 set words; only elevated: 2 save own"),
+            ((0x1c, !0), "word 0x0000001c/0xffffffff  only elevated: 2 save own, 3 set words, device 4"),
+            ((0, !0), "word 0x00000000/0xffffffff  no class"),
+        ];
+        for ((word, second), text) in drawn {
+            assert_eq!(granted(Grants::of_words(word, second)), text);
+        }
     }
 }

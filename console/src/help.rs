@@ -20,12 +20,13 @@ pub struct Topic {
 pub const COMMANDS: [Topic; 25] = [
     Topic {
         name: "fresh",
-        form: "fresh [CREDENTIAL=WORD ..]",
+        form: "fresh [C=WORD[/SECOND] ..]",
         short: "make a fresh module",
         more: &[
-            "The named credentials are provisioned and have these grant words. Without any",
-            "it is document 01's module, 0=15 1=16; 'fresh none' provisions none.",
-            "A new history begins.",
+            "The named credentials are provisioned and have these grant words and second",
+            "words; a second word that is left out is zero. For instance: fresh 0=15/4 1=16",
+            "Without any it is document 01's module, 0=15 1=16; 'fresh none' provisions",
+            "none. A new history begins.",
         ],
     },
     Topic {
@@ -82,7 +83,7 @@ pub const COMMANDS: [Topic; 25] = [
         short: "end a user process",
         more: &[
             "C, NUMBER and the verdict are its claim. With keep it is saved.",
-            "Refused with, in this order: 1, 2, 3, the claim's, 10.",
+            "Refused with, in this order: 1, 2, 3, the claim's, 10, 18.",
         ],
     },
     Topic {
@@ -92,7 +93,7 @@ pub const COMMANDS: [Topic; 25] = [
         more: &[
             "For instance: record 0 user 1 0 yes 4",
             "or:           record 0 elevated 4",
-            "Refused with, in this order: 1, 2, 3, the claim's, 10.",
+            "Refused with, in this order: 1, 2, 3, the claim's, 10, 18.",
         ],
     },
     Topic {
@@ -101,7 +102,7 @@ pub const COMMANDS: [Topic; 25] = [
         short: "records with the numbers FROM to TO in turn",
         more: &[
             "Each carries a user claim with the verdict yes. It ends at the first refusal;",
-            "a 10 has spent its number.",
+            "a 10 or an 18 has spent its number.",
         ],
     },
     Topic {
@@ -112,7 +113,7 @@ pub const COMMANDS: [Topic; 25] = [
             "WANTED is a credential or 'all', which is 65535. ROOM is the lent buffer's",
             "length: a full listing's where it isn't given, and at most 65536.",
             "For instance: list 0 user 0 1 yes all 54",
-            "Refused with, in this order: 1, 2, 3, the claim's, 10, 15.",
+            "Refused with, in this order: 1, 2, 3, the claim's, 10, 18, 15.",
         ],
     },
     Topic {
@@ -123,9 +124,13 @@ pub const COMMANDS: [Topic; 25] = [
     },
     Topic {
         name: "set-word",
-        form: "set-word S CLAIM.. C WORD",
-        short: "set a credential's grant word",
-        more: &["Refused with, in this order: 1, 2, 3, the claim's, 10, 5."],
+        form: "set-word S CLAIM.. C WORD SECOND",
+        short: "set both words of a credential",
+        more: &[
+            "Bit k of WORD grants class k; where bit k of SECOND is set too, only under an",
+            "elevated claim. Both are set always: with SECOND 0 no class is marked.",
+            "Refused with, in this order: 1, 2, 3, the claim's, 10, 18, 5.",
+        ],
     },
     Topic {
         name: "show",
@@ -134,6 +139,8 @@ pub const COMMANDS: [Topic; 25] = [
         more: &[
             "Names are shortened to the bytes that tell them apart; '..' stands for those",
             "left out, the same ones in each name. 'show names' has all 48 bytes of each.",
+            "A credential's second word stands behind its grant word where it is not zero,",
+            "and the classes that are granted only under elevation behind the others.",
         ],
     },
     Topic {
@@ -191,8 +198,8 @@ pub const COMMANDS: [Topic; 25] = [
         short: "write what outlasts a power cycle to a file",
         more: &[
             "The credentials, their words and the saved processes with their next numbers,",
-            "as docs/IMAGE.md draws them. The file is replaced whole or not at all, and is",
-            "on the disk before it is called written, as with 'save'.",
+            "as docs/IMAGE.md draws them, in the new layout. The file is replaced whole or",
+            "not at all, and is on the disk before it is called written, as with 'save'.",
             "Refused with, in this order: 1, 15; the console gives it neither reason.",
         ],
     },
@@ -204,6 +211,8 @@ pub const COMMANDS: [Topic; 25] = [
             "Its sessions are closed, and its processes saved ones, in the file's order and",
             "with its numbers. Active processes are lost. It has to be the newest image:",
             "after an older one, numbers that were spent since are good again.",
+            "An image in the old layout has no second words, and they are then zero: write",
+            "the image again at once.",
             "Refused with 14 where the file is no image; the module stays as it was.",
             "Else a new history begins.",
         ],
@@ -285,7 +294,7 @@ pub fn topic(name: &str) -> Option<&'static Topic> {
 pub fn overview(out: &mut impl Write) -> io::Result<()> {
     writeln!(
         out,
-        "A line is a call; the answer is document 01's number and its name."
+        "A line is a call; the answer is its number in documents 01 and 02 and its name."
     )?;
     for topic in &COMMANDS {
         writeln!(out, "  {:<35}{}", topic.form, topic.short)?;

@@ -3,23 +3,30 @@
 use crate::write::{Given, Written};
 use crate::{bytes, formats, help};
 use slavotuk::entries::RawClaim;
-use slavotuk::{Call, Credential, FULL_LISTING_LENGTH, NAME_LENGTH};
+use slavotuk::{Call, Credential, Grants, FULL_LISTING_LENGTH, NAME_LENGTH};
 use std::path::PathBuf;
 
 /// The longest buffer that a listing is lent here.
 pub const LONGEST_ROOM: u32 = 65536;
 
-/// A fresh module's credentials: the word of each that is provisioned.
-pub type Words = [Option<u32>; Credential::COUNT];
+/// What the credentials of a fresh module are granted.
+pub type AllGrants = [Grants; Credential::COUNT];
+
+const NOBODY: AllGrants = [Grants::UNPROVISIONED; Credential::COUNT];
 
 /// Document 01's module: credentials 0 (word 15) and 1 (word 16).
-pub const DOCUMENT_01: Words = [Some(15), Some(16), None, None, None, None, None, None];
+pub const DOCUMENT_01: AllGrants = {
+    let mut grants = NOBODY;
+    grants[0] = Grants::of_word(15);
+    grants[1] = Grants::of_word(16);
+    grants
+};
 
 /// What a line asks for.
 #[derive(Debug, PartialEq)]
 pub enum Command {
     /// A fresh module.
-    Fresh(Words),
+    Fresh(AllGrants),
     /// A call of the module.
     Call(Call),
     /// A series of records.
@@ -98,7 +105,7 @@ pub fn read(line: &str) -> Result<Option<Command>, String> {
 /// The command of this name, which is one of those that have a help topic.
 fn command(name: &str, words: &mut Reader) -> Result<Command, String> {
     Ok(match name {
-        "fresh" => Command::Fresh(words.grant_words()?),
+        "fresh" => Command::Fresh(words.grants()?),
         "records" => Command::Records(words.records()?),
         "show" => Command::Show {
             whole: words.whole()?,
@@ -409,33 +416,45 @@ impl<'a> Reader<'a> {
         Ok(records)
     }
 
-    /// The pairs of a fresh module.
-    fn grant_words(&mut self) -> Result<Words, String> {
-        let mut words = Words::default();
+    /// The grants of a fresh module.
+    fn grants(&mut self) -> Result<AllGrants, String> {
+        let mut grants = NOBODY;
         match self.rest.trim() {
             "" => return Ok(DOCUMENT_01),
             "none" => self.rest = "",
             _ => {}
         }
         while !self.is_done() {
-            let (credential, word) = pair(self.plain("pair")?)?;
-            if words[credential].replace(word).is_some() {
+            let (credential, given) = pair(self.plain("pair")?)?;
+            if grants[credential].is_provisioned() {
                 return Err(format!("credential {credential} is given twice"));
             }
+            grants[credential] = given;
         }
-        Ok(words)
+        Ok(grants)
     }
 }
 
-/// A credential and its word. A fresh module is made of eight pairs, so there is no way to hand in a ninth.
-fn pair(text: &str) -> Result<(usize, u32), String> {
-    let (credential, word) = text
-        .split_once('=')
-        .ok_or_else(|| format!("{} is no CREDENTIAL=WORD", quoted(text)))?;
-    let credential = number_of(credential).map_err(about("credential"))?;
+/// The grants of a provisioned credential, as WORD or WORD/SECOND: in a fresh module there is no mark that a second word left out could clear.
+fn words(text: &str) -> Result<Grants, String> {
+    let (word, second) = text.split_once('/').unwrap_or((text, "0"));
     let word = number_of(word).map_err(about("word"))?;
+    let second = number_of(second).map_err(about("second"))?;
+    Ok(Grants::of_words(word, second))
+}
+
+/// A credential and its words. A fresh module is made of eight pairs, so there is no way to hand in a ninth.
+fn pair(text: &str) -> Result<(usize, Grants), String> {
+    let (credential, given) = text.split_once('=').ok_or_else(|| {
+        format!(
+            "{} is no CREDENTIAL=WORD or CREDENTIAL=WORD/SECOND",
+            quoted(text)
+        )
+    })?;
+    let credential = number_of(credential).map_err(about("credential"))?;
+    let given = words(given)?;
     match Credential::try_from(credential) {
-        Ok(credential) => Ok((credential.number().into(), word)),
+        Ok(credential) => Ok((credential.number().into(), given)),
         Err(_) => Err(format!(
             "credential {credential}: a module has credentials 0 to 7"
         )),

@@ -1,4 +1,4 @@
-//! A console for the management login module. A line is a call; the answer is document 01's number and its name.
+//! A console for the management login module. A line is a call; the answer is its number in documents 01 and 02 and that number's name.
 
 #![forbid(unsafe_code)]
 
@@ -35,8 +35,9 @@ const GREETING: &str =
 const USAGE: &str = "\
 usage: slavotuk-console [--help | --version]
 
-Reads calls from standard input, one on a line, and answers each with document
-01's number and its name. At a terminal it prompts; other input is a script.
+Reads calls from standard input, one on a line, and answers each with its number
+in documents 01 and 02 and that number's name. At a terminal it prompts; other
+input is a script.
 
 A bad line gets a message on standard error, and the console goes on.
 Exit code: 0 where no line was bad, 1 where one was, 2 for bad arguments.

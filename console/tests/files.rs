@@ -72,6 +72,7 @@ fn damaged_files_change_nothing() {
         (0, 0),
         (credential_at(0) + PROVISIONED, 2),
         (credential_at(2) + WORD, 1),
+        (credential_at(2) + SECOND, 1),
         (COUNT_AT, 2),
         (COUNT_AT, 13),
         (place_at(0) + OWNER, 2),
@@ -86,7 +87,8 @@ fn damaged_files_change_nothing() {
         not_loaded(&file, "its bytes hold no state, 1 argument");
         assert_eq!(fs::read(&file).unwrap(), damaged);
     }
-    for length in [STATE_LENGTH - 1, 0] {
+    // a state had 681 bytes before each credential had a second word
+    for length in [STATE_LENGTH - 1, 681, 0] {
         fs::write(&file, &whole[..length]).unwrap();
         let why = format!("it has {length} bytes, and a state {STATE_LENGTH}");
         not_loaded(&file, &why);

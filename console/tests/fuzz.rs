@@ -21,7 +21,7 @@ impl Chance {
     }
 }
 
-const WORDS: [&str; 75] = [
+const WORDS: [&str; 78] = [
     "open",
     "close",
     "select",
@@ -93,6 +93,9 @@ const WORDS: [&str; 75] = [
     "\"\"",
     "0=15",
     "1=16",
+    "2=15/15",
+    "3=15/",
+    "/",
     "8e00ffff",
     "0e000000",
     "é",
@@ -100,7 +103,7 @@ const WORDS: [&str; 75] = [
 ];
 
 /// The start of a line that could be a good one.
-const HEADS: [&str; 20] = [
+const HEADS: [&str; 22] = [
     "open 0",
     "open 1",
     "select 0 0x10",
@@ -112,6 +115,8 @@ const HEADS: [&str; 20] = [
     "record 0 elevated",
     "list 0 user 0 0 yes",
     "kill 0 user 0",
+    "set-word 0 user 0 0 yes 1",
+    "set-word 0 elevated 1 31",
     "elevate 0 1 Q",
     "end 0 0 0 yes",
     "continue 1 0 P",
@@ -193,6 +198,7 @@ fn with_changed_bytes(example: &[u8]) {
 #[test]
 fn good_lines_with_a_changed_byte() {
     with_changed_bytes(include_bytes!("../../examples/worked-steps.txt"));
+    with_changed_bytes(include_bytes!("../../examples/elevation.txt"));
     with_changed_bytes(include_bytes!("../../examples/messages.txt"));
 }
 

@@ -6,8 +6,8 @@ use common::*;
 use slavotuk::layout::image::*;
 use std::fs::{self, File};
 
-/// Document 01's first eleven steps in short: P is saved at number 3, and R active.
-const SETUP: &str = "open 0\nselect 0 0x10\nstart 0 0 P\nlist 0 user 0 0 yes 0\nlist 0 user 0 1 yes 0\nend 0 0 2 yes keep\nstart 0 1 R\n";
+/// Document 01's first eleven steps in short: P is saved at number 3, and R active. Credential 1 has class 4 only under elevation.
+const SETUP: &str = "open 0\nselect 0 0x10\nstart 0 0 P\nset-word 0 user 0 0 yes 1 16 16\nlist 0 user 0 1 yes 0\nend 0 0 2 yes keep\nstart 0 1 R\n";
 
 /// The bytes of an image with one row, and with none.
 const ONE_ROW: usize = row_at(1);
@@ -24,6 +24,7 @@ fn image() -> Vec<u8> {
     image.resize(ROWS_AT, 0);
     image[word_at(0)] = 15;
     image[word_at(1)] = 16;
+    image[second_at(1)] = 16;
     image.extend([0, 0, 3, 0]);
     image.extend([0; 16]);
     image.extend([0x11; 32]);
@@ -51,7 +52,7 @@ sessions
   3  closed
 credentials
   0  word 0x0000000f  0 list others, 1 kill others, 2 save own, 3 set words
-  1  word 0x00000010  device 4
+  1  word 0x00000010/0x00000010  only elevated: device 4
   2 to 7  not provisioned
 processes, 1 of 12
   place  credential  type              session  next number  name
@@ -138,7 +139,7 @@ fn an_older_image_makes_old_numbers_good_again() {
         .filter(|line| line.contains("AUTH_PROC") || line.contains("out of turn"))
         .collect();
     assert_eq!(
-        answers[2..],
+        answers[1..],
         [
             "AUTH_PROCESSES, 0 rows",
             "9 out of turn",
@@ -199,6 +200,60 @@ fn the_example_goes_through_two_power_cycles() {
     assert_eq!(folder.names(), ["board.image"]);
 }
 
+/// An image that version 2 has written: words 15 and 20, P saved at number 3 and Q at 300.
+const OLD_IMAGE: &str = concat!(env!("CARGO_MANIFEST_DIR"), "/../examples/old-board.image");
+
+#[test]
+fn an_image_in_the_old_layout_is_restored_and_written_in_the_new() {
+    let folder = Folder::new("old-layout");
+    let (file, copy) = (folder.file("image"), folder.file("copy"));
+    let old = fs::read(OLD_IMAGE).unwrap();
+    assert_eq!(old.len(), old_row_at(2));
+    fs::write(&copy, &old).unwrap();
+    let out = good(format!("restore {copy}\nshow names\nimage {file}\n"));
+    let told = format!("0 done\nrestored from {} bytes\n", old_row_at(2));
+    assert!(out.starts_with(&told), "{out}");
+    let drawn = "\
+credentials
+  0  word 0x0000000f  0 list others, 1 kill others, 2 save own, 3 set words
+  1  word 0x00000014  2 save own, device 4
+  2 to 7  not provisioned
+processes, 2 of 12
+  place  credential  type              session  next number  name
+      0           0  saved user              -            3  00*16+11*32  P
+      1           1  saved user              -          300  00*16+22*32  Q
+";
+    let written = format!("0 done\nwritten {} bytes\n", row_at(2));
+    assert_eq!(from(&out, "credentials"), format!("{drawn}{written}"));
+
+    let zeros = [0; ROWS_AT - SECONDS_AT];
+    let mut new = [&old[..SECONDS_AT], &zeros, &old[OLD_ROWS_AT..]].concat();
+    new[ROWS_OFFSET_AT] = ROWS_AT as u8;
+    assert_eq!(fs::read(&file).unwrap(), new);
+    assert_eq!(fs::read(&copy).unwrap(), old);
+}
+
+/// Each layout has its lengths: the offset of the other one makes no image of it.
+#[test]
+fn an_old_image_with_a_changed_byte_is_refused() {
+    let folder = Folder::new("old-damaged");
+    let file = folder.file("image");
+    for (at, byte) in [
+        (ROWS_OFFSET_AT, ROWS_AT as u8),
+        (ROWS_OFFSET_AT, OLD_ROWS_AT as u8 - 1),
+        (ROW_COUNT_AT, 1),
+        (word_at(2), 1),
+        (old_row_at(0) + OWNER, 2),
+        (old_row_at(0) + NEXT, 0),
+    ] {
+        let mut damaged = fs::read(OLD_IMAGE).unwrap();
+        assert_ne!(damaged[at], byte);
+        damaged[at] = byte;
+        fs::write(&file, &damaged).unwrap();
+        not_restored(&file, &no_image(old_row_at(2)));
+    }
+}
+
 /// What is said of a file of so many bytes that are no image.
 fn no_image(length: usize) -> String {
     format!("the file's {length} bytes are no image")
@@ -233,7 +288,9 @@ fn a_file_that_is_no_image_is_refused() {
         (ROW_COUNT_AT, 0),
         (ROW_COUNT_AT, 2),
         (ROWS_OFFSET_AT, ROWS_AT as u8 - 1),
+        (ROWS_OFFSET_AT, OLD_ROWS_AT as u8),
         (word_at(2), 1),
+        (second_at(2), 1),
         (row_at(0) + OWNER, 2),
         (row_at(0) + OWNER + 1, 1),
         (row_at(0) + NEXT, 0),
@@ -264,6 +321,8 @@ fn a_file_of_another_length_is_refused() {
     for length in [
         0,
         1,
+        old_row_at(0),
+        old_row_at(1),
         NO_ROW - 1,
         NO_ROW,
         ONE_ROW - 1,

@@ -9,7 +9,7 @@ use std::process::Stdio;
 const SETUP: &str = "open 0\nselect 0 0x10\nstart 0 0 P\nstart 0 1 R\n";
 
 /// Bad lines, each with a part of its message.
-const BAD: [(&str, &str); 53] = [
+const BAD: [(&str, &str); 60] = [
     ("opne 3", "no command 'opne'"),
     ("OPEN 3", "no command 'OPEN'"),
     ("\u{1b}[31m", "no command '\\u{1b}[31m'"),
@@ -65,14 +65,25 @@ const BAD: [(&str, &str); 53] = [
     ("kill 0 user 0 0 yes", "name is missing"),
     ("set-word 0 user 0 0 yes 1", "word is missing"),
     (
-        "set-word 0 user 0 0 yes 1 4294967296",
+        "set-word 0 user 0 0 yes 1 4294967296 0",
         "word: '4294967296' is over 32 bits",
     ),
+    // a second word left out would clear marks
+    ("set-word 0 user 0 0 yes 1 16", "second is missing"),
+    ("set-word 0 elevated 1 16", "second is missing"),
+    (
+        "set-word 0 user 0 0 yes 1 16 4294967296",
+        "second: '4294967296' is over 32 bits",
+    ),
+    ("set-word 0 user 0 0 yes 1 16 0 0", "'0' is too much"),
     ("records 0 1 3 2 4", "3 comes after 2"),
     ("fresh 8=1", "credential 8: a module has credentials 0 to 7"),
     ("fresh 0=1 0=2", "credential 0 is given twice"),
     ("fresh 0", "'0' is no CREDENTIAL=WORD"),
     ("fresh 0=", "word: '' is no number"),
+    ("fresh 0=15/", "second: '' is no number"),
+    ("fresh 0=/4", "word: '' is no number"),
+    ("fresh 0=15/4/2", "second: '4/2' is no number"),
     ("fresh none 0=1", "'none' is no CREDENTIAL=WORD"),
     ("request 65536", "wanted: 65536 is over 16 bits"),
     ("read", "message is missing"),
@@ -155,16 +166,17 @@ sessions
   3  closed
 credentials
   0  word 0x0000000f  0 list others, 1 kill others, 2 save own, 3 set words
-  1  word 0xc0000114  2 save own, device 4, 8, 30, 31
+  1  word 0xc0000114/0x80000102  2 save own, device 4, 30; only elevated: device 8, 31
   5  word 0x00000000  no class
-  2 to 4, 6, 7  not provisioned
+  6  word 0x0000000f/0x00000004  0 list others, 1 kill others, 3 set words; only elevated: 2 save own
+  2 to 4, 7  not provisioned
 processes, 3 of 12; of their names bytes 0, 1, 16, 46, 47
   place  credential  type              session  next number  name
       0           0  active user             0            1  0000..11..1111  P
       1           1  active elevation        0            -  0000..22..2222  Q
       2           1  saved user              -            1  0000..11..1112  R
 ";
-    let script = "fresh 0=15 1=0 5=0\nopen 0\nselect 0 0x10\nopen 1\nstart 0 0 P\nset-word 0 user 0 0 yes 1 0xc0000114\nelevate 0 1 Q yes\n\
+    let script = "fresh 0=15 1=0 5=0 6=15/4\nopen 0\nselect 0 0x10\nopen 1\nstart 0 0 P\nset-word 0 user 0 0 yes 1 0xc0000114 0x80000102\nelevate 0 1 Q yes\n\
                   start 0 1 R\nend 0 1 0 yes keep\n";
     let out = good(format!("{script}show\n"));
     assert_eq!(

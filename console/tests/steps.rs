@@ -1,19 +1,62 @@
-//! Document 01's thirteen steps, and what else a call can be handed.
+//! Document 01's thirteen steps, those of document 02's order 7, and what else a call can be handed.
 
 mod common;
 
 use common::*;
 
-#[test]
-fn worked_steps_are_answered_as_document_01_says() {
-    let folder = concat!(env!("CARGO_MANIFEST_DIR"), "/../examples/");
-    let script = std::fs::read(format!("{folder}worked-steps.txt")).unwrap();
-    let expected = std::fs::read_to_string(format!("{folder}worked-steps.out")).unwrap();
-    let out = good(script);
+const EXAMPLES: &str = concat!(env!("CARGO_MANIFEST_DIR"), "/../examples/");
+
+/// What an example is to print.
+fn expected(example: &str) -> String {
+    std::fs::read_to_string(format!("{EXAMPLES}{example}.out")).unwrap()
+}
+
+#[track_caller]
+fn prints_what_is_expected(example: &str) {
+    let script = std::fs::read(format!("{EXAMPLES}{example}.txt")).unwrap();
+    let (out, expected) = (good(script), expected(example));
     for (at, (line, wanted)) in out.lines().zip(expected.lines()).enumerate() {
         assert_eq!(line, wanted, "line {}", at + 1);
     }
     assert_eq!(out, expected);
+}
+
+/// The numbers in the history at an example's end.
+fn numbers(example: &str) -> Vec<u32> {
+    let expected = expected(example);
+    let history = expected.split_once("\nsince ").unwrap().1;
+    let number = |line: &str| -> u32 {
+        let answer = line.rsplit_once(": ").unwrap().1;
+        answer.split(' ').next().unwrap().parse().unwrap()
+    };
+    history.lines().skip(1).map(number).collect()
+}
+
+#[test]
+fn worked_steps_are_answered_as_document_01_says() {
+    prints_what_is_expected("worked-steps");
+}
+
+#[test]
+fn the_steps_of_order_7_are_answered_as_expected() {
+    prints_what_is_expected("elevation");
+}
+
+/// The numbers of the eight steps of order 7, apart from the file of expected output.
+const STATED_OF_ORDER_7: [&[u32]; 8] = [
+    &[0, 0, 0, 0, 0],
+    &[0, 18, 9, 10, 10, 0, 8, 1],
+    &[0, 18, 18, 15, 10],
+    &[6, 6, 18],
+    &[18, 18, 10, 5],
+    &[0, 5, 0, 0, 18],
+    &[15, 0, 0, 10, 0, 0, 18],
+    &[0, 6, 0],
+];
+
+#[test]
+fn the_steps_of_order_7_have_the_stated_numbers() {
+    assert_eq!(numbers("elevation"), STATED_OF_ORDER_7.concat());
 }
 
 /// The numbers that document 01 states in its steps, apart from the file of expected output. Document 02 corrects the numbers of the claims, and no answer.
@@ -33,14 +76,7 @@ const STATED: [&[u32]; 11] = [
 
 #[test]
 fn worked_steps_have_the_stated_numbers() {
-    let folder = concat!(env!("CARGO_MANIFEST_DIR"), "/../examples/");
-    let expected = std::fs::read_to_string(format!("{folder}worked-steps.out")).unwrap();
-    let history = expected.split_once("since the start").unwrap().1;
-    let number = |line: &str| -> u32 {
-        let answer = line.rsplit_once(": ").unwrap().1;
-        answer.split(' ').next().unwrap().parse().unwrap()
-    };
-    let numbers: Vec<u32> = history.lines().skip(1).map(number).collect();
+    let numbers = numbers("worked-steps");
     let stated = STATED.concat();
     assert_eq!(numbers[..stated.len()], stated);
     // step 12: 4 calls for sessions 2 and 3, 12 for the processes, then 11, 0, 0; step 13, by an accepted record and by a refused one; the relay
@@ -80,7 +116,7 @@ fn wrong_values_are_the_modules_to_answer() {
         "list 0 user 1 0 yes 65534",
         "list 0 user 1 0 yes 65536",
         "kill 0 user 1 0 yes 00*47",
-        "set-word 0 user 1 0 yes 8 1",
+        "set-word 0 user 1 0 yes 8 1 0",
     ];
     for line in wrong {
         let lines = answers(&format!("{setup}{line}\n"));
@@ -111,7 +147,7 @@ fn names_have_several_forms() {
 
 #[test]
 fn calls_reach_the_call_they_name() {
-    let script = "open 0\nselect 0 16\nstart 0 0 P\nelevate 0 1 Q no\nelevate 0 1 Q yes\nset-word 0 user 0 0 yes 1 0x80000000\n\
+    let script = "open 0\nselect 0 16\nstart 0 0 P\nelevate 0 1 Q no\nelevate 0 1 Q yes\nset-word 0 user 0 0 yes 1 0x80000000 0\n\
                   record 0 elevated 31\ndrop 0\ndrop 0\nend 0 0 1 yes keep\ncontinue 0 0 P\nend 0 0 2 yes remove\ncontinue 0 0 P\nclose 0\nclose 0\n";
     let numbers = [0, 0, 0, 8, 0, 0, 0, 0, 6, 0, 0, 0, 6, 0, 2];
     let lines = answers(script);

@@ -1,7 +1,7 @@
 /*
- * A small host of the module: it makes a fresh one, starts two processes, sends a record and its replay and one that is not
- * granted, and prints the list of processes as a console would get it. Then it saves a process and goes through a power cycle.
- * Every answer is printed as its number and name.
+ * A small host of the module: it makes a fresh one, starts two processes, sends a record and its replay, one that is not
+ * granted and one that is granted only under elevation, and prints the list of processes as a console would get it. Then it
+ * saves a process and goes through a power cycle. Every answer is printed as its number and name.
  */
 #include <stdint.h>
 #include <stdio.h>
@@ -13,6 +13,9 @@
 enum { EXIT_USAGE = 2 };
 
 enum { SESSION = 0, VERDICT_YES = 1 };
+
+/* This device's operations: which class is what is for the host to say. */
+enum { READ_SENSORS = SLAVOTUK_CLASS_DEVICE_FIRST, WRITE_FLASH };
 
 static const char *name_of_type(uint8_t type)
 {
@@ -39,13 +42,18 @@ static void make_name(uint8_t name[SLAVOTUK_NAME_SIZE], uint8_t last)
     name[SLAVOTUK_NAME_SIZE - 1] = last;
 }
 
-/* Credential 0 has the module's own four classes (word 15), credential 1 the first device operation (word 16). */
+/*
+ * Credential 0 has the module's own four classes (word 15), credential 1 two device operations (word 0x30), the second of which
+ * only under elevation (second word 0x20).
+ */
 static void make_module(uint8_t state[SLAVOTUK_STATE_SIZE])
 {
     const uint8_t provisioned[SLAVOTUK_CREDENTIALS] = {1, 1};
-    const uint32_t words[SLAVOTUK_CREDENTIALS] = {15, 16};
+    const uint32_t words[SLAVOTUK_CREDENTIALS] = {15, 1u << READ_SENSORS | 1u << WRITE_FLASH};
+    const uint32_t seconds[SLAVOTUK_CREDENTIALS] = {0, 1u << WRITE_FLASH};
     expect("fresh module",
-           slavotuk_fresh(state, SLAVOTUK_STATE_SIZE, provisioned, SLAVOTUK_CREDENTIALS, words, SLAVOTUK_CREDENTIALS),
+           slavotuk_fresh(state, SLAVOTUK_STATE_SIZE, provisioned, SLAVOTUK_CREDENTIALS, words, SLAVOTUK_CREDENTIALS, seconds,
+                          SLAVOTUK_CREDENTIALS),
            SLAVOTUK_DONE);
 }
 
@@ -82,11 +90,24 @@ static void send_record(uint8_t state[SLAVOTUK_STATE_SIZE], const char *what, ui
  */
 static void send_records(uint8_t state[SLAVOTUK_STATE_SIZE])
 {
-    send_record(state, "record, credential 1, number 0", 0, SLAVOTUK_CLASS_DEVICE_FIRST, SLAVOTUK_DONE);
-    send_record(state, "the same record again", 0, SLAVOTUK_CLASS_DEVICE_FIRST, SLAVOTUK_REFUSED_OUT_OF_TURN);
+    send_record(state, "record, credential 1, number 0", 0, READ_SENSORS, SLAVOTUK_DONE);
+    send_record(state, "the same record again", 0, READ_SENSORS, SLAVOTUK_REFUSED_OUT_OF_TURN);
     send_record(state, "number 1, a class not granted", 1, SLAVOTUK_CLASS_DEVICE_LAST, SLAVOTUK_REFUSED_NOT_GRANTED);
     send_record(state, "the same record again", 1, SLAVOTUK_CLASS_DEVICE_LAST, SLAVOTUK_REFUSED_OUT_OF_TURN);
-    send_record(state, "record, credential 1, number 2", 2, SLAVOTUK_CLASS_DEVICE_FIRST, SLAVOTUK_DONE);
+    send_record(state, "record, credential 1, number 2", 2, READ_SENSORS, SLAVOTUK_DONE);
+}
+
+/* A plain claim may not write the flash, and its number is spent. An elevated claim may, and has no number. */
+static void write_flash(uint8_t state[SLAVOTUK_STATE_SIZE])
+{
+    uint8_t name[SLAVOTUK_NAME_SIZE];
+    send_record(state, "number 3, write the flash", 3, WRITE_FLASH, SLAVOTUK_REFUSED_ONLY_ELEVATED);
+    make_name(name, 0x13);
+    expect("elevate, credential 1",
+           slavotuk_elevate(state, SLAVOTUK_STATE_SIZE, SESSION, 1, name, sizeof name, VERDICT_YES), SLAVOTUK_DONE);
+    expect("elevated, write the flash",
+           slavotuk_record(state, SLAVOTUK_STATE_SIZE, SESSION, SLAVOTUK_CLAIM_ELEVATED, 0, 0, 0, WRITE_FLASH), SLAVOTUK_DONE);
+    expect("drop the elevation", slavotuk_drop(state, SLAVOTUK_STATE_SIZE, SESSION), SLAVOTUK_DONE);
 }
 
 /* The console's request, as it goes over the wire and arrives: the wanted credential. */
@@ -145,10 +166,7 @@ static void restore_module(uint8_t state[SLAVOTUK_STATE_SIZE], const uint8_t *fl
     memset(state, 0xff, SLAVOTUK_STATE_SIZE);
     expect("restore the module", slavotuk_restore(state, SLAVOTUK_STATE_SIZE, flash, length), SLAVOTUK_DONE);
     open_session(state);
-    expect("record, credential 1, number 3",
-           slavotuk_record(state, SLAVOTUK_STATE_SIZE, SESSION, SLAVOTUK_CLAIM_USER, 1, 3, VERDICT_YES,
-                           SLAVOTUK_CLASS_DEVICE_FIRST),
-           SLAVOTUK_REFUSED_NO_PROCESS);
+    send_record(state, "record, credential 1, number 4", 4, READ_SENSORS, SLAVOTUK_REFUSED_NO_PROCESS);
 }
 
 /* Credential 0 saves its process under its number 1. After a power cycle it goes on with number 2. */
@@ -176,6 +194,7 @@ static void run(void)
     open_session(state);
     start_processes(state);
     send_records(state);
+    write_flash(state);
     print_list(state);
     cycle_power(state);
 }

@@ -34,6 +34,9 @@ macro_rules! printed {
     ($f:ident $value:ident word: u32) => {
         write!($f, " word {:#x}", $value)
     };
+    ($f:ident $value:ident second: u32) => {
+        write!($f, " second {:#x}", $value)
+    };
     ($f:ident $value:ident $name:ident: &[u32]) => {
         write!($f, " {} {:x?}", stringify!($name), $value)
     };
@@ -72,7 +75,7 @@ macro_rules! call {
         /// let mut state = [0; STATE_LENGTH];
         /// let mut provisioned = vec![0; 8];
         /// provisioned[1] = 1;
-        /// let mut call: Call = Call::Fresh { provisioned, words: vec![16; 8] };
+        /// let mut call: Call = Call::Fresh { provisioned, words: vec![16; 8], seconds: vec![0; 8] };
         /// assert_eq!(call.make(&mut state), 0);
         ///
         /// let mut call: Call = Call::Open { session: 4 };
@@ -84,6 +87,9 @@ macro_rules! call {
         /// assert_eq!(call.make(&mut state), Refusal::Session.number());
         /// assert_eq!(call, Call::List { session: 0, claim, wanted: 65535, response: vec![0xaa; 4], length: 0 });
         /// assert_eq!(call.handed_out(), " response (4 bytes aa*4) length 0x0");
+        ///
+        /// let call: Call = Call::SetWord { session: 0, claim: RawClaim::ELEVATED, target: 1, word: 0x30, second: 0x20 };
+        /// assert_eq!(call.to_string(), "set_word session 0 elevated target 1 word 0x30 second 0x20");
         /// ```
         // the fields have the parameters' names
         #[allow(missing_docs)]

@@ -1,4 +1,4 @@
-//! The entries of the archive as they are: numbers and byte slices in, one of document 01's numbers out.
+//! The entries of the archive as they are: numbers and byte slices in, one number out, 0 or that of a refusal.
 //!
 //! Every function takes every value. [`crate::Module`] has the same calls with types; these are for whoever has a state of their own to lend, or values
 //! that may be wrong. A refusal leaves the state and every buffer as they were, but for the number of a user's claim that has passed its check, as

@@ -7,15 +7,18 @@ use std::ops::Deref;
 /// How many bytes the image of twelve saved processes has, the longest that there is.
 pub const FULL_IMAGE_LENGTH: usize = layout::image::FULL_LENGTH;
 
-/// What a module keeps while it is without power, as the bytes that are to be kept: its credentials, their words, and its saved processes with their next
+/// What a module keeps while it is without power, as the bytes that are to be kept: its credentials, both words of each, and its saved processes with their next
 /// numbers. [`Module::image`](crate::Module::image) writes one, and [`Module::restore`](crate::Module::restore) makes a module from its bytes.
 ///
 /// **Lost with the power** is what does not stand in it: that sessions were open, and every active process, also one that was saved before and continued.
 ///
-/// **The flash has to return the newest.** The image changes where a process is saved or continued, a saved one killed, or a word set, and where a module is made,
+/// **The flash has to return the newest.** The image changes where a process is saved or continued, a saved one killed, or words set, and where a module is made,
 /// fresh or from another image: it is to be written again after each of these calls, before the answer goes out and before the next call. No other call changes it,
 /// and none that is refused. From an older one, numbers that were spent since are good again, processes that were killed since stand again, and words are the
 /// old ones.
+///
+/// **Two layouts are read.** An image of before version 3 has no second words, and makes a module in which they are zero. What is written is always in the new
+/// layout: whoever has restored an old image writes the new one at once.
 ///
 /// ```
 /// use slavotuk::{layout, Credential, Grants, Module, Name, Phase, Refusal, Session, Standing, UserClaim, VERSION_1_0};

@@ -9,13 +9,14 @@
 //!
 //! ```
 //! use slavotuk::{
-//!     Class, Credential, Grants, Kind, Module, Name, Refusal, Session, UserClaim, Wanted, FULL_LISTING_LENGTH, VERSION_1_0,
+//!     Claim, Class, Credential, Grants, Kind, Module, Name, Refusal, Session, UserClaim, Wanted, FULL_LISTING_LENGTH,
+//!     VERSION_1_0,
 //! };
 //!
-//! // credentials 0 and 1 are provisioned: 0 has the module's own classes, 1 has device class 4
+//! // credentials 0 and 1 are provisioned: 0 has the module's own classes, 1 has device class 4, and 6 only under elevation
 //! let mut grants = [Grants::UNPROVISIONED; 8];
 //! grants[0] = Grants::of_word(15);
-//! grants[1] = Grants::of_word(16);
+//! grants[1] = Grants::of_words(0x50, 0x40);
 //! let mut module = Module::fresh(&grants)?;
 //!
 //! let session = Session::try_from(0)?;
@@ -39,6 +40,13 @@
 //! assert_eq!(module.record(session, claim, class), Err(Refusal::OutOfTurn));
 //! module.record(session, UserClaim { number: 2, ..claim }, class)?;
 //!
+//! // so does one of a class that is granted only under elevation; under one it is done, and has no number
+//! let (claim, class) = (UserClaim { number: 3, ..claim }, Class::try_from(6)?);
+//! assert_eq!(module.record(session, claim, class), Err(Refusal::OnlyElevated));
+//! module.elevate(session, operator, &Name([0x33; 48]), true)?;
+//! module.record(session, Claim::Elevated, class)?;
+//! module.drop_elevation(session)?;
+//!
 //! // the manager kills the operator's process, and lists what is left
 //! let claim = UserClaim { credential: manager, number: 0, verdict: true };
 //! module.kill(session, claim, &Name([0x22; 48]))?;
@@ -57,9 +65,9 @@
 //!
 //! | Item | What it is |
 //! |---|---|
-//! | [`Module`] | the calls, and what the state holds: [`Phase`], [`Grants`], [`Process`] |
-//! | [`Session`], [`Credential`], [`Class`], [`Name`], [`Claim`], [`Wanted`] | what a call is handed |
-//! | [`Refusal`], [`answered`] | document 01's numbers 1 to 15, and those of later archives |
+//! | [`Module`] | the calls, and what the state holds: [`Phase`], [`Grants`] with their [`Lookup`], [`Process`] |
+//! | [`Session`], [`Credential`], [`Class`], [`Name`], [`Claim`], [`Wanted`], [`Words`] | what a call is handed |
+//! | [`Refusal`], [`answered`] | the numbers 1 to 15 of document 01 and 18 of document 02, and those of later archives |
 //! | [`Image`] | what a module keeps while it is without power, what it loses, and what the flash has to do |
 //! | [`Listing`], [`read_request`], [`write_request`] | the listing messages, for consoles too |
 //! | [`message`] | all messages of 004 clause 9.2 |
@@ -97,6 +105,7 @@ pub use module::{Module, STATE_LENGTH, VERSION_1_0};
 pub use numbers::{answered, Refusal, UnknownNumber};
 pub use signatures::{Signature, SIGNATURES};
 pub use values::{
-    Claim, Class, Credential, Grants, Kind, Name, Session, UserClaim, Wanted, NAME_LENGTH,
+    Claim, Class, Credential, Grants, Kind, Lookup, Name, Session, UserClaim, Wanted, Words,
+    NAME_LENGTH,
 };
 pub use view::{Phase, Process, Processes, Standing};

@@ -3,7 +3,7 @@
 use crate::entries::{self, RawClaim};
 use crate::{
     answered, layout, Claim, Class, Credential, Grants, Image, Listing, Name, Refusal, Session,
-    UserClaim, Wanted, WireCredential, FULL_IMAGE_LENGTH,
+    UserClaim, Wanted, WireCredential, Words, FULL_IMAGE_LENGTH,
 };
 
 /// How many bytes a state has.
@@ -46,8 +46,8 @@ impl Module {
         Ok(Module { state })
     }
 
-    /// The module that an image makes: its credentials and words, every session closed, and its processes, saved, in their order and with their next numbers.
-    /// [`Refusal::Message`] where the bytes are no image. [`Image`] says what was lost with the power.
+    /// The module that an image makes, in either layout: its credentials and words, every session closed, and its processes, saved, in their order and with their
+    /// next numbers. [`Refusal::Message`] where the bytes are no image. [`Image`] says what was lost with the power.
     ///
     /// ```
     /// use slavotuk::{Grants, Module, Refusal};
@@ -170,7 +170,8 @@ impl<'a> Module<&'a mut [u8]> {
 fn make_fresh(state: &mut [u8], grants: &[Grants; Credential::COUNT]) -> Result<(), Refusal> {
     let provisioned = grants.map(|grant| grant.is_provisioned().into());
     let words = grants.map(Grants::word);
-    answered(entries::fresh(state, &provisioned, &words))
+    let seconds = grants.map(Grants::second);
+    answered(entries::fresh(state, &provisioned, &words, &seconds))
 }
 
 impl<S: AsRef<[u8]>> Module<S> {
@@ -179,21 +180,21 @@ impl<S: AsRef<[u8]>> Module<S> {
         self.state.as_ref()
     }
 
-    /// The image of the module, to be kept while it is without power. It is never refused by an archive whose images have at most [`FULL_IMAGE_LENGTH`] bytes.
+    /// The image of the module, to be kept while it is without power, in the new layout. It is never refused by an archive whose images have at most [`FULL_IMAGE_LENGTH`] bytes.
     pub fn image(&self) -> Result<Image, Refusal> {
         let mut bytes = [0; FULL_IMAGE_LENGTH];
         let length = self.write_image(&mut bytes)?;
         Ok(Image { bytes, length })
     }
 
-    /// Writes the image of the module to the front of the buffer, and gives its length; later bytes stay as they were. Refusals: room.
+    /// Writes the image of the module to the front of the buffer, in the new layout, and gives its length; later bytes stay as they were. Refusals: room.
     ///
     /// ```
-    /// use slavotuk::layout::image::{word_at, MASK_AT, ROWS_AT};
+    /// use slavotuk::layout::image::{second_at, word_at, MASK_AT, ROWS_AT};
     /// use slavotuk::{Grants, Module, Refusal};
     ///
     /// let mut grants = [Grants::UNPROVISIONED; 8];
-    /// grants[1] = Grants::of_word(16);
+    /// grants[1] = Grants::of_words(48, 32);
     /// let module = Module::fresh(&grants)?;
     ///
     /// let mut buffer = [0xaa; ROWS_AT + 2];
@@ -201,7 +202,8 @@ impl<S: AsRef<[u8]>> Module<S> {
     /// assert_eq!(buffer, [0xaa; ROWS_AT + 2]);
     /// assert_eq!(module.write_image(&mut buffer)?, ROWS_AT);
     /// assert_eq!(buffer[MASK_AT..][..2], [2, 0]);
-    /// assert_eq!(buffer[word_at(1)..][..4], [16, 0, 0, 0]);
+    /// assert_eq!(buffer[word_at(1)..][..4], [48, 0, 0, 0]);
+    /// assert_eq!(buffer[second_at(1)..][..4], [32, 0, 0, 0]);
     /// assert_eq!(buffer[ROWS_AT..], [0xaa; 2]);
     /// # Ok::<(), Refusal>(())
     /// ```
@@ -284,8 +286,8 @@ impl<S: AsMut<[u8]>> Module<S> {
         answered(entries::drop(self.state.as_mut(), session.into()))
     }
 
-    /// Ends the claim's own process: it is saved where `keep` is set, else removed. Refusals: session, no version, the claim's, not granted. The last spends the
-    /// number, and the process stays active.
+    /// Ends the claim's own process: it is saved where `keep` is set, else removed. Refusals: session, no version, the claim's, not granted, only elevated. The last
+    /// two spend the number, and the process stays active. The claim is always a user's, so whoever may save only under elevation can't save.
     pub fn end(&mut self, session: Session, claim: UserClaim, keep: bool) -> Result<(), Refusal> {
         answered(entries::end(
             self.state.as_mut(),
@@ -297,8 +299,8 @@ impl<S: AsMut<[u8]>> Module<S> {
         ))
     }
 
-    /// One record of a device operation. Refusals: argument where the class is the module's own, session, no version, the claim's, not granted. The last spends
-    /// the number.
+    /// One record of a device operation. Refusals: argument where the class is the module's own, session, no version, the claim's, not granted, only elevated. The
+    /// last two spend the number.
     ///
     /// The claim's refusals are, for an elevated claim, no process; for a user's: credential, no process, spent, out of turn, verdict.
     pub fn record(
@@ -317,7 +319,7 @@ impl<S: AsMut<[u8]>> Module<S> {
     }
 
     /// Writes the listing of the wanted processes to the front of the buffer; later bytes stay as they were. Refusals: session, no version, the claim's,
-    /// not granted, room. The last two spend the number.
+    /// not granted, only elevated, room. The last three spend the number.
     ///
     /// A buffer of [`FULL_LISTING_LENGTH`](crate::FULL_LISTING_LENGTH) bytes is long enough for every listing. Whoever tries again with a longer one needs a claim
     /// with the next number:
@@ -360,8 +362,9 @@ impl<S: AsMut<[u8]>> Module<S> {
         Listing::read(buffer.get(..length).unwrap_or_default())
     }
 
-    /// Removes the process of that name. A process that the claim may not kill is answered as one that isn't there. Refusals: session, no version, the
-    /// claim's, no process. The last spends the number, so that a kill that was refused is not good once a process of that name has started.
+    /// Removes the process of that name. A process that the claim may not kill is answered as one that isn't there, also where a user's claim could kill it only
+    /// under elevation. Refusals: session, no version, the claim's, no process. The last spends the number, so that a kill that was refused is not good once a
+    /// process of that name has started.
     pub fn kill(
         &mut self,
         session: Session,
@@ -372,13 +375,13 @@ impl<S: AsMut<[u8]>> Module<S> {
         answered(entries::kill(state, session.into(), raw(claim), &name.0))
     }
 
-    /// Sets the grant word of a credential. Refusals: session, no version, the claim's, not granted, credential. The last two spend the number.
+    /// Sets both words of a credential. Refusals: session, no version, the claim's, not granted, only elevated, credential. The last three spend the number.
     pub fn set_word(
         &mut self,
         session: Session,
         claim: impl Into<Claim>,
         target: Credential,
-        word: u32,
+        words: Words,
     ) -> Result<(), Refusal> {
         let state = self.state.as_mut();
         answered(entries::set_word(
@@ -386,7 +389,8 @@ impl<S: AsMut<[u8]>> Module<S> {
             session.into(),
             raw(claim),
             target.into(),
-            word,
+            words.word,
+            words.second,
         ))
     }
 }

@@ -3,10 +3,10 @@
 use std::fmt;
 use std::num::NonZeroU32;
 
-/// Defines the refusals: each has its number, its name in document 01, and what it says.
+/// Defines the refusals: each has its number, its name, and what it says.
 macro_rules! refusals {
     ($($(#[$doc:meta])* $refusal:ident = $number:literal, $name:literal;)+) => {
-        /// Why a call was refused: document 01's numbers, from 1 on. A refusal leaves the state and the lent buffer as they were, but for the number of a
+        /// Why a call was refused: the numbers of documents 01 and 02, from 1 on. A refusal leaves the state and the lent buffer as they were, but for the number of a
         /// [`UserClaim`](crate::UserClaim) that has passed its check.
         ///
         /// A later archive can refuse with numbers that this list does not have: they are refusals like the others, and keep their number.
@@ -43,7 +43,7 @@ macro_rules! refusals {
                 }
             }
 
-            /// Document 01's name; "unknown" where there is none.
+            /// Its name, document 01's where it has one; "unknown" where there is none.
             pub const fn name(self) -> &'static str {
                 match self {
                     $(Refusal::$refusal => $name,)+
@@ -94,6 +94,8 @@ refusals! {
     Message = 14, "message";
     /// The buffer is too short.
     Room = 15, "room";
+    /// The claim is a user's, and the class is granted only under elevation.
+    OnlyElevated = 18, "only elevated";
 }
 
 /// The number of a [`Refusal::Unknown`]. It can't be made, so that no refusal has two forms.

@@ -1,4 +1,4 @@
-//! What a call is handed: sessions, credentials, classes, names, claims and grants.
+//! What a call is handed: sessions, credentials, classes, names, claims, words and grants.
 
 use crate::Refusal;
 use std::cmp::Ordering;
@@ -124,12 +124,17 @@ impl Class {
     pub const KILL_OTHERS: Class = Class(1);
     /// To save one's own processes.
     pub const SAVE_OWN: Class = Class(2);
-    /// To set grant words.
+    /// To set the words of credentials.
     pub const SET_WORDS: Class = Class(3);
 
     /// Whether it is a device operation: only such a class can be recorded.
     pub const fn is_device(self) -> bool {
         self.0 > Class::SET_WORDS.0
+    }
+
+    /// Whether its bit is set in a word.
+    const fn is_in(self, word: u32) -> bool {
+        word >> self.0 & 1 == 1
     }
 }
 
@@ -237,9 +242,9 @@ impl fmt::Debug for Name {
 
 /// What a user claims: that the record is theirs, that it has this number, and that the key unit said yes or no to its signature.
 ///
-/// A claim that passes its check spends its number, even if the call is refused afterwards: by not granted, by room in a listing, by no process in a kill, by
-/// credential in setting a word. So the next claim has the next number after these, as after a call that is done; where no process or credential came of the
-/// claim's own check, there is no process to go on with. After every other refusal that document 01 has, the number is still the next.
+/// A claim that passes its check spends its number, even if the call is refused afterwards: by not granted, by only elevated, by room in a listing, by no process
+/// in a kill, by credential in setting words. So the next claim has the next number after these, as after a call that is done; where no process or credential
+/// came of the claim's own check, there is no process to go on with. After every other refusal with a name, the number is still the next.
 ///
 /// ```
 /// use slavotuk::{Claim, Credential, UserClaim};
@@ -269,6 +274,26 @@ pub struct UserClaim {
 /// // the session has no elevation
 /// let class = slavotuk::Class::new(4).unwrap();
 /// assert_eq!(module.record(session, Claim::Elevated, class), Err(Refusal::NoProcess));
+/// # Ok::<(), Refusal>(())
+/// ```
+///
+/// A class that is granted only under elevation is refused to a user's claim, also while an elevation stands in its session:
+///
+/// ```
+/// use slavotuk::{Claim, Class, Credential, Grants, Module, Name, Refusal, Session, UserClaim, VERSION_1_0};
+///
+/// let (session, credential, class) = (Session::try_from(0)?, Credential::try_from(1)?, Class::try_from(5)?);
+/// let mut grants = [Grants::UNPROVISIONED; 8];
+/// grants[1] = Grants::of_words(0x30, 0x20); // classes 4 and 5, of which 5 only under elevation
+/// let mut module = Module::fresh(&grants)?;
+/// module.open(session)?;
+/// module.select(session, VERSION_1_0)?;
+/// module.start(session, credential, &Name([0x11; 48]))?;
+/// module.elevate(session, credential, &Name([0x22; 48]), true)?;
+///
+/// let user = UserClaim { credential, number: 0, verdict: true };
+/// assert_eq!(module.record(session, user, class), Err(Refusal::OnlyElevated));
+/// module.record(session, Claim::Elevated, class)?;
 /// # Ok::<(), Refusal>(())
 /// ```
 #[derive(Clone, Copy, Debug, PartialEq, Eq, Hash)]
@@ -348,28 +373,72 @@ impl fmt::Display for Kind {
     }
 }
 
-/// What a credential is granted: nothing where it is not provisioned, else the classes of its grant word.
+/// Both words of a provisioned credential. They are set together: whoever wants to keep one hands in what it is.
 ///
 /// ```
-/// use slavotuk::{Class, Grants};
+/// use slavotuk::{Credential, Grants, Module, Name, Refusal, Session, UserClaim, Words, VERSION_1_0};
 ///
-/// let grants = Grants::of_word(0b1_0100);
-/// assert!(grants.grants(Class::SAVE_OWN));
-/// assert!(!grants.grants(Class::SET_WORDS));
-/// let classes: Vec<u8> = grants.classes().map(Class::number).collect();
-/// assert_eq!(classes, [2, 4]);
+/// let (session, credential) = (Session::try_from(0)?, Credential::try_from(0)?);
+/// let mut module = Module::fresh(&[Grants::of_words(15, 4); 8])?;
+/// module.open(session)?;
+/// module.select(session, VERSION_1_0)?;
+/// module.start(session, credential, &Name([0x11; 48]))?;
+///
+/// // class 4 is granted too, and the second word stays
+/// let claim = UserClaim { credential, number: 0, verdict: true };
+/// let second = module.grants(credential).second();
+/// module.set_word(session, claim, credential, Words { word: 31, second })?;
+/// assert_eq!(module.grants(credential), Grants::of_words(31, 4));
+/// # Ok::<(), Refusal>(())
+/// ```
+#[derive(Clone, Copy, Debug, PartialEq, Eq, Hash)]
+pub struct Words {
+    /// The grant word: bit k grants class k.
+    pub word: u32,
+    /// The second word: where bit k of both words is set, class k is granted only under elevation. Alone its bit says nothing.
+    pub second: u32,
+}
+
+/// What the grant lookup says of a class. [`Grants::lookup`] gives it.
+#[derive(Clone, Copy, Debug, PartialEq, Eq, Hash)]
+pub enum Lookup {
+    /// The class is not granted: [`Refusal::NotGranted`].
+    No,
+    /// It is granted to every claim.
+    Yes,
+    /// It is granted to an elevated claim, and a user's gets [`Refusal::OnlyElevated`].
+    OnlyElevated,
+}
+
+/// What a credential is granted: nothing where it is not provisioned, else the classes of its grant word, and of these only under elevation those that are in its
+/// second word too.
+///
+/// ```
+/// use slavotuk::{Class, Grants, Lookup};
+///
+/// let grants = Grants::of_words(0b11_0100, 0b110_0000);
+/// let answers = [2, 4, 5, 6].map(|number| grants.lookup(Class::new(number).unwrap()));
+/// assert_eq!(answers, [Lookup::Yes, Lookup::Yes, Lookup::OnlyElevated, Lookup::No]);
+///
+/// let classes: Vec<(u8, Lookup)> = grants.classes().map(|(class, answer)| (class.number(), answer)).collect();
+/// assert_eq!(classes, [(2, Lookup::Yes), (4, Lookup::Yes), (5, Lookup::OnlyElevated)]);
 /// assert_eq!(Grants::UNPROVISIONED.classes().count(), 0);
 /// ```
 #[derive(Clone, Copy, Debug, Default, PartialEq, Eq, Hash)]
-pub struct Grants(pub(crate) Option<u32>);
+pub struct Grants(Option<Words>);
 
 impl Grants {
     /// Of a credential that is not provisioned.
     pub const UNPROVISIONED: Grants = Grants(None);
 
-    /// Of a provisioned credential with this word; bit k grants class k.
+    /// Of a provisioned credential with this grant word and the second word zero: bit k grants class k to every claim.
     pub const fn of_word(word: u32) -> Grants {
-        Grants(Some(word))
+        Grants::of_words(word, 0)
+    }
+
+    /// Of a provisioned credential with this grant word and this second word.
+    pub const fn of_words(word: u32, second: u32) -> Grants {
+        Grants(Some(Words { word, second }))
     }
 
     /// Whether the credential is provisioned.
@@ -380,18 +449,32 @@ impl Grants {
     /// The grant word; zero where the credential is not provisioned.
     pub const fn word(self) -> u32 {
         match self.0 {
-            Some(word) => word,
+            Some(words) => words.word,
             None => 0,
         }
     }
 
-    /// Whether a class is granted.
-    pub const fn grants(self, class: Class) -> bool {
-        self.word() >> class.0 & 1 == 1
+    /// The second word; zero where the credential is not provisioned.
+    pub const fn second(self) -> u32 {
+        match self.0 {
+            Some(words) => words.second,
+            None => 0,
+        }
     }
 
-    /// The granted classes, from the lowest on.
-    pub fn classes(self) -> impl DoubleEndedIterator<Item = Class> {
-        Class::all().filter(move |class| self.grants(*class))
+    /// Whether a class is granted, and to which claims.
+    pub const fn lookup(self, class: Class) -> Lookup {
+        match (class.is_in(self.word()), class.is_in(self.second())) {
+            (false, _) => Lookup::No,
+            (true, false) => Lookup::Yes,
+            (true, true) => Lookup::OnlyElevated,
+        }
+    }
+
+    /// The classes of the grant word, from the lowest on, each with its answer, which is never [`Lookup::No`].
+    pub fn classes(self) -> impl DoubleEndedIterator<Item = (Class, Lookup)> {
+        Class::all()
+            .map(move |class| (class, self.lookup(class)))
+            .filter(|(_, answer)| *answer != Lookup::No)
     }
 }

@@ -172,19 +172,23 @@ impl<S: AsRef<[u8]>> Module<S> {
     /// What a credential is granted.
     ///
     /// ```
-    /// use slavotuk::{Class, Credential, Grants, Module};
+    /// use slavotuk::{Class, Credential, Grants, Lookup, Module};
     ///
     /// let mut grants = [Grants::UNPROVISIONED; 8];
-    /// grants[1] = Grants::of_word(16);
+    /// grants[1] = Grants::of_words(16, 16);
     /// let module = Module::fresh(&grants)?;
-    /// assert_eq!(module.grants(Credential::new(1).unwrap()).classes().next(), Class::new(4));
+    /// let granted = module.grants(Credential::new(1).unwrap());
+    /// assert_eq!(granted.lookup(Class::new(4).unwrap()), Lookup::OnlyElevated);
     /// assert!(!module.grants(Credential::new(2).unwrap()).is_provisioned());
     /// # Ok::<(), slavotuk::Refusal>(())
     /// ```
     pub fn grants(&self, credential: Credential) -> Grants {
         let bytes = &self.bytes()[credential_at(credential.0.into())..][..CREDENTIAL_LENGTH];
-        let word = std::array::from_fn(|at| bytes[WORD + at]);
-        Grants((bytes[PROVISIONED] == 1).then_some(u32::from_le_bytes(word)))
+        let word_at = |at: usize| u32::from_le_bytes(std::array::from_fn(|byte| bytes[at + byte]));
+        match bytes[PROVISIONED] {
+            1 => Grants::of_words(word_at(WORD), word_at(SECOND)),
+            _ => Grants::UNPROVISIONED,
+        }
     }
 
     /// The processes that stand, in the order of their starts.

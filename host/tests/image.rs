@@ -5,8 +5,8 @@ mod common;
 use common::*;
 use slavotuk::layout::image::*;
 use slavotuk::{
-    entries, Claim, Grants, Image, Module, Name, Phase, Refusal, Standing, FULL_IMAGE_LENGTH,
-    STATE_LENGTH, VERSION_1_0,
+    entries, Claim, Grants, Image, Module, Name, Phase, Refusal, Standing, Words,
+    FULL_IMAGE_LENGTH, STATE_LENGTH, VERSION_1_0,
 };
 
 /// Document 01's module in which credential 0 has saved P at next number 3 and credential 1 has saved R at 1. Session 0 is open, and in it each has an active
@@ -15,8 +15,12 @@ fn with_saved() -> Module {
     let mut module = opened(&[0]);
     let s = session(0);
     module.start(s, credential(0), &p()).unwrap();
-    // credential 1 may save from here on
-    module.set_word(s, by(0, 0), credential(1), 20).unwrap();
+    // credential 1 may save from here on, and has class 5 under elevation
+    let words = Words {
+        word: 0x34,
+        second: 0x20,
+    };
+    module.set_word(s, by(0, 0), credential(1), words).unwrap();
     module.start(s, credential(1), &r()).unwrap();
     module.end(s, by(1, 0), true).unwrap();
     module.kill(s, by(0, 1), &r()).unwrap();
@@ -49,7 +53,8 @@ fn drawn() -> Vec<u8> {
     let mut bytes = head(3, 2);
     bytes.resize(ROWS_AT, 0);
     bytes[word_at(0)] = 15;
-    bytes[word_at(1)] = 20;
+    bytes[word_at(1)] = 0x34;
+    bytes[second_at(1)] = 0x20;
     bytes.extend(row(0, 3, p()));
     bytes.extend(row(1, 1, r()));
     bytes
@@ -72,7 +77,7 @@ fn the_image_is_as_drawn() {
     assert_eq!(image, image.clone());
     assert_eq!(
         format!("{image:?}"),
-        "Image(146 bytes 03 00 08 00 0a 00 02 00 2a 00 0f 00*3 14 00*29 03 00*17 11*32 01 00 01 00*17 11*31 12)"
+        "Image(178 bytes 03 00 08 00 0a 00 02 00 4a 00 0f 00*3 34 00*31 20 00*29 03 00*17 11*32 01 00 01 00*17 11*31 12)"
     );
 }
 
@@ -147,7 +152,8 @@ fn a_restored_module_is_what_the_image_says() {
     let module = Module::restore(&drawn()).unwrap();
     assert!((0..4).all(|n| module.phase(session(n)) == Phase::Closed));
     let grants: Vec<Grants> = (0..8).map(|n| module.grants(credential(n))).collect();
-    assert_eq!(grants[..2], [Grants::of_word(15), Grants::of_word(20)]);
+    let granted = [Grants::of_word(15), Grants::of_words(0x34, 0x20)];
+    assert_eq!(grants[..2], granted);
     assert_eq!(grants[2..], [Grants::UNPROVISIONED; 6]);
     let standing: Vec<_> = module
         .processes()
@@ -172,6 +178,8 @@ fn an_image_without_rows_makes_a_fresh_module() {
         grants(),
         [Grants::UNPROVISIONED; 8],
         [Grants::of_word(!0); 8],
+        [Grants::of_words(0, !0); 8],
+        [Grants::of_words(!0, !0); 8],
     ] {
         let fresh = Module::fresh(&grants).unwrap();
         assert_eq!(Module::restore(&fresh.image().unwrap()), Ok(fresh));
@@ -191,7 +199,7 @@ fn what_was_written_is_restored_and_written_again() {
 }
 
 /// Changes of the drawn image, each of which makes bytes that are no image: the offset, the new byte, and why.
-const DAMAGE: [(usize, u8, &str); 18] = [
+const DAMAGE: [(usize, u8, &str); 21] = [
     (MASK_AT, 2, "credential 0 has a word and a row"),
     (MASK_AT, 1, "credential 1 has a word and a row"),
     (MASK_AT + 1, 1, "a bit of the mask over 7"),
@@ -204,9 +212,12 @@ const DAMAGE: [(usize, u8, &str); 18] = [
     (ROW_COUNT_AT, 3, "a row more than there are"),
     (ROW_COUNT_AT + 1, 1, "the count of rows"),
     (ROWS_OFFSET_AT, ROWS_AT as u8 + 1, "the offset of the rows"),
+    (ROWS_OFFSET_AT, OLD_ROWS_AT as u8, "the old layout's offset"),
     (ROWS_OFFSET_AT + 1, 1, "the offset of the rows"),
     (word_at(2), 1, "a word of credential 2"),
     (word_at(7) + 3, 0x80, "a word of credential 7"),
+    (second_at(2), 1, "a second word of credential 2"),
+    (second_at(7) + 3, 0x80, "a second word of credential 7"),
     (row_at(0) + OWNER, 2, "credential 2 is not provisioned"),
     (row_at(0) + OWNER + 1, 1, "there is no such credential"),
     (row_at(1) + NEXT, 0, "next number 0"),
@@ -271,6 +282,143 @@ fn a_slice_of_another_length_is_refused_first() {
     }
 }
 
+// ---- the old layout
+
+/// The numbers in front of the words of an old image.
+fn old_head(mask: u8, rows: u8) -> Vec<u8> {
+    let mut bytes = head(mask, rows);
+    bytes[ROWS_OFFSET_AT] = OLD_ROWS_AT as u8;
+    bytes
+}
+
+/// The image that version 2 wrote of a module: words 15 and 20, and two rows.
+fn drawn_old() -> Vec<u8> {
+    let mut bytes = old_head(3, 2);
+    bytes.resize(OLD_ROWS_AT, 0);
+    bytes[word_at(0)] = 15;
+    bytes[word_at(1)] = 20;
+    bytes.extend(row(0, 3, p()));
+    bytes.extend(row(1, 1, r()));
+    bytes
+}
+
+/// An old image in the new layout: second words zero, all else the same.
+fn renewed(old: &[u8]) -> Vec<u8> {
+    let (words, rows) = old.split_at(OLD_ROWS_AT);
+    let mut bytes = [words, &[0; ROWS_AT - OLD_ROWS_AT], rows].concat();
+    bytes[ROWS_OFFSET_AT] = ROWS_AT as u8;
+    bytes
+}
+
+/// An image whose second words are zero, in the old layout.
+fn aged(new: &[u8]) -> Vec<u8> {
+    assert_eq!(new[SECONDS_AT..ROWS_AT], [0; ROWS_AT - SECONDS_AT]);
+    let mut bytes = [&new[..SECONDS_AT], &new[ROWS_AT..]].concat();
+    bytes[ROWS_OFFSET_AT] = OLD_ROWS_AT as u8;
+    bytes
+}
+
+#[test]
+fn an_old_image_makes_second_words_zero() {
+    let module = Module::restore(&drawn_old()).unwrap();
+    let grants: Vec<Grants> = (0..8).map(|n| module.grants(credential(n))).collect();
+    assert_eq!(grants[..2], [Grants::of_word(15), Grants::of_word(20)]);
+    assert_eq!(grants[2..], [Grants::UNPROVISIONED; 6]);
+    let standing: Vec<_> = module
+        .processes()
+        .map(|process| (process.credential, process.next_number(), process.name))
+        .collect();
+    assert_eq!(
+        standing,
+        [(credential(0), Some(3), p()), (credential(1), Some(1), r())]
+    );
+}
+
+#[test]
+fn an_old_image_is_written_in_the_new_layout() {
+    let modules = [
+        Module::fresh(&grants()).unwrap(),
+        Module::restore(&drawn_old()).unwrap(),
+        full(),
+        all_saved(),
+    ];
+    for module in modules {
+        let new = module.image().unwrap();
+        let old = aged(&new);
+        assert_eq!(renewed(&old), *new);
+        let restored = Module::restore(&old).unwrap();
+        assert_eq!(restored.image().unwrap(), new);
+        assert_eq!(Module::restore(&new), Ok(restored));
+    }
+}
+
+/// An image with a mark has no old one: without its second words it makes another module.
+#[test]
+fn the_layouts_make_one_module_where_no_class_is_marked() {
+    let mut unmarked = drawn();
+    unmarked[second_at(1)] = 0;
+    let old = aged(&unmarked);
+    assert_eq!(Module::restore(&old), Module::restore(&unmarked));
+    assert_ne!(Module::restore(&old), Module::restore(&drawn()));
+}
+
+/// Changes of the old image, each of which makes bytes that are no image.
+const OLD_DAMAGE: [(usize, u8, &str); 10] = [
+    (MASK_AT, 1, "credential 1 has a word and a row"),
+    (WORD_COUNT_AT, 16, "the count of words"),
+    (ROW_COUNT_AT, 1, "a row less than there are"),
+    (ROW_COUNT_AT, 3, "a row more than there are"),
+    (ROWS_OFFSET_AT, OLD_ROWS_AT as u8 - 1, "the offset of rows"),
+    (ROWS_OFFSET_AT, OLD_ROWS_AT as u8 + 1, "the offset of rows"),
+    (ROWS_OFFSET_AT, ROWS_AT as u8, "the new layout's offset"),
+    (word_at(7) + 3, 0x80, "a word of credential 7"),
+    (old_row_at(0) + OWNER, 2, "credential 2 is not provisioned"),
+    (old_row_at(1) + NEXT, 0, "next number 0"),
+];
+
+#[test]
+fn damaged_old_images_are_refused() {
+    for (at, byte, why) in OLD_DAMAGE {
+        let mut bytes = drawn_old();
+        assert_ne!(bytes[at], byte, "{why}");
+        bytes[at] = byte;
+        is_no_image(&bytes);
+    }
+    let mut bytes = drawn_old();
+    bytes.truncate(old_row_at(1));
+    bytes.extend(row(1, 1, p()));
+    is_no_image(&bytes);
+}
+
+/// The offset alone tells the layouts apart, and then each has its lengths.
+#[test]
+fn old_images_of_other_lengths_are_refused() {
+    let old = aged(&all_saved().image().unwrap());
+    assert_eq!(old.len(), old_row_at(12));
+    for length in 0..old.len() {
+        is_no_image(&old[..length]);
+    }
+    for more in 1..=ROW_LENGTH {
+        is_no_image(&[&drawn_old(), &vec![0; more][..]].concat());
+    }
+    let mut bytes = old.clone();
+    bytes[ROW_COUNT_AT] = 13;
+    bytes.extend(row(0, 1, q()));
+    is_no_image(&bytes);
+    for rows in 0..=12 {
+        let mut new = renewed(&old)[..row_at(rows)].to_vec();
+        new[ROW_COUNT_AT] = rows as u8;
+        assert!(Module::restore(&new).is_ok());
+        new[ROWS_OFFSET_AT] = OLD_ROWS_AT as u8;
+        is_no_image(&new);
+        let mut old = old[..old_row_at(rows)].to_vec();
+        old[ROW_COUNT_AT] = rows as u8;
+        assert!(Module::restore(&old).is_ok());
+        old[ROWS_OFFSET_AT] = ROWS_AT as u8;
+        is_no_image(&old);
+    }
+}
+
 // ---- a power cycle
 
 /// The module after a power cycle, with session 1 open.
@@ -287,11 +435,13 @@ fn no_number_below_the_images_is_accepted() {
     let s = session(1);
     module.continue_saved(s, credential(0), &p()).unwrap();
     for number in [0, 1, 2, 4, 65535] {
-        let again = module.set_word(s, by(0, number), credential(0), 15);
+        let again = module.set_word(s, by(0, number), credential(0), plain(15));
         assert_eq!(again, Err(Refusal::OutOfTurn));
     }
-    module.set_word(s, by(0, 3), credential(0), 15).unwrap();
-    let again = module.set_word(s, by(0, 3), credential(0), 15);
+    module
+        .set_word(s, by(0, 3), credential(0), plain(15))
+        .unwrap();
+    let again = module.set_word(s, by(0, 3), credential(0), plain(15));
     assert_eq!(again, Err(Refusal::OutOfTurn));
 }
 
@@ -338,7 +488,7 @@ fn an_older_image_brings_numbers_back() {
         let mut module = reseated(image);
         module.continue_saved(s, credential(0), &p())?;
         let newest = module.image()?;
-        module.set_word(s, by(0, 3), credential(0), 15)?;
+        module.set_word(s, by(0, 3), credential(0), plain(15))?;
         Ok(newest)
     };
     let older = with_saved().image().unwrap();
@@ -366,7 +516,9 @@ fn the_image_changes_with_four_calls() {
     module.close(session(1)).unwrap();
     assert!(!changes(&module));
 
-    module.set_word(s, by(0, 1), credential(1), 16).unwrap();
+    module
+        .set_word(s, by(0, 1), credential(1), plain(0x34))
+        .unwrap();
     assert!(changes(&module));
     module.continue_saved(s, credential(1), &r()).unwrap();
     assert!(changes(&module));

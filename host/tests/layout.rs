@@ -5,7 +5,7 @@ use slavotuk::{Credential, Session, NAME_LENGTH, PLACES};
 use std::fs;
 use std::path::Path;
 
-const SAME: [(&str, usize); 10] = [
+const SAME: [(&str, usize); 11] = [
     ("SESSIONS", Session::COUNT),
     ("CREDENTIALS", Credential::COUNT),
     ("PROCESSES", PLACES),
@@ -15,6 +15,7 @@ const SAME: [(&str, usize); 10] = [
     ("HEADER_SIZE", listing::ROWS_AT),
     ("ROW_SIZE", listing::ROW_LENGTH),
     ("IMAGE_HEADER_SIZE", image::ROWS_AT),
+    ("IMAGE_OLD_HEADER_SIZE", image::OLD_ROWS_AT),
     ("IMAGE_ROW_SIZE", image::ROW_LENGTH),
 ];
 

@@ -1,42 +1,43 @@
-//! Each of document 01's numbers through the wrapper, and what a refusal leaves: everything as it was, or one number spent.
+//! Each number through the wrapper, and what a refusal leaves: everything as it was, or one number spent.
 
 mod common;
 
 use common::*;
 use slavotuk::{
-    answered, layout, write_request, Claim, Class, Listing, Module, Name, Refusal, Standing,
-    UserClaim, Wanted, FULL_LISTING_LENGTH,
+    answered, layout, write_request, Claim, Class, Grants, Listing, Module, Name, Refusal,
+    Standing, UserClaim, Wanted, FULL_LISTING_LENGTH,
 };
 
-/// The names as document 01's table has them, from number 1 on.
-const NAMES: [&str; 15] = [
-    "argument",
-    "session",
-    "no version",
-    "version",
-    "credential",
-    "no process",
-    "already active",
-    "verdict",
-    "out of turn",
-    "not granted",
-    "full",
-    "name taken",
-    "spent",
-    "message",
-    "room",
+/// The names as document 01's table has them, and that of document 02's number, order 7.
+const NAMES: [(u32, &str); 16] = [
+    (1, "argument"),
+    (2, "session"),
+    (3, "no version"),
+    (4, "version"),
+    (5, "credential"),
+    (6, "no process"),
+    (7, "already active"),
+    (8, "verdict"),
+    (9, "out of turn"),
+    (10, "not granted"),
+    (11, "full"),
+    (12, "name taken"),
+    (13, "spent"),
+    (14, "message"),
+    (15, "room"),
+    (18, "only elevated"),
 ];
 
 #[test]
-fn numbers_and_names_are_document_01s() {
-    for (number, name) in (1..).zip(NAMES) {
+fn numbers_and_names_are_the_documents() {
+    for (number, name) in NAMES {
         let refusal = answered(number).unwrap_err();
         assert_eq!(refusal.number(), number);
         assert_eq!(refusal.to_string(), name);
     }
-    let known: Vec<&str> = Refusal::KNOWN
+    let known: Vec<(u32, &str)> = Refusal::KNOWN
         .iter()
-        .map(|refusal| refusal.name())
+        .map(|refusal| (refusal.number(), refusal.name()))
         .collect();
     assert_eq!(known, NAMES);
     assert_eq!(answered(0), Ok(()));
@@ -46,7 +47,7 @@ fn numbers_and_names_are_document_01s() {
 
 #[test]
 fn a_number_without_a_name_is_a_refusal_too() {
-    for number in [16, 20, 255, 256, u32::MAX] {
+    for number in [16, 17, 19, 20, 255, 256, u32::MAX] {
         let refusal = answered(number).unwrap_err();
         assert_eq!((refusal.number(), refusal.name()), (number, "unknown"));
         assert_eq!(refusal.to_string(), format!("unknown number {number}"));
@@ -144,7 +145,7 @@ fn credential_and_no_process() {
     refused(&mut module, 6, |m| m.kill(s, by(0, 0), &q()));
     refused(&mut module, 6, |m| m.kill(s, Claim::Elevated, &q()));
     refused(&mut module, 5, |m| {
-        m.set_word(s, by(2, 0), credential(0), 1)
+        m.set_word(s, by(2, 0), credential(0), plain(1))
     });
     module.start(s, credential(0), &p()).unwrap();
     // the process of session 0 serves no record of session 1
@@ -152,7 +153,7 @@ fn credential_and_no_process() {
     // behind the claim
     refused_and_spent(&mut module, 6, by(0, 0), |m, claim| m.kill(s, claim, &q()));
     refused_and_spent(&mut module, 5, by(0, 1), |m, claim| {
-        m.set_word(s, claim, credential(2), 1)
+        m.set_word(s, claim, credential(2), plain(1))
     });
 }
 
@@ -209,13 +210,77 @@ fn not_granted() {
     });
     refused_and_spent(&mut module, 10, by(1, 1), |m, claim| m.end(s, claim, true));
     refused_and_spent(&mut module, 10, by(1, 2), |m, claim| {
-        m.set_word(s, claim, credential(1), !0)
+        m.set_word(s, claim, credential(1), plain(!0))
     });
     refused_and_spent(&mut module, 10, by(1, 3), |m, claim| {
         let mut buffer = [0; FULL_LISTING_LENGTH];
         m.list(s, claim, Wanted::All, &mut buffer).map(|_| ())
     });
     module.record(s, by(1, 4), class(4)).unwrap();
+}
+
+/// Credential 1 has class 4 plainly, and 6 and the module's own under elevation; credential 0 is document 01's.
+fn with_marks() -> [Grants; 8] {
+    let mut grants = grants();
+    grants[1] = Grants::of_words(0x5f, 0x4f);
+    grants
+}
+
+#[test]
+fn only_elevated() {
+    let mut module = opened_of(&with_marks(), &[0]);
+    let s = session(0);
+    module.start(s, credential(1), &p()).unwrap();
+    // an elevation in the session, one's own or not, makes no claim an elevated one
+    module.elevate(s, credential(1), &q(), true).unwrap();
+    refused_and_spent(&mut module, 18, by(1, 0), |m, claim| {
+        m.record(s, claim, class(6))
+    });
+    refused_and_spent(&mut module, 18, by(1, 1), |m, claim| m.end(s, claim, true));
+    refused_and_spent(&mut module, 18, by(1, 2), |m, claim| {
+        m.set_word(s, claim, credential(1), plain(!0))
+    });
+    // ahead of what follows it: the target's provision, and the room
+    refused_and_spent(&mut module, 18, by(1, 3), |m, claim| {
+        m.set_word(s, claim, credential(2), plain(!0))
+    });
+    refused_and_spent(&mut module, 18, by(1, 4), |m, claim| {
+        m.list(s, claim, Wanted::All, &mut []).map(|_| ())
+    });
+    module.record(s, by(1, 5), class(4)).unwrap();
+}
+
+/// A kill tells nobody that a stranger's name stands.
+#[test]
+fn a_kill_is_never_only_elevated() {
+    let mut module = opened_of(&with_marks(), &[0]);
+    let s = session(0);
+    module.start(s, credential(0), &p()).unwrap();
+    module.start(s, credential(1), &r()).unwrap();
+    module.elevate(s, credential(1), &q(), true).unwrap();
+    for (number, name) in [(0, p()), (1, named(0x33, 0x33))] {
+        refused_and_spent(&mut module, 6, by(1, number), |m, claim| {
+            m.kill(s, claim, &name)
+        });
+    }
+    module.kill(s, Claim::Elevated, &p()).unwrap();
+    module.kill(s, by(1, 2), &r()).unwrap();
+}
+
+#[test]
+fn an_elevated_claim_is_granted_what_is_marked() {
+    let mut module = opened_of(&with_marks(), &[0]);
+    let s = session(0);
+    module.elevate(s, credential(1), &q(), true).unwrap();
+    module.record(s, Claim::Elevated, class(4)).unwrap();
+    module.record(s, Claim::Elevated, class(6)).unwrap();
+    let mut buffer = [0; FULL_LISTING_LENGTH];
+    let listing = module.list(s, Claim::Elevated, Wanted::All, &mut buffer);
+    assert_eq!(listing.unwrap().rows().len(), 1);
+    module
+        .set_word(s, Claim::Elevated, credential(1), plain(0))
+        .unwrap();
+    assert_eq!(module.grants(credential(1)), Grants::of_word(0));
 }
 
 #[test]
@@ -226,7 +291,9 @@ fn an_elevated_claim_spends_nothing() {
     module.elevate(s, credential(1), &q(), true).unwrap();
     let claim = Claim::Elevated;
     refused(&mut module, 10, |m| m.record(s, claim, class(5)));
-    refused(&mut module, 10, |m| m.set_word(s, claim, credential(2), 1));
+    refused(&mut module, 10, |m| {
+        m.set_word(s, claim, credential(2), plain(1))
+    });
     refused(&mut module, 6, |m| m.kill(s, claim, &r()));
     refused(&mut module, 15, |m| {
         let own = Wanted::Of(credential(1));
@@ -249,7 +316,7 @@ fn full_table() {
 /// All numbers of credential 1's process in session 0 are taken in turn, in records of this class with this answer: then every number is refused as spent.
 #[track_caller]
 fn spends_all(of_class: Class, answer: Result<(), Refusal>) {
-    let mut module = opened(&[0]);
+    let mut module = opened_of(&with_marks(), &[0]);
     let s = session(0);
     module.start(s, credential(1), &p()).unwrap();
     for number in 0..65535 {
@@ -272,6 +339,7 @@ fn spent() {
 #[test]
 fn spent_by_refusals() {
     spends_all(class(5), Err(Refusal::NotGranted));
+    spends_all(class(6), Err(Refusal::OnlyElevated));
 }
 
 #[test]

@@ -211,6 +211,21 @@ fn a_changed_parameter_of_the_header_is_told() {
             "uint32_t keep, uint32_t verdict",
         ],
         [
+            "slavotuk_set_word",
+            "uint32_t word, uint32_t second",
+            "uint32_t second, uint32_t word",
+        ],
+        [
+            "slavotuk_set_word",
+            "uint32_t word, uint32_t second",
+            "uint32_t word",
+        ],
+        [
+            "slavotuk_fresh",
+            "const uint32_t *seconds",
+            "const uint8_t *seconds",
+        ],
+        [
             "slavotuk_other",
             "\nuint32_t slavotuk_open",
             "\nuint32_t slavotuk_other(void);\nuint32_t slavotuk_open",
@@ -222,7 +237,7 @@ fn a_changed_parameter_of_the_header_is_told() {
 #[test]
 fn a_changed_parameter_of_the_sources_is_told() {
     let open = "slavotuk_open(state: &mut [u8], session: u32) -> u32";
-    let set_word = "    target: u32,\n    word: u32,\n";
+    let set_word = "    target: u32,\n    word: u32,\n    second: u32,\n";
     let changes = [
         [
             "slavotuk_open",
@@ -262,12 +277,12 @@ fn a_changed_parameter_of_the_sources_is_told() {
         [
             "slavotuk_set_word",
             set_word,
-            "    word: u32,\n    target: u32,\n",
+            "    target: u32,\n    second: u32,\n    word: u32,\n",
         ],
         [
             "slavotuk_set_word",
             set_word,
-            "    target: u32,\n    word: u32,\n    second: u32,\n",
+            "    target: u32,\n    word: u32,\n",
         ],
         [
             "slavotuk_open",

@@ -5,16 +5,17 @@ mod common;
 use common::*;
 use slavotuk::layout::state::*;
 use slavotuk::{
-    Claim, Grants, Module, Phase, Process, Refusal, Standing, STATE_LENGTH, VERSION_1_0,
+    Claim, Grants, Module, Phase, Process, Refusal, Standing, Words, STATE_LENGTH, VERSION_1_0,
 };
 
 /// The example of docs/STATE.md.
 fn example() -> [u8; STATE_LENGTH] {
     let mut bytes = [0; STATE_LENGTH];
     bytes[..2].copy_from_slice(&[2, 1]);
-    for (credential, word) in [(0, 15), (1, 16)] {
+    for (credential, word, second) in [(0, 15, 0), (1, 16, 16)] {
         bytes[credential_at(credential) + PROVISIONED] = 1;
         bytes[credential_at(credential) + WORD] = word;
+        bytes[credential_at(credential) + SECOND] = second;
     }
     bytes[COUNT_AT] = 3;
     let places = [
@@ -31,10 +32,12 @@ fn example() -> [u8; STATE_LENGTH] {
 }
 
 /// The changes that docs/STATE.md names, each of which makes the example hold no state: the offset and the new bytes.
-const DAMAGE: [(usize, &[u8]); 14] = [
+const DAMAGE: [(usize, &[u8]); 16] = [
     (3, &[3]),
     (credential_at(0) + PROVISIONED, &[2]),
     (credential_at(2) + WORD + 3, &[1]),
+    (credential_at(3) + SECOND, &[1]),
+    (credential_at(7) + SECOND + 3, &[0x80]),
     (COUNT_AT, &[2]),
     (COUNT_AT, &[4]),
     (COUNT_AT, &[13]),
@@ -59,7 +62,7 @@ fn the_example_is_seen_as_drawn() {
     );
 
     let grants: Vec<Grants> = (0..8).map(|n| module.grants(credential(n))).collect();
-    assert_eq!(grants[..2], [Grants::of_word(15), Grants::of_word(16)]);
+    assert_eq!(grants[..2], [Grants::of_word(15), Grants::of_words(16, 16)]);
     assert_eq!(grants[2..], [Grants::UNPROVISIONED; 6]);
 
     let processes: Vec<Process> = module.processes().collect();
@@ -113,14 +116,47 @@ fn a_saved_process_has_counted_one() {
     }
 }
 
+/// A state had so many bytes before each credential had a second word.
+const OLD_LENGTH: usize = 681;
+
 #[test]
 fn other_lengths_are_refused_and_left() {
-    for length in [0, 1, STATE_LENGTH - 1, STATE_LENGTH + 1, 2 * STATE_LENGTH] {
-        let mut bytes = vec![0xab; length];
-        assert_eq!(Module::lent(&mut bytes).unwrap_err(), Refusal::Argument);
-        let fresh = Module::fresh_in(&mut bytes, &grants());
-        assert_eq!(fresh.unwrap_err(), Refusal::Argument);
-        assert_eq!(bytes, vec![0xab; length]);
+    for length in [
+        0,
+        1,
+        OLD_LENGTH,
+        STATE_LENGTH - 1,
+        STATE_LENGTH + 1,
+        2 * STATE_LENGTH,
+    ] {
+        // zero bytes of a state's length hold one
+        for byte in [0, 0xab] {
+            let mut bytes = vec![byte; length];
+            assert_eq!(Module::lent(&mut bytes).unwrap_err(), Refusal::Argument);
+            let fresh = Module::fresh_in(&mut bytes, &grants());
+            assert_eq!(fresh.unwrap_err(), Refusal::Argument);
+            assert_eq!(bytes, vec![byte; length]);
+        }
+    }
+}
+
+#[test]
+fn every_value_of_a_provisioned_credentials_words_is_a_state() {
+    for (word, second) in [
+        (0, 0),
+        (0, !0),
+        (!0, 0),
+        (!0, !0),
+        (0x0102_0304, 0x8070_6050),
+    ] {
+        let mut grants = grants();
+        grants[1] = Grants::of_words(word, second);
+        let module = Module::fresh(&grants).unwrap();
+        assert_eq!(module.grants(credential(1)), grants[1]);
+        let bytes = &module.bytes()[credential_at(1)..credential_at(2)];
+        let drawn = [&[1][..], &word.to_le_bytes(), &second.to_le_bytes()].concat();
+        assert_eq!(bytes, drawn);
+        assert_eq!(Module::from_bytes(module.clone().into_bytes()), Ok(module));
     }
 }
 
@@ -188,9 +224,20 @@ fn each_call_is_seen_in_the_state() {
     module.start(session(0), credential(0), &p()).unwrap();
     assert_eq!(seen(&module), [user(0, 0)]);
     module
-        .set_word(session(0), by(0, 0), credential(1), 0x8000_0014)
+        .set_word(
+            session(0),
+            by(0, 0),
+            credential(1),
+            Words {
+                word: 0x8000_0014,
+                second: 0x10,
+            },
+        )
         .unwrap();
-    assert_eq!(module.grants(credential(1)), Grants::of_word(0x8000_0014));
+    assert_eq!(
+        module.grants(credential(1)),
+        Grants::of_words(0x8000_0014, 0x10)
+    );
     module.start(session(1), credential(1), &r()).unwrap();
     module.record(session(1), by(1, 0), class(31)).unwrap();
     assert_eq!(seen(&module), [user(0, 1), user(1, 1)]);

@@ -2,7 +2,8 @@
 #![allow(dead_code)]
 
 use slavotuk::{
-    Class, Credential, Grants, Module, Name, Session, UserClaim, NAME_LENGTH, PLACES, VERSION_1_0,
+    Class, Credential, Grants, Module, Name, Session, UserClaim, Words, NAME_LENGTH, PLACES,
+    VERSION_1_0,
 };
 
 pub fn session(number: u8) -> Session {
@@ -46,6 +47,11 @@ pub fn by(of: u8, number: u16) -> UserClaim {
     }
 }
 
+/// This grant word, and the second word zero.
+pub fn plain(word: u32) -> Words {
+    Words { word, second: 0 }
+}
+
 /// Document 01's grants: credential 0 has word 15 and credential 1 has word 16.
 pub fn grants() -> [Grants; 8] {
     let mut grants = [Grants::UNPROVISIONED; 8];
@@ -56,7 +62,12 @@ pub fn grants() -> [Grants; 8] {
 
 /// Document 01's module with these sessions open, each with version 1.0.
 pub fn opened(sessions: &[u8]) -> Module {
-    let mut module = Module::fresh(&grants()).unwrap();
+    opened_of(&grants(), sessions)
+}
+
+/// The same with other grants.
+pub fn opened_of(grants: &[Grants; 8], sessions: &[u8]) -> Module {
+    let mut module = Module::fresh(grants).unwrap();
     for &number in sessions {
         module.open(session(number)).unwrap();
         module.select(session(number), VERSION_1_0).unwrap();
