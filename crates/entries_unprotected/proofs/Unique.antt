@@ -66,10 +66,10 @@ drop-once κs a x y s t p q = p .number-is ∙ sym (q .number-is)
 pub drop-bytes : OneContent 1 drop-kinds.ps drop-kinds.r drop-reads.Post (λ κs s. now (s .0))
 drop-bytes κs a x y s t p q = p .bytes-are ∙ sym (q .bytes-are)
 
-pub fresh-once : OneAnswer 3 fresh-kinds.ps fresh-kinds.r fresh-reads.Post
+pub fresh-once : OneAnswer 4 fresh-kinds.ps fresh-kinds.r fresh-reads.Post
 fresh-once κs a x y s t p q = p .number-is ∙ sym (q .number-is)
 
-pub fresh-bytes : OneContent 3 fresh-kinds.ps fresh-kinds.r fresh-reads.Post (λ κs s. now (s .0))
+pub fresh-bytes : OneContent 4 fresh-kinds.ps fresh-kinds.r fresh-reads.Post (λ κs s. now (s .0))
 fresh-bytes κs a x y s t p q = p .bytes-are ∙ sym (q .bytes-are)
 
 pub holds-once : OneAnswer 1 holds-kinds.ps holds-kinds.r holds-reads.Post

@@ -14,7 +14,8 @@ use Rattle.calls.specs.Listing.{rowsOf, listing}
 use Rattle.calls.specs.Run.{run}
 use Rattle.calls.specs.declared.Wanted.the-variants.{Every}
 use Rattle.calls.proofs.Orders.{twelve}
-use Rattle.calls.proofs.Sequences.{name, session, credential, class, userYes, yes′, no′, computed}
+use Rattle.module_state.specs.Module.{bothWords, noWords, granted, unprovisioned}
+use Rattle.calls.proofs.Sequences.{plain, name, session, credential, class, userYes, yes′, no′, computed}
 use Rattle.history.specs.Lives.{Life, Gone, Live, Raised, SavedBy, passed, counts, charges, tellsPassed, Event, withClaim, onward, follow, told, nobody}
 use Rattle.history.specs.History.{ends, shuts, drops, resumes, after, eventOf, history}
 use Rattle.history.specs.Demand.{IsPassedOf, TwoPassed}
@@ -32,12 +33,9 @@ P = name 0x11
 abbrev Q : Name
 Q = name 0x12
 
--- credential 0 has the classes 0 to 4, credential 1 the classes 0 to 1, and the others are unprovisioned
+-- credential 0 has the classes 0 to 4, and 6 only under elevation, credential 1 the classes 0 to 1, and the others are unprovisioned
 abbrev grants : List Grants
-grants =
-    record { provisioned = true; word = 31 }
-    ∷ record { provisioned = true; word = 3 }
-    ∷ replicate 6 (record { provisioned = false; word = 0 })
+grants = granted (bothWords 95 64) ∷ granted (plain 3) ∷ replicate 6 unprovisioned
 
 abbrev recorded : ℕ → ℕ → ℕ → Call
 recorded s c n = Record (session s) (yes′ c n) (class 4)
@@ -77,7 +75,7 @@ raised =
     killed
     ++ (Elevate (session 1) (credential 0) P true ∷ Record (session 1) Elevated (class 4) ∷ [])
 
--- refused one after another, P's by 10, its claim's 9 and 8, 1, 15 and 5, Q's by 6: 10, 15, 5 and 6 came after a claim that passed. Others' by 2 and by their claim's 5
+-- refused one after another, P's by 10, its claim's 9 and 8, 1, 15, 5 and 18, Q's by 6: 10, 15, 5, 18 and 6 came after a claim that passed. Others' by 2 and by their claim's 5
 abbrev refused : List Call
 refused =
     Open (session 0)
@@ -91,8 +89,10 @@ refused =
     ∷ ListProcesses (session 0) (yes′ 0 1) Every 105
     ∷ Kill (session 0) (yes′ 1 0) (name 0x13)
     ∷ Kill (session 1) (yes′ 1 1) P
-    ∷ SetWord (session 0) (yes′ 2 1) (credential 2) 0
-    ∷ SetWord (session 0) (yes′ 0 2) (credential 2) 0
+    ∷ SetWord (session 0) (yes′ 2 1) (credential 2) noWords
+    ∷ SetWord (session 0) (yes′ 0 2) (credential 2) noWords
+    ∷ Record (session 0) (yes′ 0 3) (class 6)
+    ∷ Record (session 0) (yes′ 0 3) (class 6)
     ∷ []
 
 -- what the history of some calls tells of both names
@@ -110,8 +110,8 @@ pub record Examples : Type 0 where
   pub after-elevation : Told raised (Raised (session 1) (credential 0)) (Live (session 1) (credential 1) (1 ∷ 0 ∷ []))
   pub after-drop : Told (raised ++ (Drop (session 1) ∷ [])) Gone (Live (session 1) (credential 1) (1 ∷ 0 ∷ []))
   pub after-close : Told (again ++ (Close (session 1) ∷ [])) Gone Gone
-  pub refused-are : map (λ (e : Event). e .answered) (history (fresh grants) refused) ≡ 0 ∷ 0 ∷ 0 ∷ 0 ∷ 10 ∷ 9 ∷ 8 ∷ 1 ∷ 15 ∷ 6 ∷ 2 ∷ 5 ∷ 5 ∷ []
-  pub after-refused : Told refused (Live (session 0) (credential 0) (2 ∷ 1 ∷ 0 ∷ [])) (Live (session 0) (credential 1) (0 ∷ []))
+  pub refused-are : map (λ (e : Event). e .answered) (history (fresh grants) refused) ≡ 0 ∷ 0 ∷ 0 ∷ 0 ∷ 10 ∷ 9 ∷ 8 ∷ 1 ∷ 15 ∷ 6 ∷ 2 ∷ 5 ∷ 5 ∷ 18 ∷ 9 ∷ []
+  pub after-refused : Told refused (Live (session 0) (credential 0) (3 ∷ 2 ∷ 1 ∷ 0 ∷ [])) (Live (session 0) (credential 1) (0 ∷ []))
   pub next-is : map (λ p. p .next) (standing (run (fresh grants) continued .table)) ≡ 4 ∷ []
   -- no listing exceeds 616 bytes, and there is one of just as many: with twelve standing, in what the call answers and in the bytes of its message
   pub longest-listing : listed twelve (session 0) (yes′ 0 0) Every 616 .length ≡ 616

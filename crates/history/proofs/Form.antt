@@ -21,7 +21,7 @@ use Rattle.table.specs.declared.Process.{Process}
 use Rattle.table.specs.declared.Table.{Table}
 use Rattle.table.proofs.Laws.{standing-of, whole-of, standing-appended, standing-replaced, standing-removed, standing-without-session}
 use Rattle.table.proofs.Searched.{user-of, named-among, saved-of}
-use Rattle.module_state.specs.Module.{closedSession, phaseOf, isChosen, activePlace, activeProcess, sessionCount}
+use Rattle.module_state.specs.Module.{closedSession, wordsOf, phaseOf, isChosen, activePlace, activeProcess, sessionCount}
 use Rattle.module_state.specs.Claim.{checked}
 use Rattle.module_state.specs.declared.Claim.{Claim}
 use Rattle.module_state.specs.declared.Claim.the-variants.{Elevated, ByUser}
@@ -31,9 +31,9 @@ use Rattle.module_state.specs.declared.State.{State}
 use Rattle.module_state.specs.declared.UserClaim.{UserClaim}
 use Rattle.calls.specs.Calls.{Call, Open, Close, Drop, Select, Start, Continue, Elevate, End, Record, ListProcesses, Kill, SetWord, withTable, withPhase, withGrants, userProcess, elevation, activated, saved, oneMore, namedPlace, reach, counted, ended, effect, taken, fresh}
 use Rattle.calls.specs.Run.{step, run}
-use Rattle.module_rules.specs.Facts.{processes, Rules, FormedGrants, FormedProcess, IsState}
+use Rattle.module_rules.specs.Facts.{AreWords, processes, Rules, FormedGrants, FormedProcess, IsState}
 use Rattle.module_rules.proofs.Laws.{provisioned-low, chosen-low}
-use Rattle.history.specs.Fits.{IsWord, Fits, Eight}
+use Rattle.history.specs.Fits.{Fits, Eight}
 use Rattle.history.proofs.Facts.{UserPassed, ClaimPassed, Facts, facts}
 use Rattle.history.proofs.Tables.{rules-fresh}
 use Rattle.history.proofs.Keeping.{active-more, named-more, stands-counted, rules-effect, step-by}
@@ -184,7 +184,7 @@ around st (Record s claim class) f = around-counted st s claim
 around st (ListProcesses s claim wanted room) f = around-counted st s claim
 around st (Kill s claim name) f = around-then (around-counted st s claim) (around-table (counted st s claim) _ (tidy-of _))
 around st (SetWord s claim c words) f =
-    around-then (around-counted st s claim) (around-grants (counted st s claim) c _ (λ w. record { word = w; zero = λ e. clash refl e }))
+    around-then (around-counted st s claim) (around-grants (counted st s claim) c _ (λ w. record { words = w; zero = λ e. clash refl e }))
 
 -- ---- the form
 module _ (st : State) (v : IsState st) where
@@ -247,11 +247,11 @@ state-run st [] each-nil v = v
 state-run st (call ∷ calls) (each-cons w ws) v = state-run (step st call) calls ws (state-step st call w v)
 
 -- ---- a fresh module
-words-taken : {pairs : List Grants} → Each (λ g. IsWord (g .word)) pairs → Each FormedGrants (map taken pairs)
-unfolding taken
+words-taken : {pairs : List Grants} → Each (λ g. AreWords (g .words)) pairs → Each FormedGrants (map taken pairs)
+unfolding taken wordsOf
 words-taken each-nil = each-nil
 words-taken (each-cons {x = x} w h) =
-    each-cons {x = taken x} (record { word = split (x .provisioned) (λ e. rw e w) (λ e. rw e (omega arith)); zero = λ e. rw e }) (words-taken h)
+    each-cons {x = taken x} (record { words = split (x .provisioned) (λ e. rw e w) (λ e. rw e (record { grant = omega arith; second = omega arith })); zero = λ e. rw e }) (words-taken h)
 
 pub state-fresh : (pairs : List Grants) → Eight pairs → IsState (fresh pairs)
 unfolding fresh

@@ -23,14 +23,14 @@ use Rattle.calls.specs.Calls.{Call, Open, Elevate, Start, ListProcesses, number
 use Rattle.calls.specs.Run.{step, run, numbers}
 use Rattle.calls.specs.declared.Wanted.the-variants.{Every}
 use Rattle.calls.proofs.Sequences.{P, Q, session, credential, Step, callsOf, Answered, after}
-use Rattle.module_rules.specs.Facts.{processes, IsState}
+use Rattle.module_rules.specs.Facts.{processes, IsWord, AreWords, IsState}
 use Rattle.state_layout.specs.Layout.{stateLength, stateBytes}
 use Rattle.entries_call.specs.CallEntry.{entryNumber, entryBytes}
-use Rattle.entries_arguments.specs.Arguments.{pairsOf}
+use Rattle.entries_arguments.specs.Arguments.{Handed, handed, pairsOf}
 use Rattle.entries_unprotected.specs.Fresh.{canFresh}
 use Rattle.history.specs.Lives.{Life, Live, Gone, told, nobody}
 use Rattle.history.specs.History.{eventOf}
-use Rattle.history.specs.Fits.{IsWord, Fits}
+use Rattle.history.specs.Fits.{Fits}
 use Rattle.history.proofs.Form.{state-step, state-fresh}
 use Rattle.image.specs.Image as Image
 use Rattle.image.specs.Image.{imageLong, isSavedOne, savedRow, savedOf, stateImage, imageRoom, lacksRoom}
@@ -69,7 +69,7 @@ abbrev refusedInTheMiddle : List Made
 refusedInTheMiddle =
     Called true opening 0
     ∷ Called false raising 1
-    ∷ Renewed (1 ∷ []) [] 1
+    ∷ Renewed (handed (1 ∷ []) [] []) 1
     ∷ Restored (1 ∷ []) 14
     ∷ Called true starting 3
     ∷ Listed true (record { 0 = 0 }) Elevated Every 3 response
@@ -81,9 +81,9 @@ unfolding since
 three-calls w = refl
 
 -- a fresh module in the middle: what was before it is no more told
-begins-anew : (w : Since) (flags words : List ℕ) → since w (Called true opening 0 ∷ Renewed flags words 0 ∷ Called true starting 2 ∷ []) ≡ record { first = fresh (pairsOf flags words); tell = nobody; calls = starting ∷ []; events = eventOf starting 2 ∷ [] }
+begins-anew : (w : Since) (pairs : Handed) → since w (Called true opening 0 ∷ Renewed pairs 0 ∷ Called true starting 2 ∷ []) ≡ record { first = fresh (pairsOf pairs); tell = nobody; calls = starting ∷ []; events = eventOf starting 2 ∷ [] }
 unfolding since
-begins-anew w flags words = refl
+begins-anew w pairs = refl
 
 -- a module from an image: what the image tells is told
 begins-from : (w : Since) (image : List ℕ) → since w (Called true opening 0 ∷ Restored image 0 ∷ Called true starting 2 ∷ []) ≡ record { first = Image.restored image; tell = toldBy image; calls = starting ∷ []; events = eventOf starting 2 ∷ [] }
@@ -91,11 +91,11 @@ unfolding since
 begins-from w image = refl
 
 -- ---- there are such chains: a fresh module of eight pairs, the words as large as can be, in whatever slice, and an open
-abbrev flags : List ℕ
-flags = replicate 8 1
-
 abbrev words : List ℕ
 words = replicate 8 4294967295
+
+abbrev pairs : Handed
+pairs = handed (replicate 8 1) words words
 
 word-small : (i : ℕ) → IsWord (getD words i 0)
 word-small i = small i 8
@@ -105,9 +105,9 @@ word-small i = small i 8
     small zero (suc n) = omega arith
     small (suc i) (suc n) = small i n
 
-chain : (slice : List ℕ) → Chain (lends slice) (Renewed flags words (1 unless canFresh slice flags words) ∷ Called true opening (entryNumber true (cond (canFresh slice flags words) (stateBytes (fresh (pairsOf flags words))) slice) opening) ∷ []) (lends (entryBytes true (cond (canFresh slice flags words) (stateBytes (fresh (pairsOf flags words))) slice) opening))
+chain : (slice : List ℕ) → Chain (lends slice) (Renewed pairs (1 unless canFresh slice pairs) ∷ Called true opening (entryNumber true (cond (canFresh slice pairs) (stateBytes (fresh (pairsOf pairs))) slice) opening) ∷ []) (lends (entryBytes true (cond (canFresh slice pairs) (stateBytes (fresh (pairsOf pairs))) slice) opening))
 chain slice =
-    then {after = lends (cond (canFresh slice flags words) (stateBytes (fresh (pairsOf flags words))) slice)} (renewed word-small (record { number-is = refl; bytes-are = refl }))
+    then {after = lends (cond (canFresh slice pairs) (stateBytes (fresh (pairsOf pairs))) slice)} (renewed (record { words = word-small; seconds = word-small }) (record { number-is = refl; bytes-are = refl }))
     (then (called (λ e. tt) (record { number-is = refl; bytes-are = refl })) none)
 
 -- and a module from an image, one without credentials and rows, in whatever slice, and an open
@@ -180,8 +180,9 @@ lived = map entering (saving ++ others) ++ (PowerCycle ∷ (map entering resumin
 
 grants-state : IsState (fresh grants)
 grants-state =
-    let zero-word : IsWord 0 = omega arith in
-    state-fresh grants (record { many = refl; words = each-cons (omega arith) (each-cons zero-word (each-cons zero-word (each-cons zero-word (each-cons zero-word (each-cons zero-word (each-cons zero-word (each-cons zero-word each-nil))))))) })
+    let word : (n : ℕ) → IsWord n → AreWords (bothWords n 0) = λ n h. record { grant = h; second = omega arith } in
+    let zero-word : AreWords noWords = word 0 (omega arith) in
+    state-fresh grants (record { many = refl; words = each-cons (word 31 (omega arith)) (each-cons zero-word (each-cons zero-word (each-cons zero-word (each-cons zero-word (each-cons zero-word (each-cons zero-word (each-cons zero-word each-nil))))))) })
 
 before-fit : Each (λ s. Fits (s .call)) (saving ++ others)
 before-fit =

@@ -16,10 +16,10 @@ use Rattle.calls.specs.Run.{step}
 use Rattle.state_layout.specs.Layout.{stateOf}
 use Rattle.state_layout.proofs.Laws.{state-back}
 use Rattle.entries_call.specs.CallEntry.{CallEntry}
-use Rattle.entries_arguments.specs.Arguments.{pairsOf}
+use Rattle.entries_arguments.specs.Arguments.{Handed, pairsOf}
 use Rattle.entries_unprotected.specs.Fresh.{canFresh, FreshEntry}
 use Rattle.history.specs.Lives.{nobody}
-use Rattle.history.specs.Fits.{IsWord, Fits}
+use Rattle.history.specs.Fits.{Fits}
 use Rattle.history.proofs.Form.{state-step}
 use Rattle.image.specs.Image as Image
 use Rattle.image.specs.Image.{stateImage}
@@ -27,7 +27,7 @@ use Rattle.history_resumed.specs.Resumed.{toldBy}
 use Rattle.history_resumed.specs.Changes.{changesImage}
 use Rattle.history_resumed.proofs.Changes.{image-kept}
 use Rattle.entries_image.specs.Entries.{ImageEntry, RestoreEntry}
-use Rattle.history_lent.specs.Lent.{Slices, Made, Entered, called, list-called, renewed, restored, Since, begun, reached, noting, Holds, cycledSince}
+use Rattle.history_lent.specs.Lent.{Slices, Made, OfWords, Entered, called, list-called, renewed, restored, Since, begun, reached, noting, Holds, cycledSince}
 use Rattle.history_lent.specs.Hosted.{entryChanges, Happening, Hosted, none, unwritten, written, cycled, sinceAll, IsNewest}
 use Rattle.history_lent.proofs.Images.{restore-refused, image-written, image-of, restored-image}
 use Rattle.history_lent.proofs.Theorems.{not-fine-bytes, Goes, goes-is, goes-state, made-number, made-bytes, goes-holds, goes-restored-done, goes-on, goes-fresh, goes-again}
@@ -41,10 +41,10 @@ module _ (w : Since) (b : Slices) (g : Goes w b) where
       rw (left, goes-is w b g) (image-kept st call (rw (goes-is w b g, made-number w b g e) at h))
   call-keeps false call n after fits e h = ap (λ x. stateImage (stateOf x)) (e .bytes-are ∙ not-fine-bytes (b .state) call)
 
-fresh-refused : {before flags words after : List ℕ} {n : ℕ} → FreshEntry before flags words n after → eqb n 0 ≡ false → after ≡ before
+fresh-refused : {before after : List ℕ} {pairs : Handed} {n : ℕ} → FreshEntry before pairs n after → eqb n 0 ≡ false → after ≡ before
 unfolding _unless_
-fresh-refused {before} {flags} {words} {n = n} e h =
-    split (canFresh before flags words)
+fresh-refused {before} {pairs = pairs} {n = n} e h =
+    split (canFresh before pairs)
     (λ can. let z : n ≡ 0 = e .number-is ∙ rw can in clash (rw z) h)
     (λ can. e .bytes-are ∙ rw can)
 
@@ -69,9 +69,9 @@ newest-by {b} w g is (cycled {slices = slices} {after = after} bytes r k) =
     newest-by (cycledSince w) on (sym (restored-image bytes r)) k
 
 -- from a fresh module on, whose image is written
-pub hosted-made : {before slices : Slices} {flags words old new : List ℕ} {long : ℕ} → ((i : ℕ) → IsWord (getD words i 0)) → FreshEntry (before .state) flags words 0 (slices .state) → ImageEntry (slices .state) old 0 new long → {happenings : List Happening} {last : Slices} {newest : List ℕ} → Hosted slices (take long new) happenings last newest → IsNewest (sinceAll (begun (fresh (pairsOf flags words)) nobody) happenings) last newest
-hosted-made {before} {slices} {flags} {words} h e i k =
-    let w : Since = begun (fresh (pairsOf flags words)) nobody in
+pub hosted-made : {before slices : Slices} {pairs : Handed} {old new : List ℕ} {long : ℕ} → OfWords pairs → FreshEntry (before .state) pairs 0 (slices .state) → ImageEntry (slices .state) old 0 new long → {happenings : List Happening} {last : Slices} {newest : List ℕ} → Hosted slices (take long new) happenings last newest → IsNewest (sinceAll (begun (fresh (pairsOf pairs)) nobody) happenings) last newest
+hosted-made {before} {slices} {pairs} h e i k =
+    let w : Since = begun (fresh (pairsOf pairs)) nobody in
     let g : Goes w slices = goes-fresh {before = before} {after = slices} h e in
     newest-by w g (image-written i (goes-state w slices g)) k
 

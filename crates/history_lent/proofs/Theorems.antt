@@ -28,22 +28,22 @@ use Rattle.calls.specs.Listing.{rowsOf, messageLength, listing}
 use Rattle.calls.specs.Run.{step, run}
 use Rattle.calls.specs.declared.Wanted.{Wanted}
 use Rattle.calls.proofs.Laws.{answer-number}
-use Rattle.module_rules.specs.Facts.{processes, Rules, IsState}
+use Rattle.module_rules.specs.Facts.{processes, Rules, IsWord, AreWords, IsState}
 use Rattle.state_layout.specs.Layout.{stateLength, stateBytes, stateOf, holdsState}
 use Rattle.state_layout.proofs.Laws.{state-back, holds-written, holds-is, one-form}
 use Rattle.listing_messages.specs.Wire.{rowsAmong, listedBytes}
 use Rattle.listing_messages.proofs.Laws.{length-listing}
 use Rattle.listing_call.proofs.Laws.{rows-fit}
 use Rattle.entries_call.specs.CallEntry.{isMade, entryNumber, entryBytes, CallEntry}
-use Rattle.entries_arguments.specs.Arguments.{pairsOf, arePairs}
+use Rattle.entries_arguments.specs.Arguments.{Handed, pairsFrom, pairsOf, arePairs}
 use Rattle.entries_unprotected.specs.Fresh.{canFresh, FreshEntry}
 use Rattle.entries_protected.specs.Listing.{entryResponse, entryLength, ListEntry}
-use Rattle.entries_unprotected.proofs.Rules.{pairs-length, flags-long, words-long}
+use Rattle.entries_unprotected.proofs.Rules.{pairs-long}
 use Rattle.history.specs.Lives.{Life, nobody}
 use Rattle.history.specs.History.{eventOf, history}
 use Rattle.history.specs.Demand.{look, Tells}
 use Rattle.history.specs.Steps.{Steps}
-use Rattle.history.specs.Fits.{IsWhole, IsWord, Fits, Eight}
+use Rattle.history.specs.Fits.{IsWhole, Fits, Eight}
 use Rattle.history.proofs.Told.{look-tells}
 use Rattle.history.proofs.Form.{state-step, state-fresh}
 use Rattle.history.proofs.Calls.{steps}
@@ -54,7 +54,7 @@ use Rattle.image.proofs.Laws.{stands-is, image-state}
 use Rattle.history_resumed.specs.Resumed.{toldBy}
 use Rattle.history_resumed.proofs.Theorems.{image-tells}
 use Rattle.entries_image.specs.Entries.{ImageEntry, restoreNumber, RestoreEntry}
-use Rattle.history_lent.specs.Lent.{Slices, Response, Made, Renewed, Restored, Entered, called, list-called, renewed, restored, Chain, none, then, Since, begun, reached, noted, noting, since, Small, IsSmall, Holds, Lent, cycledSince, IsImageOf}
+use Rattle.history_lent.specs.Lent.{Slices, Response, Made, OfWords, Renewed, Restored, Entered, called, list-called, renewed, restored, Chain, none, then, Since, begun, reached, noted, noting, since, Small, IsSmall, Holds, Lent, cycledSince, IsImageOf}
 use Rattle.history_lent.proofs.Images.{restore-image, restore-done, image-written, image-of}
 
 -- ---- an entry that makes no call
@@ -173,30 +173,30 @@ unfolding readName
 name-whole part = split (eqb (length part) 48) (λ e. rw e (eqb-true (length part) 48 e)) (λ e. rw e)
 
 -- ---- and the pairs of a fresh module are eight, each word being a number of 32 bits
-words-fit : (flags words : List ℕ) → ((i : ℕ) → IsWord (getD words i 0)) → Each (λ g. IsWord (g .word)) (pairsOf flags words)
+words-fit : (flags words seconds : List ℕ) → ((i : ℕ) → IsWord (getD words i 0)) → ((i : ℕ) → IsWord (getD seconds i 0)) → Each (λ g. AreWords (g .words)) (pairsFrom flags words seconds)
 unfolding pairsOf
-words-fit [] words h = each-nil
-words-fit (flag ∷ flags) [] h = each-nil
-words-fit (flag ∷ flags) (word ∷ words) h = each-cons (h 0) (words-fit flags words (λ i. h (suc i)))
+words-fit [] words seconds h k = each-nil
+words-fit (flag ∷ flags) [] seconds h k = each-nil
+words-fit (flag ∷ flags) (word ∷ words) [] h k = each-nil
+words-fit (flag ∷ flags) (word ∷ words) (second ∷ seconds) h k =
+    each-cons (record { grant = h 0; second = k 0 }) (words-fit flags words seconds (λ i. h (suc i)) (λ i. k (suc i)))
 
-pairs-eight : (flags words : List ℕ) → arePairs flags words ≡ true → ((i : ℕ) → IsWord (getD words i 0)) → Eight (pairsOf flags words)
-pairs-eight flags words e h =
-    let many : length flags ≡ 8 = flags-long flags words e in
-    record { many = pairs-length flags words (many ∙ sym (words-long flags words e)) ∙ many; words = words-fit flags words h }
+pairs-eight : (pairs : Handed) → arePairs pairs ≡ true → OfWords pairs → Eight (pairsOf pairs)
+pairs-eight pairs e h = record { many = pairs-long pairs e; words = words-fit (pairs .flags) (pairs .words) (pairs .seconds) (h .words) (h .seconds) }
 
-module _ (before after : Slices) (flags words : List ℕ) (h : (i : ℕ) → IsWord (getD words i 0)) where
-  fresh-is : canFresh (before .state) flags words ≡ true → IsState (fresh (pairsOf flags words))
+module _ (before after : Slices) (pairs : Handed) (h : OfWords pairs) where
+  fresh-is : canFresh (before .state) pairs ≡ true → IsState (fresh (pairsOf pairs))
   unfolding canFresh
-  fresh-is can = state-fresh (pairsOf flags words) (pairs-eight flags words (and-right (eqb (length (before .state)) stateLength) (arePairs flags words) can) h)
+  fresh-is can = state-fresh (pairsOf pairs) (pairs-eight pairs (and-right (eqb (length (before .state)) stateLength) (arePairs pairs) can) h)
 
   -- a fresh module that was made, and one that was not
-  goes-made : canFresh (before .state) flags words ≡ true → {n : ℕ} → FreshEntry (before .state) flags words n (after .state) → Goes (begun (fresh (pairsOf flags words)) nobody) after
-  goes-made can e = goes-begin (fresh (pairsOf flags words)) (fresh-is can) nobody (tells-fresh (pairsOf flags words)) (e .bytes-are ∙ rw can)
+  goes-made : canFresh (before .state) pairs ≡ true → {n : ℕ} → FreshEntry (before .state) pairs n (after .state) → Goes (begun (fresh (pairsOf pairs)) nobody) after
+  goes-made can e = goes-begin (fresh (pairsOf pairs)) (fresh-is can) nobody (tells-fresh (pairsOf pairs)) (e .bytes-are ∙ rw can)
 
-  goes-renewed : (w : Since) → Goes w before → (n : ℕ) → FreshEntry (before .state) flags words n (after .state) → Goes (noting (Renewed flags words n) w) after
+  goes-renewed : (w : Since) → Goes w before → (n : ℕ) → FreshEntry (before .state) pairs n (after .state) → Goes (noting (Renewed pairs n) w) after
   unfolding _unless_
   goes-renewed w g n e =
-      split (canFresh (before .state) flags words)
+      split (canFresh (before .state) pairs)
       (λ can. let z : n ≡ 0 = e .number-is ∙ rw can in rw z (goes-made can e))
       (λ can. let z : n ≡ 1 = e .number-is ∙ rw can in rw z (goes-same g (e .bytes-are ∙ rw can)))
 
@@ -220,7 +220,7 @@ module _ (before after : Slices) (image : List ℕ) (h : Bytes image) where
 pub goes-on : {b after : Slices} {entry : Made} (w : Since) → Goes w b → Entered b entry after → Goes (noting entry w) after
 goes-on {b} {after} w g (called {fine} {call} {n} fits e) = goes-called w b g fine call n after fits e
 goes-on {b} {after} w g (list-called {fine} {s} {claim} {wanted} {n} {r} e) = goes-called w b g fine (ListProcesses s claim wanted (length (r .old))) n after (λ q. tt) (e .entry)
-goes-on {b} {after} w g (renewed {flags} {words} {n} h e) = goes-renewed b after flags words h w g n e
+goes-on {b} {after} w g (renewed {pairs} {n} h e) = goes-renewed b after pairs h w g n e
 goes-on {b} {after} w g (restored {image} {n} h e) = goes-restored b after image h w g n e
 
 small-on : {b after : Slices} {entry : Made} (w : Since) → Goes w b → Entered b entry after → IsSmall entry
@@ -243,15 +243,15 @@ lent-held b g h tell t k =
     lent-by (begun (stateOf (b .state)) tell) (goes-begin (stateOf (b .state)) (holds-is (b .state) h g) tell t (sym (one-form (b .state) h g))) k
 
 -- from a fresh module on
-pub goes-fresh : {before after : Slices} {flags words : List ℕ} → ((i : ℕ) → IsWord (getD words i 0)) → FreshEntry (before .state) flags words 0 (after .state) → Goes (begun (fresh (pairsOf flags words)) nobody) after
+pub goes-fresh : {before after : Slices} {pairs : Handed} → OfWords pairs → FreshEntry (before .state) pairs 0 (after .state) → Goes (begun (fresh (pairsOf pairs)) nobody) after
 unfolding _unless_
-goes-fresh {before} {after} {flags} {words} h e =
-    split (canFresh (before .state) flags words)
-    (λ can. goes-made before after flags words h can e)
+goes-fresh {before} {after} {pairs} h e =
+    split (canFresh (before .state) pairs)
+    (λ can. goes-made before after pairs h can e)
     (λ can. let z : 0 ≡ 1 = e .number-is ∙ rw can in absurd (omega arith))
 
-pub lent-made : {before after : Slices} {flags words : List ℕ} → ((i : ℕ) → IsWord (getD words i 0)) → FreshEntry (before .state) flags words 0 (after .state) → {entries : List Made} {last : Slices} → Chain after entries last → Lent (begun (fresh (pairsOf flags words)) nobody) entries last
-lent-made {before} {after} {flags} {words} h e k = lent-by (begun (fresh (pairsOf flags words)) nobody) (goes-fresh {before = before} {after = after} h e) k
+pub lent-made : {before after : Slices} {pairs : Handed} → OfWords pairs → FreshEntry (before .state) pairs 0 (after .state) → {entries : List Made} {last : Slices} → Chain after entries last → Lent (begun (fresh (pairsOf pairs)) nobody) entries last
+lent-made {before} {after} {pairs} h e k = lent-by (begun (fresh (pairsOf pairs)) nobody) (goes-fresh {before = before} {after = after} h e) k
 
 -- from a module that was restored on: "Demand 3 from then on counts from the number in the image"
 pub lent-restored : {before after : Slices} {image : List ℕ} → Bytes image → RestoreEntry (before .state) image 0 (after .state) → {entries : List Made} {last : Slices} → Chain after entries last → Lent (begun (Image.restored image) (toldBy image)) entries last

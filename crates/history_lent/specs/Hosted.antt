@@ -19,7 +19,7 @@ use Rattle.history_lent.specs.Lent.{Slices, Made, Called, Listed, Renewe
 abbrev pub entryChanges : Slices → Made → Bool
 entryChanges before (Called fine call n) = changesImage (stateOf (before .state)) call n
 entryChanges before (Listed fine s claim wanted n r) = changesImage (stateOf (before .state)) (ListProcesses s claim wanted (length (r .old))) n
-entryChanges before (Renewed flags words n) = eqb n No.done
+entryChanges before (Renewed pairs n) = eqb n No.done
 entryChanges before (Restored image n) = eqb n No.done
 
 -- what happens to a module

@@ -13,19 +13,20 @@ use Rattle.names.specs.declared.Session.{Session}
 use Rattle.module_state.specs.Numbers as No
 use Rattle.module_state.specs.declared.Claim.{Claim}
 use Rattle.module_state.specs.declared.State.{State}
+use Rattle.module_rules.specs.Facts.{IsWord}
 use Rattle.calls.specs.Calls.{Call, ListProcesses, fresh}
 use Rattle.calls.specs.Run.{run}
 use Rattle.calls.specs.declared.Wanted.{Wanted}
 use Rattle.state_layout.specs.Layout.{stateOf, stateBytes, holdsState}
 use Rattle.entries_call.specs.CallEntry.{CallEntry}
-use Rattle.entries_arguments.specs.Arguments.{pairsOf}
+use Rattle.entries_arguments.specs.Arguments.{Handed, pairsOf}
 use Rattle.entries_unprotected.specs.Fresh.{FreshEntry}
 use Rattle.entries_protected.specs.Listing.{ListEntry}
 use Rattle.history.specs.Lives.{Life, Event, told, nobody}
 use Rattle.history.specs.History.{eventOf, history}
 use Rattle.history.specs.Demand.{Tells}
 use Rattle.history.specs.Since.{Demand3From}
-use Rattle.history.specs.Fits.{Fits, IsWord}
+use Rattle.history.specs.Fits.{Fits}
 use Rattle.image.specs.Image as Image
 use Rattle.image.specs.Image.{isImage, cycled}
 use Rattle.history_resumed.specs.Resumed.{toldBy, cut}
@@ -49,10 +50,15 @@ pub data Made : Type 0 where
   Called : Bool → Call → ℕ → Made
   -- a list call
   Listed : Bool → Session → Claim → Wanted → ℕ → Response → Made
-  -- a fresh module: the flags, the words, and the number
-  Renewed : List ℕ → List ℕ → ℕ → Made
+  -- a fresh module: what was handed in for it, and the number
+  Renewed : Handed → ℕ → Made
   -- a module from an image: its bytes, and the number
   Restored : List ℕ → ℕ → Made
+
+-- the words that are handed in for a fresh module have 32 bits each
+pub record OfWords (pairs : Handed) : Type 0 where
+  pub words : (i : ℕ) → IsWord (getD (pairs .words) i 0)
+  pub seconds : (i : ℕ) → IsWord (getD (pairs .seconds) i 0)
 
 -- an entry on the slices, and the slices afterwards, by the entry's contract. Of a call's arguments their types are told: a name of 48 bytes, a word of 32 bits
 pub data Entered : Slices → Made → Slices → Type 0 where
@@ -62,9 +68,9 @@ pub data Entered : Slices → Made → Slices → Type 0 where
   list-called : {fine : Bool} {s : Session} {claim : Claim} {wanted : Wanted} {n : ℕ} {r : Response} {before after : Slices}
       → ListEntry fine (before .state) s claim wanted (r .old) n (after .state) (r .new) (r .length)
       → Entered before (Listed fine s claim wanted n r) after
-  renewed : {flags words : List ℕ} {n : ℕ} {before after : Slices}
-      → ((i : ℕ) → IsWord (getD words i 0)) → FreshEntry (before .state) flags words n (after .state)
-      → Entered before (Renewed flags words n) after
+  renewed : {pairs : Handed} {n : ℕ} {before after : Slices}
+      → OfWords pairs → FreshEntry (before .state) pairs n (after .state)
+      → Entered before (Renewed pairs n) after
   restored : {image : List ℕ} {n : ℕ} {before after : Slices}
       → Bytes image → RestoreEntry (before .state) image n (after .state)
       → Entered before (Restored image n) after
@@ -99,7 +105,7 @@ noted fine call n w =
 abbrev pub noting : Made → Since → Since
 noting (Called fine call n) w = noted fine call n w
 noting (Listed fine s claim wanted n r) w = noted fine (ListProcesses s claim wanted (length (r .old))) n w
-noting (Renewed flags words n) w = cond (eqb n No.done) (begun (fresh (pairsOf flags words)) nobody) w
+noting (Renewed pairs n) w = cond (eqb n No.done) (begun (fresh (pairsOf pairs)) nobody) w
 noting (Restored image n) w = cond (eqb n No.done) (begun (Image.restored image) (toldBy image)) w
 
 unfoldable pub since : Since → List Made → Since
@@ -116,7 +122,7 @@ pub record Small (r : Response) : Type 0 where
 abbrev pub IsSmall : Made → Type 0
 IsSmall (Called fine call n) = Unit {0}
 IsSmall (Listed fine s claim wanted n r) = Small r
-IsSmall (Renewed flags words n) = Unit {0}
+IsSmall (Renewed pairs n) = Unit {0}
 IsSmall (Restored image n) = Unit {0}
 
 -- of the slices `last` in which entries ended

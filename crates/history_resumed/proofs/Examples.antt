@@ -112,7 +112,7 @@ cycled = record { of-P = refl; of-Q = refl; then-P = refl; then-Q = refl }
 
 -- ---- an image written where the list says so, and a power cycle some calls later. Credential 0 alone is provisioned, with the classes 0 to 4
 abbrev pub grants : List Grants
-grants = record { provisioned = true; word = 31 } ∷ replicate 7 (record { provisioned = false; word = 0 })
+grants = granted (bothWords 31 0) ∷ replicate 7 unprovisioned
 
 -- P counts a record and one that is refused after its claim, and is saved: its image is `image`, with next number 3
 abbrev pub saving : List Step

@@ -16,14 +16,20 @@ abbrev μ-loop : tie.MeasureT-loop
 loop-holds : tie.Need-loop-holds Inv-loop μ-loop
 loop-holds c = search rules
 
-shared-slice-read-t8 : tie.Need-shared-slice-read-t8 Inv-loop μ-loop
-shared-slice-read-t8 c = search rules
+shared-slice-read-t10 : tie.Need-shared-slice-read-t10 Inv-loop μ-loop
+shared-slice-read-t10 c = search rules
 
-mul-t9 : tie.Need-mul-t9 Inv-loop μ-loop
-mul-t9 c = search rules
+mul-t11 : tie.Need-mul-t11 Inv-loop μ-loop
+mul-t11 c = search rules
 
-shared-slice-read-t11 : tie.Need-shared-slice-read-t11 Inv-loop μ-loop
-shared-slice-read-t11 c = search rules
+shared-slice-read-t13 : tie.Need-shared-slice-read-t13 Inv-loop μ-loop
+shared-slice-read-t13 c = search rules
+
+mul-t14 : tie.Need-mul-t14 Inv-loop μ-loop
+mul-t14 c = search rules
+
+shared-slice-read-t16 : tie.Need-shared-slice-read-t16 Inv-loop μ-loop
+shared-slice-read-t16 c = search rules
 
 mul-pairs : tie.Need-mul-pairs Inv-loop μ-loop
 mul-pairs c = search rules
@@ -50,9 +56,11 @@ pairs-of-spec =
     Inv-loop
     μ-loop
     loop-holds
-    shared-slice-read-t8
-    mul-t9
-    shared-slice-read-t11
+    shared-slice-read-t10
+    mul-t11
+    shared-slice-read-t13
+    mul-t14
+    shared-slice-read-t16
     mul-pairs
     array-set-from-pairs
     add-i
