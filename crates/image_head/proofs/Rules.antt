@@ -12,6 +12,7 @@ use lib.Dec.{eqb, ltb}
 use lib.ListN.{length, getD, drop, set, replicate, length-replicate}
 use lib.Seq.{drop-cons}
 use Rattle.lists.proofs.Lists.{length-mapped}
+use Rattle.lists.proofs.Tests.{or-false}
 use Rattle.lists.proofs.Loops.{Copied, copied-none, copied-more, copied-all}
 use Rattle.rows.specs.Bytes.{numberOf, numberAt}
 use Rattle.rows.proofs.Loops.{FilledBy, filled-begin, filled-next, filled-done, and-false}
@@ -28,13 +29,13 @@ pub head-read : (b : List ℕ) {mask words from n offset : ℕ} → mask ≡ num
 unfolding headIn
 head-read b e f g p q = rw (e, f, g, p, q)
 
-pub offset-new : (offset : ℕ) → offset ≡ savedAt → true ≡ isRowOffset offset
+pub offset-old : (offset : ℕ) → offset ≡ oldSavedAt → true ≡ isRowOffset offset
 unfolding isRowOffset isNew
-offset-new offset e = rw e
+offset-old offset e = rw e
 
-pub offset-old : (offset : ℕ) → (offset ≡ savedAt → ⊥) → eqb offset oldSavedAt ≡ isRowOffset offset
+pub offset-new : (offset : ℕ) → (offset ≡ oldSavedAt → ⊥) → eqb offset savedAt ≡ isRowOffset offset
 unfolding isRowOffset isNew
-offset-old offset n = rw (ne-eqb offset savedAt n)
+offset-new offset n = rw (ne-eqb offset oldSavedAt n) (sym (or-false (eqb offset savedAt)))
 
 -- each number that does not fit is enough for a refusal, whatever the others are
 module _ (h : ImageHead) where
@@ -135,4 +136,4 @@ pub grants-read : (b : List ℕ) (mask offset : ℕ) {words seconds : List ℕ} 
     → grants ≡ grantsSaid mask words seconds → grants ≡ grantsAmong mask offset b
 grants-read b mask offset e f g = g ∙ rw (e, f)
 
-pub ruleset rules = (needs, length-mapped, head-read, head-mask, head-words, head-from, head-rows, offset-new, offset-old, head-all, filled-begin, words-next, words-done, seconds-new, seconds-old, said-begin, said-next, said-done, grants-read)
+pub ruleset rules = (needs, length-mapped, head-read, head-mask, head-words, head-from, head-rows, offset-old, offset-new, head-all, filled-begin, words-next, words-done, seconds-new, seconds-old, said-begin, said-next, said-done, grants-read)

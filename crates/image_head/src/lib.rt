@@ -37,10 +37,10 @@ pub fn read_head(b: &[u8]) -> ImageHead
 fn is_row_offset(offset: usize) -> bool
     ensures { λ r. ⌜ r ≡ isRowOffset offset ⌝ }
 {
-    if offset == SAVED_AT {
+    if offset == OLD_SAVED_AT {
         return true;
     }
-    offset == OLD_SAVED_AT
+    offset == SAVED_AT
 }
 
 pub fn head_fits(h: ImageHead) -> bool
