@@ -3,15 +3,15 @@
 -- Assumes nothing.
 use Prim.Native.Nat.{ℕ, _+_, _-_, _*_, _<_, _≤_}
 use mathlib.Core.Path.{_≡_, refl, sym, ap, _∙_}
-use mathlib.Core.Logic.{_↔_}
-use mathlib.Core.Bool.{Bool, true, _&&_}
+use mathlib.Core.Logic.{_↔_, _⊎_, inl, inr, ⊎-elim}
+use mathlib.Core.Bool.{Bool, true, false, _&&_}
 use mathlib.Core.List.{List, [], _∷_, _++_, map, append-nil}
 use native.Mathlib.Omega.{arith}
 use mir.Syntax.{w64}
 use mir.Val.{Fits}
 use lib.Dec.{eqb, leb, ltb}
-use lib.ListN.{length, take, drop, length-append, length-map, length-take, length-drop, length-replicate}
-use lib.Seq.{take-all, drop-at, drop-drop}
+use lib.ListN.{length, take, drop, replicate, length-append, length-map, length-take, length-drop, length-replicate}
+use lib.Seq.{take-all, take-at, drop-at, drop-drop}
 use borrow.Author.Tests.{eqb-true, leb-true, ltb-true, eq-eqb, le-leb, lt-ltb, not-true}
 use Rattle.lists.specs.Lists.{join, select}
 use Rattle.lists.specs.Each.{Each, each-nil, each-cons, Pairs, pairs-nil, pairs-cons}
@@ -21,7 +21,7 @@ use Rattle.lists.proofs.Each.{each-imp, each-imp₂, each-both, each-all, pairs
 use Rattle.rows.specs.Bytes.{Bytes, bytesOf, numberOf, numberAt}
 use Rattle.rows.specs.Rows.{rows, every, pairwise}
 use Rattle.rows.proofs.Bytes.{bytes-drop, number-back, number-taken, part-front}
-use Rattle.rows.proofs.Rows.{rows-length, every-by, by-every, pairwise-by, by-pairwise, each-take, array-long, array-back, array-forth, array-good}
+use Rattle.rows.proofs.Rows.{rows-length, every-by, by-every, pairwise-by, by-pairwise, each-take, each-replicate, array-back, array-forth, array-good}
 use Rattle.rows.proofs.Loops.{and-true, and-assoc}
 use Rattle.names.specs.Names.{nameLength, sameName}
 use Rattle.names.proofs.Laws.{differ-iff}
@@ -36,12 +36,12 @@ use Rattle.table.proofs.Laws.{standing-of, whole-of}
 use Rattle.module_state.specs.Module.{closedSession, provisioned, sessionCount, credentialCount, wordSize}
 use Rattle.module_state.specs.declared.Grants.{Grants}
 use Rattle.module_state.specs.declared.State.{State}
-use Rattle.module_rules.specs.Facts.{processes, Owned, Apart, FormedGrants, FormedProcess, IsState, WideGrants, Wide}
+use Rattle.module_rules.specs.Facts.{processes, Owned, Apart, FormedGrants, FormedProcess, IsState, Wide}
 use Rattle.module_rules.proofs.Laws.{provisioned-low}
 use Rattle.image.specs.declared.ImageHead.{ImageHead}
 use Rattle.image.specs.declared.SavedRow.{SavedRow}
-use Rattle.image.specs.Image.{maskAt, wordCountAt, wordOffsetAt, rowCountAt, rowOffsetAt, wordsAt, savedAt, savedSize, isRowOffset, imageLong, Image, numbersBytes, numbersIn, headNumbers, maskOf, wordIn, savedBytes, imageBytes, headIn, grantsSaid, grantsIn, savedFrom, savedIn, imageIn, isOwner, isKeepable, differ, keep, headFits, wordFits, imageFits, isImage, savedProcess, moduleOf, restored, savedRow, isSavedOne, savedOf, imageOf, stateImage, cycled, imageRoom, SavedLie}
-use Rattle.image.proofs.Rows.{every-anything, Small, number-codec, mask-small, word-small, word-fits, grants-back, mask-back, grants-formed, words-back, grants-length, RowFits, rows-long, saved-codec, each-select, pairs-select}
+use Rattle.image.specs.Image.{maskAt, wordCountAt, wordOffsetAt, rowCountAt, rowOffsetAt, wordsAt, wordsSize, secondsAt, savedAt, oldSavedAt, savedSize, isNew, isRowOffset, imageLong, Image, numbersBytes, numbersIn, headNumbers, maskOf, grantIn, secondIn, secondsBytes, savedBytes, imageBytes, headIn, wordsFrom, secondsFrom, grantsSaid, grantsIn, savedFrom, savedIn, imageIn, isOwner, isKeepable, differ, keep, headFits, wordsFit, imageFits, isImage, savedProcess, moduleOf, restored, savedRow, isSavedOne, savedOf, imageOf, stateImage, renewed, cycled, imageRoom, SavedLie}
+use Rattle.image.proofs.Rows.{every-anything, Small, number-codec, numbers-long, mask-small, grant-is, second-is, words-fit, grants-back, grants-length, mask-back, words-back, grants-formed, NoSecond, said-zero, seconds-zero, RowFits, rows-long, saved-codec, each-select, pairs-select}
 
 -- ---- lists made by a function
 module _ {A B : Type 0} (f : A → B) where
@@ -53,13 +53,28 @@ module _ {A B : Type 0} (f : A → B) where
   pairs-map pairs-nil = pairs-nil
   pairs-map (pairs-cons p v) = pairs-cons (each-map p) (pairs-map v)
 
--- ---- 42 is the only offset
-pub offset-is : (offset : ℕ) → isRowOffset offset ≡ true → offset ≡ savedAt
+-- ---- the rows lie at 74 in the new layout, and at 42 in the old one
+pub new-at : (offset : ℕ) → isNew offset ≡ true → offset ≡ savedAt
+unfolding isNew
+new-at offset e = eqb-true offset savedAt e
+
+pub old-at : (offset : ℕ) → isRowOffset offset ≡ true → isNew offset ≡ false → offset ≡ oldSavedAt
 unfolding isRowOffset
-offset-is offset e = eqb-true offset savedAt e
+old-at offset e n = eqb-true offset oldSavedAt (rw n at e)
+
+pub offset-is : (offset : ℕ) → isRowOffset offset ≡ true → (offset ≡ savedAt) ⊎ (offset ≡ oldSavedAt)
+offset-is offset e = split (isNew offset) (λ n. inl (new-at offset n)) (λ n. inr (old-at offset e n))
 
 pub offset-low : (offset : ℕ) → isRowOffset offset ≡ true → offset ≤ savedAt
-offset-low offset e = omega (arith, offset-is offset e)
+offset-low offset e = ⊎-elim (λ n. omega arith) (λ n. omega arith) (offset-is offset e)
+
+offset-high : (offset : ℕ) → isRowOffset offset ≡ true → oldSavedAt ≤ offset
+offset-high offset e = ⊎-elim (λ n. omega arith) (λ n. omega arith) (offset-is offset e)
+
+-- no length belongs to both
+pub length-tells : (n m : ℕ) → imageLong savedAt n ≡ imageLong oldSavedAt m → ⊥
+unfolding imageLong
+length-tells n m e = omega arith
 
 -- ---- what the head of an image has
 pub record Head (h : ImageHead) : Type 0 where
@@ -85,16 +100,16 @@ head-has h e =
 
 -- what it holds
 pub record Sound (i : Image) : Type 0 where
-  pub words : every wordFits (i .grants) ≡ true
+  pub words : every wordsFit (i .grants) ≡ true
   pub keepable : every (isKeepable (i .grants)) (i .saved) ≡ true
   pub names : pairwise differ (i .saved) ≡ true
 
 pub sound : (i : Image) → imageFits i ≡ true → Sound i
 unfolding imageFits
 sound i e =
-    let e₁ = and-right (every wordFits (i .grants)) _ e in
+    let e₁ = and-right (every wordsFit (i .grants)) _ e in
     record {
-      words = and-left (every wordFits (i .grants)) _ e;
+      words = and-left (every wordsFit (i .grants)) _ e;
       keepable = and-left (every (isKeepable (i .grants)) (i .saved)) _ e₁;
       names = and-right (every (isKeepable (i .grants)) (i .saved)) _ e₁;
     }
@@ -196,7 +211,7 @@ module _ (grants : List Grants) where
 pub record AllKeptIn (b : List ℕ) : Type 0 where
   pub head : headFits (headIn b) ≡ true
   pub long : length b ≡ imageLong (headIn b .offset) (headIn b .rows)
-  pub words : every wordFits (grantsIn b) ≡ true
+  pub words : every wordsFit (grantsIn b) ≡ true
   pub rows : keep (grantsIn b) [] (savedIn b) ≡ savedIn b
 
 pub kept-image : (b : List ℕ) → (isImage b ≡ true) ↔ AllKeptIn b
@@ -207,7 +222,7 @@ kept-image b = (
         head = and-left (headFits (headIn b)) _ e;
         long = image b e .long;
         words = sound (imageIn b) (image b e .fits) .words;
-        rows = kept-all (grantsIn b) (savedIn b) .1 (and-right (every wordFits (grantsIn b)) _ (image b e .fits));
+        rows = kept-all (grantsIn b) (savedIn b) .1 (and-right (every wordsFit (grantsIn b)) _ (image b e .fits));
       },
   λ v.
       and-both (v .head)
@@ -220,25 +235,42 @@ head-long : (mask n offset : ℕ) → length (numbersBytes 2 (headNumbers mask n
 unfolding numbersBytes join bytesOf
 head-long mask n offset = refl
 
-words-small : {l : List Grants} → Each WideGrants l → Each (Small wordSize) (map wordIn l)
-words-small each-nil = each-nil
-words-small (each-cons {x} p h) = each-cons (word-small x p) (words-small h)
+module _ (offset : ℕ) (l : List Grants) where
+  seconds-new : isNew offset ≡ true → secondsBytes offset l ≡ numbersBytes wordSize (map secondIn l)
+  unfolding secondsBytes
+  seconds-new n = rw n
 
-words-long : {l : List Grants} → Each WideGrants l → length (numbersBytes wordSize (map wordIn l)) ≡ length l * wordSize
-unfolding numbersBytes
-words-long {l} w = array-long (number-codec wordSize) (words-small w) ∙ rw (length-map l wordIn)
+  seconds-old : isNew offset ≡ false → secondsBytes offset l ≡ []
+  unfolding secondsBytes
+  seconds-old n = rw n
 
-image-long : (i : Image) → i .offset ≡ savedAt → length (i .grants) ≡ credentialCount → Each WideGrants (i .grants) → Each (λ r. length (r .name .bytes) ≡ nameLength) (i .saved)
+  -- in either layout the rows begin where the words before them end
+  seconds-long : isRowOffset offset ≡ true → length l ≡ credentialCount → secondsAt + length (secondsBytes offset l) ≡ offset
+  seconds-long o eight =
+      split (isNew offset)
+      (λ n. rw (seconds-new n, numbers-long, length-map) (omega (arith, new-at offset n)))
+      (λ n. rw (seconds-old n) (omega (arith, old-at offset o n)))
+
+image-long : (i : Image) → isRowOffset (i .offset) ≡ true → length (i .grants) ≡ credentialCount → Each (λ r. length (r .name .bytes) ≡ nameLength) (i .saved)
     → length (imageBytes i) ≡ imageLong (i .offset) (length (i .saved))
 unfolding imageBytes imageLong
-image-long i o eight w n =
-    rw o (simp length-append (omega (arith, head-long (maskOf (i .grants)) (length (i .saved)) savedAt, words-long w, eight, rows-long n)))
+image-long i o eight n =
+    simp length-append
+    (omega (
+      arith,
+      head-long (maskOf (i .grants)) (length (i .saved)) (i .offset),
+      numbers-long wordSize (map grantIn (i .grants)),
+      length-map (i .grants) grantIn,
+      seconds-long (i .offset) (i .grants) o eight,
+      eight,
+      rows-long n,
+    ))
 
 -- the image of any state that a function has
 pub long-is : {st : State} → Wide st → length (stateImage st) ≡ imageRoom st
-unfolding stateImage imageOf imageRoom savedOf standing savedRow
+unfolding stateImage imageOf imageRoom savedOf standing savedRow isNew isRowOffset
 long-is {st} w =
-    image-long (imageOf st) refl (w .credentials) (w .words)
+    image-long (imageOf st) refl (w .credentials)
     (each-map savedRow (each-imp (λ p h. h .1) (each-select isSavedOne (each-take (st .table .count) (each-imp (λ p v. v .name) (w .each))))))
 
 -- ---- the processes that an image restores
@@ -246,11 +278,26 @@ pub stands-is : (b : List ℕ) → standing (restored b .table) ≡ map savedPro
 unfolding restored imageIn
 stands-is b = standing-of (map savedProcess (savedIn b))
 
+-- ---- an image with its rows from another offset on
+abbrev laid : ℕ → Image → Image
+laid offset i = record { offset = offset; grants = i .grants; saved = i .saved }
+
+renewed-new : (b : List ℕ) → isNew (headIn b .offset) ≡ true → renewed b ≡ b
+unfolding renewed
+renewed-new b n = rw n
+
+-- ---- eight words, one after another, and what follows them
+eight-back : (l y : List ℕ) → length l ≡ credentialCount → Each (Small wordSize) l → numbersIn credentialCount wordSize (numbersBytes wordSize l ++ y) ≡ l
+unfolding numbersIn numbersBytes
+eight-back l y eight small = rw eight at (array-back (number-codec wordSize) y small)
+
 -- ---- an image that can be written: what its bytes say is that image
 pub record Fit (i : Image) : Type 0 where
   pub offset : isRowOffset (i .offset) ≡ true
   pub eight : length (i .grants) ≡ credentialCount
   pub words : Each FormedGrants (i .grants)
+  -- "The reader still takes the old layout, second words zero"
+  pub seconds : isNew (i .offset) ≡ false → Each NoSecond (i .grants)
   pub few : length (i .saved) ≤ places
   pub each : Each RowFits (i .saved)
 
@@ -261,17 +308,32 @@ module _ {i : Image} (f : Fit i) where
   abbrev saved : List ℕ
   saved = join (map savedBytes (i .saved))
 
-  abbrev behind : List ℕ
-  behind = numbersBytes wordSize (map wordIn (i .grants)) ++ saved
+  abbrev firsts : List ℕ
+  firsts = map grantIn (i .grants)
 
-  wide : Each WideGrants (i .grants)
-  wide = each-imp (λ g v. record { word = v .word }) (f .words)
+  abbrev seconds : List ℕ
+  seconds = map secondIn (i .grants)
+
+  abbrev behind : List ℕ
+  behind = secondsBytes (i .offset) (i .grants) ++ saved
+
+  firsts-many : length firsts ≡ credentialCount
+  firsts-many = length-map (i .grants) grantIn ∙ f .eight
+
+  seconds-many : length seconds ≡ credentialCount
+  seconds-many = length-map (i .grants) secondIn ∙ f .eight
+
+  firsts-small : Each (Small wordSize) firsts
+  firsts-small = each-map grantIn (each-imp (λ g v. rw (grant-is g v) (v .words .grant)) (f .words))
+
+  seconds-small : Each (Small wordSize) seconds
+  seconds-small = each-map secondIn (each-imp (λ g v. rw (second-is g v) (v .words .second)) (f .words))
+
+  seconds-none : isNew (i .offset) ≡ false → seconds ≡ replicate credentialCount 0
+  seconds-none n = rw (f .eight) at (seconds-zero (f .seconds n))
 
   mask-low : maskOf (i .grants) < 256
   mask-low = rw (f .eight) at (mask-small (i .grants))
-
-  at-offset : i .offset ≡ savedAt
-  at-offset = offset-is (i .offset) (f .offset)
 
   mask-is : headIn b .mask ≡ maskOf (i .grants)
   unfolding headIn numberAt imageBytes numbersBytes join bytesOf
@@ -299,29 +361,41 @@ module _ {i : Image} (f : Fit i) where
       rw (mask-is, words-is, from-is, count-is, row-offset-is)
       (and-both (lt-ltb (maskOf (i .grants)) 256 mask-low) (and-both (le-leb (length (i .saved)) places (f .few)) (f .offset)))
 
-  from-words : drop wordsAt b ≡ behind
+  from-words : drop wordsAt b ≡ numbersBytes wordSize firsts ++ behind
   unfolding imageBytes
-  from-words = drop-at (numbersBytes 2 (headNumbers (maskOf (i .grants)) (length (i .saved)) (i .offset))) behind wordsAt (head-long (maskOf (i .grants)) (length (i .saved)) (i .offset))
+  from-words =
+      drop-at (numbersBytes 2 (headNumbers (maskOf (i .grants)) (length (i .saved)) (i .offset))) (numbersBytes wordSize firsts ++ behind) wordsAt (head-long (maskOf (i .grants)) (length (i .saved)) (i .offset))
 
-  from-saved : drop (i .offset) b ≡ saved ++ []
+  firsts-long : length (numbersBytes wordSize firsts) ≡ wordsSize
+  firsts-long = numbers-long wordSize firsts ∙ rw firsts-many
+
+  from-seconds : drop secondsAt b ≡ behind
+  from-seconds = sym (drop-drop wordsSize wordsAt b) ∙ rw from-words (drop-at (numbersBytes wordSize firsts) behind wordsSize firsts-long)
+
+  from-saved : drop (i .offset) b ≡ saved
   from-saved =
-      ap (λ (o : ℕ). drop o b) at-offset
-      ∙ sym (drop-drop (credentialCount * wordSize) wordsAt b)
-      ∙ rw from-words (drop-at (numbersBytes wordSize (map wordIn (i .grants))) saved (credentialCount * wordSize) (words-long wide ∙ rw (f .eight)) ∙ sym (append-nil saved))
+      let long : ℕ = length (secondsBytes (i .offset) (i .grants)) in
+      ap (λ (o : ℕ). drop o b) (sym (seconds-long (i .offset) (i .grants) (f .offset) (f .eight)))
+      ∙ sym (drop-drop long secondsAt b)
+      ∙ rw from-seconds (drop-at (secondsBytes (i .offset) (i .grants)) saved long refl)
 
-  words-are : numbersIn credentialCount wordSize (drop wordsAt b) ≡ map wordIn (i .grants)
-  unfolding numbersIn numbersBytes
-  words-are =
-      let eight : length (map wordIn (i .grants)) ≡ credentialCount = length-map (i .grants) wordIn ∙ f .eight in
-      rw from-words (rw eight at (array-back (number-codec wordSize) saved (words-small wide)))
+  firsts-are : wordsFrom wordsAt b ≡ firsts
+  firsts-are = rw from-words (eight-back firsts behind firsts-many firsts-small)
+
+  seconds-are : secondsFrom (i .offset) b ≡ seconds
+  unfolding secondsFrom
+  seconds-are =
+      split (isNew (i .offset))
+      (λ n. rw (n, from-seconds, seconds-new (i .offset) (i .grants) n) (eight-back seconds saved seconds-many seconds-small))
+      (λ n. rw n (sym (seconds-none n)))
 
   grants-are : grantsIn b ≡ i .grants
   unfolding grantsIn
-  grants-are = rw (mask-is, words-are) (grants-back (f .words))
+  grants-are = rw (mask-is, row-offset-is, firsts-are, seconds-are) (grants-back (f .words))
 
   saved-are : savedIn b ≡ i .saved
   unfolding savedIn
-  saved-are = rw (count-is, row-offset-is, from-saved) (array-back saved-codec [] (f .each))
+  saved-are = rw (count-is, row-offset-is, from-saved, ← append-nil saved) (array-back saved-codec [] (f .each))
 
   pub image-back : imageIn (imageBytes i) ≡ i
   unfolding imageIn
@@ -330,21 +404,46 @@ module _ {i : Image} (f : Fit i) where
   pub image-is : imageFits i ≡ true → isImage (imageBytes i) ≡ true
   unfolding isImage
   image-is fits =
-      let long : length b ≡ imageLong (i .offset) (length (i .saved)) = image-long i at-offset (f .eight) wide (each-imp (λ r v. v .name) (f .each)) in
+      let long : length b ≡ imageLong (i .offset) (length (i .saved)) = image-long i (f .offset) (f .eight) (each-imp (λ r v. v .name) (f .each)) in
       rw (head-is, count-is, row-offset-is, image-back) (and-both (eq-eqb (length b) (imageLong (i .offset) (length (i .saved))) long) fits)
+
+  -- ---- and in the new layout they are the bytes of the same image there
+  renewed-parts : isNew (i .offset) ≡ false → renewed b ≡ take rowOffsetAt b ++ (bytesOf 2 savedAt ++ (numbersBytes wordSize firsts ++ (replicate wordsSize 0 ++ saved)))
+  unfolding renewed
+  renewed-parts n =
+      let words : take wordsSize (drop wordsAt b) ≡ numbersBytes wordSize firsts = rw from-words (take-at (numbersBytes wordSize firsts) behind wordsSize firsts-long) in
+      let rows : drop oldSavedAt b ≡ saved = ap (λ (o : ℕ). drop o b) (sym (old-at (i .offset) (f .offset) n)) ∙ from-saved in
+      rw (row-offset-is, n, words, rows)
+
+  renewed-old : isNew (i .offset) ≡ false → renewed b ≡ imageBytes (laid savedAt i)
+  unfolding imageBytes numbersBytes secondsBytes isNew join bytesOf
+  renewed-old n = renewed-parts n ∙ rw (seconds-none n)
+
+  pub renewed-bytes : renewed b ≡ imageBytes (laid savedAt i)
+  renewed-bytes =
+      split (isNew (i .offset))
+      (λ n. renewed-new b (ap isNew row-offset-is ∙ n) ∙ ap (λ (o : ℕ). imageBytes (laid o i)) (new-at (i .offset) n))
+      renewed-old
 
 -- ---- bytes that are an image: they are those of what they say
 five-parts : (m c o n p : ℕ) (y : List ℕ) → numbersBytes 2 (m ∷ c ∷ o ∷ n ∷ p ∷ []) ++ y ≡ bytesOf 2 m ++ (bytesOf 2 c ++ (bytesOf 2 o ++ (bytesOf 2 n ++ (bytesOf 2 p ++ y))))
 unfolding numbersBytes join bytesOf
 five-parts m c o n p y = refl
 
-words-eight : (b : List ℕ) → length (numbersIn credentialCount wordSize (drop wordsAt b)) ≡ credentialCount
+words-eight : (at : ℕ) (b : List ℕ) → length (wordsFrom at b) ≡ credentialCount
 unfolding numbersIn
-words-eight b = length-map (rows credentialCount wordSize (drop wordsAt b)) numberOf ∙ rows-length credentialCount wordSize (drop wordsAt b)
+words-eight at b = length-map (rows credentialCount wordSize (drop at b)) numberOf ∙ rows-length credentialCount wordSize (drop at b)
+
+seconds-eight : (offset : ℕ) (b : List ℕ) → length (secondsFrom offset b) ≡ credentialCount
+unfolding secondsFrom
+seconds-eight offset b = split (isNew offset) (λ n. rw n (words-eight secondsAt b)) (λ n. rw n)
+
+as-many : (offset : ℕ) (b : List ℕ) → length (secondsFrom offset b) ≡ length (wordsFrom wordsAt b)
+as-many offset b = seconds-eight offset b ∙ sym (words-eight wordsAt b)
 
 pub grants-eight : (b : List ℕ) → length (grantsIn b) ≡ credentialCount
 unfolding grantsIn
-grants-eight b = grants-length (headIn b .mask) (numbersIn credentialCount wordSize (drop wordsAt b)) ∙ words-eight b
+grants-eight b = grants-length (headIn b .mask) (wordsFrom wordsAt b) (secondsFrom (headIn b .offset) b) (as-many (headIn b .offset) b) ∙ words-eight wordsAt b
 
 saved-length : (b : List ℕ) → length (savedIn b) ≡ headIn b .rows
 unfolding savedIn
@@ -354,53 +453,74 @@ module _ (b : List ℕ) (g : Bytes b) (e : isImage b ≡ true) where
   v : IsImage b
   v = image b e
 
+  abbrev offset : ℕ
+  offset = headIn b .offset
+
   abbrev words : List ℕ
-  words = numbersIn credentialCount wordSize (drop wordsAt b)
+  words = wordsFrom wordsAt b
+
+  abbrev seconds′ : List ℕ
+  seconds′ = secondsFrom offset b
 
   -- its parts
-  offset-at : headIn b .offset ≡ savedAt
-  offset-at = offset-is (headIn b .offset) (v .head .offset)
-
-  long-at : length b ≡ imageLong savedAt (headIn b .rows)
-  long-at = v .long ∙ rw offset-at
-
-  words-room : credentialCount * wordSize ≤ length (drop wordsAt b)
+  room : oldSavedAt ≤ length b
   unfolding imageLong
-  words-room = simp length-drop (omega (arith, long-at))
+  room = omega (arith, v .long, offset-high offset (v .head .offset))
 
-  rows-room : length (drop (headIn b .offset) b) ≡ headIn b .rows * savedSize
+  room-new : isNew offset ≡ true → savedAt ≤ length b
   unfolding imageLong
-  rows-room = rw offset-at (simp length-drop (omega (arith, long-at)))
+  room-new n = omega (arith, v .long, new-at offset n)
 
-  in-words : Each (Small wordSize) words
-  unfolding numbersIn
-  in-words = array-good (number-codec wordSize) credentialCount (drop wordsAt b) words-room (bytes-drop wordsAt b g) (every-anything (rows credentialCount wordSize (drop wordsAt b)))
+  rows-room : length (drop offset b) ≡ headIn b .rows * savedSize
+  unfolding imageLong
+  rows-room = simp length-drop (omega (arith, v .long))
+
+  module _ (at : ℕ) (r : at + wordsSize ≤ length b) where
+    behind′ : wordsSize ≤ length (drop at b)
+    behind′ = simp length-drop (omega arith)
+
+    words-small : Each (Small wordSize) (wordsFrom at b)
+    unfolding numbersIn
+    words-small = array-good (number-codec wordSize) credentialCount (drop at b) behind′ (bytes-drop at b g) (every-anything (rows credentialCount wordSize (drop at b)))
+
+    words-forth : numbersBytes wordSize (wordsFrom at b) ≡ take wordsSize (drop at b)
+    unfolding numbersBytes numbersIn
+    words-forth = array-forth (number-codec wordSize) credentialCount (drop at b) behind′ (bytes-drop at b g) (every-anything (rows credentialCount wordSize (drop at b)))
+
+  seconds-fit : Each (Small wordSize) seconds′
+  unfolding secondsFrom
+  seconds-fit = split (isNew offset) (λ n. rw n (words-small secondsAt (room-new n))) (λ n. rw n (each-replicate credentialCount 0 (omega arith)))
 
   saved-fit : Each RowFits (savedIn b)
   unfolding savedIn
-  saved-fit = array-good saved-codec (headIn b .rows) (drop (headIn b .offset) b) (omega (arith, rows-room)) (bytes-drop (headIn b .offset) b g) (every-anything (rows (headIn b .rows) savedSize (drop (headIn b .offset) b)))
+  saved-fit = array-good saved-codec (headIn b .rows) (drop offset b) (omega (arith, rows-room)) (bytes-drop offset b g) (every-anything (rows (headIn b .rows) savedSize (drop offset b)))
 
   said-formed : Each FormedGrants (grantsIn b)
   unfolding grantsIn imageIn
-  said-formed = grants-formed (headIn b .mask) words in-words (every-by (λ x q. q) (grantsSaid (headIn b .mask) words) (sound (imageIn b) (v .fits) .words))
+  said-formed =
+      grants-formed (headIn b .mask) words seconds′ (words-small wordsAt room) seconds-fit
+      (every-by (λ x q. q) (grantsSaid (headIn b .mask) words seconds′) (sound (imageIn b) (v .fits) .words))
+
+  no-seconds : isNew offset ≡ false → Each NoSecond (grantsIn b)
+  unfolding grantsIn secondsFrom
+  no-seconds n = rw n (said-zero (headIn b .mask) words credentialCount)
 
   pub image-fit : Fit (imageIn b)
   unfolding imageIn
-  image-fit = record { offset = v .head .offset; eight = grants-eight b; words = said-formed; few = rw (saved-length b) (v .head .few); each = saved-fit }
+  image-fit = record { offset = v .head .offset; eight = grants-eight b; words = said-formed; seconds = no-seconds; few = rw (saved-length b) (v .head .few); each = saved-fit }
 
   -- and the bytes of what they say
   mask-of : maskOf (grantsIn b) ≡ headIn b .mask
   unfolding grantsIn
-  mask-of = mask-back (headIn b .mask) words (rw (words-eight b) (v .head .mask))
+  mask-of = mask-back (headIn b .mask) words seconds′ (as-many offset b) (rw (words-eight wordsAt b) (v .head .mask))
 
-  words-of : map wordIn (grantsIn b) ≡ words
+  said-back : (map grantIn (grantsIn b) ≡ words) × (map secondIn (grantsIn b) ≡ seconds′)
   unfolding grantsIn
-  words-of = words-back (headIn b .mask) words said-formed
+  said-back = words-back (headIn b .mask) words seconds′ (as-many offset b) said-formed
 
   five-forth : numbersBytes 2 (numberAt 2 maskAt b ∷ numberAt 2 wordCountAt b ∷ numberAt 2 wordOffsetAt b ∷ numberAt 2 rowCountAt b ∷ numberAt 2 rowOffsetAt b ∷ []) ++ drop wordsAt b ≡ b
-  unfolding imageLong
   five-forth =
-      let room : savedAt ≤ length b = omega (arith, long-at) in
+      let known : oldSavedAt ≤ length b = room in
       five-parts (numberAt 2 maskAt b) (numberAt 2 wordCountAt b) (numberAt 2 wordOffsetAt b) (numberAt 2 rowCountAt b) (numberAt 2 rowOffsetAt b) (drop wordsAt b)
       ∙ rw (
         number-taken 2 maskAt b g (omega arith),
@@ -420,20 +540,23 @@ module _ (b : List ℕ) (g : Bytes b) (e : isImage b ≡ true) where
       let five : numbersBytes 2 (headIn b .mask ∷ headIn b .words ∷ headIn b .from ∷ headIn b .rows ∷ headIn b .offset ∷ []) ++ drop wordsAt b ≡ b = unfold headIn in five-forth in
       rw (v .head .words, v .head .from) at five
 
-  words-forth : numbersBytes wordSize words ≡ take (credentialCount * wordSize) (drop wordsAt b)
-  unfolding numbersBytes numbersIn
-  words-forth = array-forth (number-codec wordSize) credentialCount (drop wordsAt b) words-room (bytes-drop wordsAt b g) (every-anything (rows credentialCount wordSize (drop wordsAt b)))
+  seconds-forth : secondsBytes offset (grantsIn b) ++ drop offset b ≡ drop secondsAt b
+  seconds-forth =
+      split (isNew offset)
+      (λ n.
+      let said : seconds′ ≡ wordsFrom secondsAt b = (unfold secondsFrom in rw n) in
+      rw (seconds-new offset (grantsIn b) n, said-back .1, said, words-forth secondsAt (room-new n)) (ap (λ (o : ℕ). take wordsSize (drop secondsAt b) ++ drop o b) (new-at offset n) ∙ part-front wordsSize secondsAt b))
+      (λ n. rw (seconds-old offset (grantsIn b) n) (ap (λ (o : ℕ). drop o b) (old-at offset (v .head .offset) n)))
 
-  rows-forth : join (map savedBytes (savedIn b)) ≡ drop savedAt b
+  rows-forth : join (map savedBytes (savedIn b)) ≡ drop offset b
   unfolding savedIn
   rows-forth =
-      array-forth saved-codec (headIn b .rows) (drop (headIn b .offset) b) (omega (arith, rows-room)) (bytes-drop (headIn b .offset) b g) (every-anything (rows (headIn b .rows) savedSize (drop (headIn b .offset) b)))
-      ∙ take-all (headIn b .rows * savedSize) (drop (headIn b .offset) b) (omega (arith, rows-room))
-      ∙ rw offset-at
+      array-forth saved-codec (headIn b .rows) (drop offset b) (omega (arith, rows-room)) (bytes-drop offset b g) (every-anything (rows (headIn b .rows) savedSize (drop offset b)))
+      ∙ take-all (headIn b .rows * savedSize) (drop offset b) (omega (arith, rows-room))
 
   pub image-forth : imageBytes (imageIn b) ≡ b
   unfolding imageBytes imageIn
-  image-forth = rw (mask-of, words-of, saved-length b, words-forth, rows-forth, part-front (credentialCount * wordSize) wordsAt b) head-forth
+  image-forth = rw (mask-of, said-back .0, saved-length b, words-forth wordsAt room, rows-forth, seconds-forth, part-front wordsSize wordsAt b) head-forth
 
 -- ---- the module that an image makes is a state, and its image is that one
 owner-by : (st : State) (c : Credential) → provisioned st c ≡ isOwner (st .credentials) c
@@ -511,23 +634,27 @@ module _ {i : Image} (f : Fit i) (e : imageFits i ≡ true) where
             };
       }
 
-  pub image-again : imageOf (moduleOf i) ≡ i
+  pub image-again : imageOf (moduleOf i) ≡ laid savedAt i
   unfolding imageOf savedOf
-  image-again = rw (stands, row-back (i .saved), ← offset-is (i .offset) (f .offset))
+  image-again = rw (stands, row-back (i .saved))
 
 module _ (b : List ℕ) (g : Bytes b) (e : isImage b ≡ true) where
   pub image-state : IsState (restored b)
   unfolding restored
   image-state = module-state (image-fit b g e) (image b e .fits)
 
-  -- ---- "Words, owners and rows in order have one image."
-  pub one-image : stateImage (restored b) ≡ b
-  unfolding stateImage restored
-  one-image = rw (image-again (image-fit b g e) (image b e .fits)) (image-forth b g e)
+  again : imageOf (restored b) ≡ laid savedAt (imageIn b)
+  unfolding restored
+  again = image-again (image-fit b g e) (image b e .fits)
 
--- so two images that make one module are equal
-pub image-once : (a b : List ℕ) → Bytes a → Bytes b → isImage a ≡ true → isImage b ≡ true → restored a ≡ restored b → a ≡ b
-image-once a b g h p q e = sym (one-image a g p) ∙ ap stateImage e ∙ one-image b h q
+  -- an image that was restored and is written again is in the new layout
+  pub renewed-is : stateImage (restored b) ≡ renewed b
+  unfolding stateImage
+  renewed-is = rw again (sym (renewed-bytes (image-fit b g e)) ∙ ap renewed (image-forth b g e))
+
+  -- ---- "Words, owners and rows in order have one image.", and it "holds among those of the new layout"
+  pub one-image : isNew (headIn b .offset) ≡ true → stateImage (restored b) ≡ b
+  one-image n = renewed-is ∙ renewed-new b n
 
 -- ---- a state's image
 is-saved : (k : Kind) → isSaved k ≡ true → k ≡ Saved
@@ -544,10 +671,11 @@ module _ {st : State} (v : IsState st) where
   row-fits p f = record { owner = omega (arith, f .credential); next = f .next; name = f .name }
 
   pub state-fit : Fit (imageOf st)
-  unfolding imageOf savedOf isRowOffset
+  unfolding imageOf savedOf isNew isRowOffset
   state-fit =
       record {
         offset = refl;
+        seconds = λ n. clash refl n;
         eight = v .formed .credentials;
         words = v .formed .words;
         few = rw (length-map chosen savedRow) (omega (arith, length-select isSavedOne (standing (st .table)), v .rules .few));
@@ -573,12 +701,16 @@ module _ {st : State} (v : IsState st) where
 
   pub state-fits : imageFits (imageOf st) ≡ true
   unfolding imageFits imageOf
-  state-fits = and-both (by-every word-fits (v .formed .words)) (and-both all-keepable all-differ)
+  state-fits = and-both (by-every words-fit (v .formed .words)) (and-both all-keepable all-differ)
 
   -- what a module wrote is always accepted
   pub state-image : isImage (stateImage st) ≡ true
   unfolding stateImage
   state-image = image-is state-fit state-fits
+
+  pub state-new : isNew (headIn (stateImage st) .offset) ≡ true
+  unfolding stateImage imageOf isNew
+  state-new = ap isNew (row-offset-is state-fit)
 
   pub state-restored : restored (stateImage st) ≡ cycled st
   unfolding stateImage restored cycled
@@ -604,12 +736,66 @@ module _ {st : State} (v : IsState st) where
       standing-of (map savedProcess (map savedRow chosen))
       ∙ same-all (each-imp (λ p h. same-process p (h .1) (h .0)) (each-select isSavedOne (v .formed .each)))
 
--- ---- so the bytes that are an image are those that some state's image is, and no others
+-- ---- an image renewed is one of the new layout that makes the same module; renewed again it is itself
+pub record Renewed (b : List ℕ) : Type 0 where
+  pub image : isImage (renewed b) ≡ true
+  pub new : isNew (headIn (renewed b) .offset) ≡ true
+  pub once : renewed (renewed b) ≡ renewed b
+  pub makes : restored (renewed b) ≡ restored b
+
+module _ (b : List ℕ) (g : Bytes b) (e : isImage b ≡ true) where
+  same-module : cycled (restored b) ≡ restored b
+  unfolding cycled
+  same-module = ap moduleOf (again b g e) ∙ (unfold restored in refl)
+
+  pub renewed-image : Renewed b
+  renewed-image =
+      let v : IsState (restored b) = image-state b g e in
+      let is : stateImage (restored b) ≡ renewed b = renewed-is b g e in
+      let new : isNew (headIn (renewed b) .offset) ≡ true = rw is at (state-new v) in
+      record { image = rw is at (state-image v); new = new; once = renewed-new (renewed b) new; makes = ap restored (sym is) ∙ state-restored v ∙ same-module }
+
+-- ---- two images that make one module: they are equal, or one is old and the other is its new one
+pub data Alike (a b : List ℕ) : Type 0 where
+  same : a ≡ b → Alike a b
+  first-old : isNew (headIn a .offset) ≡ false → b ≡ renewed a → Alike a b
+  second-old : isNew (headIn b .offset) ≡ false → a ≡ renewed b → Alike a b
+
+module _ (a b : List ℕ) (g : Bytes a) (h : Bytes b) (p : isImage a ≡ true) (q : isImage b ≡ true) where
+  -- they do exactly where they are equal in the new layout
+  pub image-across : (restored a ≡ restored b) ↔ (renewed a ≡ renewed b)
+  image-across = (
+    λ e. sym (renewed-is a g p) ∙ ap stateImage e ∙ renewed-is b h q,
+    λ e. sym (renewed-image a g p .makes) ∙ ap restored e ∙ renewed-image b h q .makes,
+  )
+
+  -- those of one layout are equal
+  pub image-once : headIn a .offset ≡ headIn b .offset → restored a ≡ restored b → a ≡ b
+  unfolding imageIn
+  image-once o e =
+      let one : laid savedAt (imageIn a) ≡ laid savedAt (imageIn b) = sym (again a g p) ∙ ap imageOf e ∙ again b h q in
+      let held : imageIn a ≡ imageIn b = ap (laid (headIn a .offset)) one ∙ ap (λ (n : ℕ). laid n (imageIn b)) o in
+      sym (image-forth a g p) ∙ ap imageBytes held ∙ image-forth b h q
+
+  -- so an old one and its new one are the only pair
+  pub image-pairs : restored a ≡ restored b → Alike a b
+  image-pairs e =
+      let one : renewed a ≡ renewed b = image-across .0 e in
+      split (isNew (headIn a .offset))
+      (λ m. split (isNew (headIn b .offset)) (λ n. same (sym (renewed-new a m) ∙ one ∙ renewed-new b n)) (λ n. second-old n (sym (renewed-new a m) ∙ one)))
+      (λ m.
+      split (isNew (headIn b .offset))
+      (λ n. first-old m (sym (one ∙ renewed-new b n)))
+      (λ n. same (image-once (old-at (headIn a .offset) (image a p .head .offset) m ∙ sym (old-at (headIn b .offset) (image b q .head .offset) n)) e)))
+
+-- ---- so the bytes that are an image of the new layout are those that some state's image is, and no others
 pub record Written (b : List ℕ) : Type 0 where
   pub state : State
   pub is : IsState state
   pub bytes : stateImage state ≡ b
 
-pub image-exactly : (b : List ℕ) → Bytes b → (isImage b ≡ true) ↔ Written b
-image-exactly b g =
-    (λ e. record { state = restored b; is = image-state b g e; bytes = one-image b g e }, λ v. rw (v .bytes) at (state-image (v .is)))
+pub image-exactly : (b : List ℕ) → Bytes b → ((isImage b ≡ true) × (isNew (headIn b .offset) ≡ true)) ↔ Written b
+image-exactly b g = (
+  λ e. record { state = restored b; is = image-state b g (e .0); bytes = one-image b g (e .0) (e .1) },
+  λ v. (rw (v .bytes) at (state-image (v .is)), rw (v .bytes) at (state-new (v .is))),
+)

@@ -1,18 +1,18 @@
 -- The codecs of an image: a number of k bytes, a mask with words, a row.
 -- Assumes nothing.
 use Prim.Native.Nat.{ℕ, zero, suc, _*_, _/_, _%_, _^_, _<_}
-use mathlib.Core.Path.{_≡_, refl, sym}
-use mathlib.Core.Bool.{Bool, true, false, cond, not}
+use mathlib.Core.Path.{_≡_, refl, sym, ap}
+use mathlib.Core.Bool.{Bool, true, false, cond, not, _&&_}
 use mathlib.Core.List.{List, [], _∷_, _++_, map}
 use native.Mathlib.Nat.{pow-suc, div-lt-iff-lt-mul, div-add-mod', zero-mul, suc-mul, add-comm}
 use native.Mathlib.Omega.{arith}
 use lib.Arith.{digits-lt, digits-div, digits-mod}
 use lib.Dec.{eqb}
-use lib.ListN.{length, take, drop, length-append, length-drop}
+use lib.ListN.{length, take, drop, replicate, length-append, length-drop}
 use borrow.Author.Tests.{eqb-true, not-false}
 use Rattle.lists.specs.Lists.{join, select, reject}
 use Rattle.lists.specs.Each.{Each, each-nil, each-cons, Pairs}
-use Rattle.lists.proofs.Tests.{split}
+use Rattle.lists.proofs.Tests.{split, and-left, and-right}
 use Rattle.lists.proofs.Each.{each-imp₂, each-reject, each-left, pairs-reject}
 use Rattle.rows.specs.Bytes.{Bytes, bytesOf, numberOf, numberAt}
 use Rattle.rows.specs.Rows.{every}
@@ -20,11 +20,12 @@ use Rattle.rows.proofs.Bytes.{length-bytes, number-back, number-forth, number-s
 use Rattle.rows.proofs.Rows.{Codec}
 use Rattle.names.specs.Names.{nameLength, readName}
 use Rattle.names.proofs.Laws.{name-last}
-use Rattle.module_state.specs.Module.{wordSize}
+use Rattle.module_state.specs.Module.{wordSize, noWords, wordsOf}
 use Rattle.module_state.specs.declared.Grants.{Grants}
-use Rattle.module_rules.specs.Facts.{FormedGrants, WideGrants}
+use Rattle.module_state.specs.declared.Words.{Words}
+use Rattle.module_rules.specs.Facts.{FormedGrants}
 use Rattle.image.specs.declared.SavedRow.{SavedRow}
-use Rattle.image.specs.Image.{savedOwnerAt, savedNextAt, savedNameAt, savedSize, maskOf, wordIn, grantsSaid, savedBytes, savedFrom, wordFits}
+use Rattle.image.specs.Image.{savedOwnerAt, savedNextAt, savedNameAt, savedSize, numbersBytes, maskOf, grantIn, secondIn, grantsSaid, savedBytes, savedFrom, wordsFit}
 
 -- ---- every list of as many bytes is a number, or a row
 abbrev pub anything : List ℕ → Bool
@@ -51,6 +52,12 @@ number-codec k =
       good = λ b e h t. rw (← e) (number-small b h);
     }
 
+-- numbers, one after another, whatever they are
+pub numbers-long : (k : ℕ) (l : List ℕ) → length (numbersBytes k l) ≡ length l * k
+unfolding numbersBytes join
+numbers-long k [] = sym (zero-mul k)
+numbers-long k (n ∷ l) = rw (length-append, length-bytes, suc-mul) (omega (arith, numbers-long k l))
+
 -- ---- a mask with words
 bit-low : (f : Bool) → cond f 1 0 < 2
 bit-low true = omega arith
@@ -70,53 +77,88 @@ unfolding maskOf
 mask-small [] = omega arith
 mask-small (g ∷ l) = rw pow-suc (digits-lt (mask-small l) (bit-low (g .provisioned)))
 
--- the word of a credential that is not provisioned is written as 0, and was 0
-word-is : (g : Grants) → FormedGrants g → wordIn g ≡ g .word
-unfolding wordIn
-word-is g v = split (g .provisioned) (λ e. rw e) (λ e. rw e (sym (v .zero e)))
+-- the words of a credential that is not provisioned are written as 0, and were 0
+words-is : (g : Grants) → FormedGrants g → wordsOf g ≡ g .words
+unfolding wordsOf
+words-is g v = split (g .provisioned) (λ e. rw e) (λ e. rw e (sym (v .zero e)))
 
-pub word-small : (g : Grants) → WideGrants g → wordIn g < 256 ^ wordSize
-unfolding wordIn
-word-small g v = split (g .provisioned) (λ e. rw e (v .word)) (λ e. rw e (omega arith))
+pub grant-is : (g : Grants) → FormedGrants g → grantIn g ≡ g .words .grant
+unfolding grantIn
+grant-is g v = ap (λ (w : Words). w .grant) (words-is g v)
 
-pub word-fits : (g : Grants) → FormedGrants g → wordFits g ≡ true
-unfolding wordFits
-word-fits g v = split (g .provisioned) (λ e. rw e) (λ e. rw (e, v .zero e))
+pub second-is : (g : Grants) → FormedGrants g → secondIn g ≡ g .words .second
+unfolding secondIn
+second-is g v = ap (λ (w : Words). w .second) (words-is g v)
 
-word-kept : (g : Grants) → wordFits g ≡ true → g .provisioned ≡ false → g .word ≡ 0
-unfolding wordFits
-word-kept g e f = eqb-true (g .word) 0 (rw f at e)
+pub words-fit : (g : Grants) → FormedGrants g → wordsFit g ≡ true
+unfolding wordsFit
+words-fit g v = split (g .provisioned) (λ e. rw e) (λ e. rw (e, v .zero e))
 
-pub grants-back : {l : List Grants} → Each FormedGrants l → grantsSaid (maskOf l) (map wordIn l) ≡ l
+words-kept : (g : Grants) → wordsFit g ≡ true → g .provisioned ≡ false → g .words ≡ noWords
+unfolding wordsFit
+words-kept g e f =
+    let both : (eqb (g .words .grant) 0 && eqb (g .words .second) 0) ≡ true = rw f at e in
+    words-are (g .words) 0 0
+    (eqb-true (g .words .grant) 0 (and-left (eqb (g .words .grant) 0) _ both))
+    (eqb-true (g .words .second) 0 (and-right (eqb (g .words .grant) 0) _ both))
+  where
+    words-are : (w : Words) (a b : ℕ) → w .grant ≡ a → w .second ≡ b → w ≡ record { grant = a; second = b }
+    words-are w a b p q = rw (← p, ← q)
+
+pub grants-back : {l : List Grants} → Each FormedGrants l → grantsSaid (maskOf l) (map grantIn l) (map secondIn l) ≡ l
 unfolding grantsSaid maskOf
 grants-back each-nil = refl
 grants-back (each-cons {x = g} {l = l} v h) =
     let f = bit-low (g .provisioned) in
-    rw (digits-mod (maskOf l) f, digits-div (maskOf l) f, bit-back (g .provisioned), word-is g v, grants-back h)
+    rw (digits-mod (maskOf l) f, digits-div (maskOf l) f, bit-back (g .provisioned), grant-is g v, second-is g v, grants-back h)
 
-pub mask-back : (m : ℕ) (ws : List ℕ) → m < 2 ^ length ws → maskOf (grantsSaid m ws) ≡ m
+-- where there are as many words of each kind
+pub grants-length : (m : ℕ) (ws ss : List ℕ) → length ss ≡ length ws → length (grantsSaid m ws ss) ≡ length ws
+unfolding grantsSaid
+grants-length m [] ss l = refl
+grants-length m (w ∷ ws) [] l = absurd (omega arith)
+grants-length m (w ∷ ws) (s ∷ ss) l = rw (grants-length (m / 2) ws ss (omega arith))
+
+pub mask-back : (m : ℕ) (ws ss : List ℕ) → length ss ≡ length ws → m < 2 ^ length ws → maskOf (grantsSaid m ws ss) ≡ m
 unfolding grantsSaid maskOf
-mask-back m [] h = omega arith
-mask-back m (w ∷ ws) h =
+mask-back m [] ss l h = omega arith
+mask-back m (w ∷ ws) [] l h = absurd (omega arith)
+mask-back m (w ∷ ws) (s ∷ ss) l h =
     let positive : 0 < 2 = omega arith in
     let rest : m / 2 < 2 ^ length ws = div-lt-iff-lt-mul {k = 2} {x = m} {y = 2 ^ length ws} positive .1 (rw pow-suc at h) in
     let low : m % 2 < 2 = omega arith in
-    rw (mask-back (m / 2) ws rest, bit-forth (m % 2) low) (div-add-mod' m 2)
+    rw (mask-back (m / 2) ws ss (omega arith) rest, bit-forth (m % 2) low) (div-add-mod' m 2)
 
-pub grants-formed : (m : ℕ) (ws : List ℕ) → Each (Small 4) ws → Each (λ g. wordFits g ≡ true) (grantsSaid m ws) → Each FormedGrants (grantsSaid m ws)
+pub words-back : (m : ℕ) (ws ss : List ℕ) → length ss ≡ length ws → Each FormedGrants (grantsSaid m ws ss) → (map grantIn (grantsSaid m ws ss) ≡ ws) × (map secondIn (grantsSaid m ws ss) ≡ ss)
 unfolding grantsSaid
-grants-formed m [] s e = each-nil
-grants-formed m (w ∷ ws) (each-cons p s) (each-cons q e) = each-cons (record { word = p; zero = word-kept _ q }) (grants-formed (m / 2) ws s e)
+words-back m [] [] l v = (refl, refl)
+words-back m [] (s ∷ ss) l v = absurd (omega arith)
+words-back m (w ∷ ws) [] l v = absurd (omega arith)
+words-back m (w ∷ ws) (s ∷ ss) l (each-cons {x = g} p v) =
+    let rest = words-back (m / 2) ws ss (omega arith) v in
+    (rw (grant-is g p, rest .0), rw (second-is g p, rest .1))
 
-pub words-back : (m : ℕ) (ws : List ℕ) → Each FormedGrants (grantsSaid m ws) → map wordIn (grantsSaid m ws) ≡ ws
+pub grants-formed : (m : ℕ) (ws ss : List ℕ) → Each (Small wordSize) ws → Each (Small wordSize) ss → Each (λ g. wordsFit g ≡ true) (grantsSaid m ws ss) → Each FormedGrants (grantsSaid m ws ss)
 unfolding grantsSaid
-words-back m [] v = refl
-words-back m (w ∷ ws) (each-cons {x = g} p v) = rw (word-is g p, words-back (m / 2) ws v)
+grants-formed m [] ss s t e = each-nil
+grants-formed m (w ∷ ws) [] s t e = each-nil
+grants-formed m (w ∷ ws) (x ∷ ss) (each-cons p s) (each-cons r t) (each-cons q e) =
+    each-cons (record { words = record { grant = p; second = r }; zero = words-kept _ q }) (grants-formed (m / 2) ws ss s t e)
 
-pub grants-length : (m : ℕ) (ws : List ℕ) → length (grantsSaid m ws) ≡ length ws
+-- "second words zero"
+pub record NoSecond (g : Grants) : Type 0 where
+  pub zero : g .words .second ≡ 0
+
+pub said-zero : (m : ℕ) (ws : List ℕ) (n : ℕ) → Each NoSecond (grantsSaid m ws (replicate n 0))
 unfolding grantsSaid
-grants-length m [] = refl
-grants-length m (w ∷ ws) = rw (grants-length (m / 2) ws)
+said-zero m [] n = each-nil
+said-zero m (w ∷ ws) zero = each-nil
+said-zero m (w ∷ ws) (suc n) = each-cons (record { zero = refl }) (said-zero (m / 2) ws n)
+
+pub seconds-zero : {l : List Grants} → Each NoSecond l → map secondIn l ≡ replicate (length l) 0
+unfolding secondIn wordsOf
+seconds-zero each-nil = refl
+seconds-zero (each-cons {x = g} p v) = rw (seconds-zero v) (split (g .provisioned) (λ e. rw (e, p .zero)) (λ e. rw e))
 
 -- ---- a row
 pub record RowFits (r : SavedRow) : Type 0 where

@@ -15,7 +15,7 @@ use lib.Pow.{pow-pos}
 use Rattle.lists.specs.Lists.{select}
 use Rattle.lists.proofs.Lists.{length-select}
 use Rattle.lists.proofs.Tests.{split}
-use Rattle.module_state.specs.Module.{wordGrants}
+use Rattle.module_state.specs.Module.{hasBit}
 use Rattle.image_figures.specs.Figures.{classCount, classesBelow, classesHeld}
 
 no-bit : (bit : ℕ) → bit < 2 → eqb bit 1 ≡ false → bit ≡ 0
@@ -26,14 +26,14 @@ module _ (word : ℕ) where
   low-bits : (n : ℕ) → word % 2 ^ suc n ≡ (word / 2 ^ n % 2) * 2 ^ n + word % 2 ^ n
   low-bits n = ap (λ (m : ℕ). word % m) (pow-suc 2 n ∙ mul-comm (2 ^ n) 2) ∙ mod-mul word (omega arith) (pow-pos n)
 
-  ones-low : (n : ℕ) → n ≤ classCount → ones (word % 2 ^ n) ≡ length (select (wordGrants word) (classesBelow n))
-  unfolding classesBelow select wordGrants
+  ones-low : (n : ℕ) → n ≤ classCount → ones (word % 2 ^ n) ≡ length (select (hasBit word) (classesBelow n))
+  unfolding classesBelow select hasBit
   ones-low zero h = let e : word % 1 ≡ 0 = omega arith in rw e (ones-ones 0)
   ones-low (suc n) h =
       let bit : ℕ = word / 2 ^ n % 2 in
       let low : bit < 2 = mod-lt (word / 2 ^ n) (omega arith) in
       let k : n ≤ 31 = omega arith in
-      let e : ones (word % 2 ^ suc n) ≡ ones bit + length (select (wordGrants word) (classesBelow n)) = rw (low-bits n, ones-cat n bit (word % 2 ^ n) (mod-lt word (pow-pos n)), ones-low n (omega arith)) in
+      let e : ones (word % 2 ^ suc n) ≡ ones bit + length (select (hasBit word) (classesBelow n)) = rw (low-bits n, ones-cat n bit (word % 2 ^ n) (mod-lt word (pow-pos n)), ones-low n (omega arith)) in
       split (eqb bit 1)
       (λ t. let one : bit ≡ 1 = eqb-true bit 1 t in e ∙ rw (le-leb n 31 k, t, one, ones-ones 1) (omega arith))
       (λ f. let none : bit ≡ 0 = no-bit bit low f in e ∙ rw (le-leb n 31 k, f, none, ones-ones 0) (omega arith))
@@ -49,4 +49,4 @@ classes-below (suc n) = ap suc (classes-below n)
 
 pub classes-few : (word : ℕ) → classesHeld word ≤ classCount
 unfolding classesHeld
-classes-few word = omega (arith, length-select (wordGrants word) (classesBelow classCount), classes-below classCount)
+classes-few word = omega (arith, length-select (hasBit word) (classesBelow classCount), classes-below classCount)

@@ -2,18 +2,19 @@
 -- Assumes nothing.
 use Prim.Native.Nat.{ℕ, _+_, _*_, _≤_}
 use mathlib.Core.Path.{_≡_, refl, ap}
-use mathlib.Core.Bool.{Bool, true}
+use mathlib.Core.Bool.{Bool, true, _&&_}
 use mathlib.Core.List.{List, [], _∷_}
 use native.Mathlib.Omega.{arith}
 use borrow.Author.Tests.{eqb-true}
+use lib.Dec.{eqb}
 use lib.ListN.{length}
 use Rattle.lists.specs.Lists.{select}
 use Rattle.lists.proofs.Tests.{split, and-left, and-right}
 use Rattle.rows.specs.Rows.{rows, every}
 use Rattle.table.specs.Table.{places}
-use Rattle.module_state.specs.Module.{wordGrants, credentialCount}
+use Rattle.module_state.specs.Module.{hasBit, credentialCount}
 use Rattle.module_state.specs.declared.Grants.{Grants}
-use Rattle.image.specs.Image.{grantsIn, imageIn, wordFits, isImage}
+use Rattle.image.specs.Image.{grantsIn, imageIn, wordsFit, isImage}
 use Rattle.image.proofs.Laws.{sound, image, grants-eight}
 use Rattle.image_figures.specs.Figures.{sum, classCount, classesBelow, classesHeld, classesGranted, figuresIn, isGood, lineOf}
 use Rattle.image_figures.specs.declared.Figures.{Figures}
@@ -26,7 +27,7 @@ use Rattle.image_figures.proofs.Rules.{good-is}
 granted-few : (l : List Grants) → classesGranted l ≤ length l * classCount
 unfolding classesGranted sum
 granted-few [] = omega arith
-granted-few (g ∷ l) = omega (arith, classes-few (g .word), granted-few l)
+granted-few (g ∷ l) = omega (arith, classes-few (g .words .grant), granted-few l)
 
 pub record Small (f : Figures) : Type 0 where
   pub rows-few : f .rows ≤ places
@@ -48,18 +49,21 @@ abbrev isProvisioned : Grants → Bool
 isProvisioned g = g .provisioned
 
 none-held : classesHeld 0 ≡ 0
-unfolding classesHeld select classesBelow wordGrants
+unfolding classesHeld select classesBelow hasBit
 none-held = refl
 
-provisioned-words : (l : List Grants) → every wordFits l ≡ true → classesGranted l ≡ classesGranted (select isProvisioned l)
-unfolding classesGranted sum every select wordFits
+provisioned-words : (l : List Grants) → every wordsFit l ≡ true → classesGranted l ≡ classesGranted (select isProvisioned l)
+unfolding classesGranted sum every select wordsFit
 provisioned-words [] e = refl
 provisioned-words (g ∷ l) e =
-    let rest = provisioned-words l (and-right (wordFits g) (every wordFits l) e) in
-    let fits = and-left (wordFits g) (every wordFits l) e in
+    let rest = provisioned-words l (and-right (wordsFit g) (every wordsFit l) e) in
+    let fits = and-left (wordsFit g) (every wordsFit l) e in
     split (g .provisioned)
-    (λ p. rw p (ap (λ (n : ℕ). classesHeld (g .word) + n) rest))
-    (λ p. let z : g .word ≡ 0 = eqb-true (g .word) 0 (rw p at fits) in rw (p, z, none-held) (omega (arith, rest)))
+    (λ p. rw p (ap (λ (n : ℕ). classesHeld (g .words .grant) + n) rest))
+    (λ p.
+    let none : (eqb (g .words .grant) 0 && eqb (g .words .second) 0) ≡ true = rw p at fits in
+    let z : g .words .grant ≡ 0 = eqb-true (g .words .grant) 0 (and-left (eqb (g .words .grant) 0) _ none) in
+    rw (p, z, none-held) (omega (arith, rest)))
 
 pub provisioned-alone : (b : List ℕ) → isImage b ≡ true → classesGranted (grantsIn b) ≡ classesGranted (select isProvisioned (grantsIn b))
 provisioned-alone b e = unfold imageIn in provisioned-words (grantsIn b) (sound (imageIn b) (image b e .fits) .words)

@@ -39,9 +39,9 @@ pub sum-begin : (grants : List Grants) → length grants ≡ credentialCount →
 sum-begin grants h = record { long = h; few = omega arith; rest = omega arith }
 
 module _ {grants : List Grants} {sum i : ℕ} (v : SummedTo grants sum i) where
-  module _ (h : i < credentialCount) {held : ℕ} (e : held ≡ classesHeld (getD grants i unprovisioned .word)) where
+  module _ (h : i < credentialCount) {held : ℕ} (e : held ≡ classesHeld (getD grants i unprovisioned .words .grant)) where
     with-held : sum + held ≤ (i + 1) * classCount
-    with-held = let k : held ≤ classCount = rw e (classes-few (getD grants i unprovisioned .word)) in omega (arith, v .few)
+    with-held = let k : held ≤ classCount = rw e (classes-few (getD grants i unprovisioned .words .grant)) in omega (arith, v .few)
 
     pub sum-fits : Fits w32 (sum + held)
     sum-fits = let k : sum + held ≤ credentialCount * classCount = omega (arith, with-held) in omega arith

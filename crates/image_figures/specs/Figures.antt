@@ -8,7 +8,7 @@ use lib.ListN.{length}
 use Rattle.lists.specs.Lists.{select}
 use Rattle.rows.specs.Bytes.{numberOf}
 use Rattle.module_state.specs.declared.Class.{Class}
-use Rattle.module_state.specs.Module.{wordGrants}
+use Rattle.module_state.specs.Module.{hasBit}
 use Rattle.module_state.specs.declared.Grants.{Grants}
 use Rattle.image.specs.declared.SavedRow.{SavedRow}
 use Rattle.image.specs.Image.{headIn, grantsIn, savedIn, isImage}
@@ -35,11 +35,11 @@ classesBelow zero = []
 classesBelow (suc n) = record { 0 = n } ∷ classesBelow n
 
 unfoldable pub classesHeld : ℕ → ℕ
-classesHeld word = length (select (wordGrants word) (classesBelow classCount))
+classesHeld word = length (select (hasBit word) (classesBelow classCount))
 
--- ---- the three figures
+-- ---- the three figures. Order 7: "order 6 sums the first ones", and no second word is counted anywhere
 unfoldable pub classesGranted : List Grants → ℕ
-classesGranted l = sum (map (λ (g : Grants). classesHeld (g .word)) l)
+classesGranted l = sum (map (λ (g : Grants). classesHeld (g .words .grant)) l)
 
 unfoldable pub largestNext : List SavedRow → ℕ
 largestNext l = largest (map (λ (r : SavedRow). r .next) l)

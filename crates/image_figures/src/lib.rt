@@ -38,7 +38,7 @@ fn classes_granted(grants: [Grants; CREDENTIALS]) -> u32
     let mut i: usize = 0;
     while i < CREDENTIALS {
         let one = grants[i];
-        sum += classes_held(one.word);
+        sum += classes_held(one.words.grant);
         i += 1;
     }
     sum

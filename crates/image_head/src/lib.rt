@@ -1,13 +1,14 @@
-// The head of an image: its five numbers tested, and the credentials that its mask and its words say. docs/IMAGE.md draws it.
+// The head of an image: its five numbers tested, and the credentials that its mask and its words say. docs/IMAGE.md draws both layouts.
 ghost use mathlib.Core.Path.{_≡_};
-ghost use lib.ListN.{drop};
-ghost use Rattle.module_state.specs.Module.{credentialCount, wordSize};
-ghost use Rattle.image.specs.Image.{wordsAt, numbersIn, headIn, grantsSaid, headFits};
+ghost use Prim.Native.Nat.{_≤_};
+ghost use Rattle.image.specs.Image.{secondsAt, isRowOffset, headIn, wordsFrom, secondsFrom, grantsSaid, grantsAmong, headFits};
 use image::ImageHead;
 use image::MASK_AT;
+use image::OLD_SAVED_AT;
 use image::ROW_COUNT_AT;
 use image::ROW_OFFSET_AT;
 use image::SAVED_AT;
+use image::SECONDS_AT;
 use image::WORD_COUNT_AT;
 use image::WORD_OFFSET_AT;
 use image::WORDS_AT;
@@ -15,6 +16,7 @@ use module_state::CREDENTIALS;
 use module_state::Grants;
 use module_state::UNPROVISIONED;
 use module_state::WORD_SIZE;
+use module_state::Words;
 use table::PLACES;
 
 // ---- the numbers
@@ -29,6 +31,16 @@ pub fn read_head(b: &[u8]) -> ImageHead
         rows: rows::number16(b, ROW_COUNT_AT) as usize,
         offset: rows::number16(b, ROW_OFFSET_AT) as usize,
     }
+}
+
+// Where rows may begin, by the layout.
+fn is_row_offset(offset: usize) -> bool
+    ensures { λ r. ⌜ r ≡ isRowOffset offset ⌝ }
+{
+    if offset == OLD_SAVED_AT {
+        return true;
+    }
+    offset == SAVED_AT
 }
 
 pub fn head_fits(h: ImageHead) -> bool
@@ -46,26 +58,42 @@ pub fn head_fits(h: ImageHead) -> bool
     if PLACES < h.rows {
         return false;
     }
-    h.offset == SAVED_AT
+    is_row_offset(h.offset)
 }
 
 // ---- the credentials
 
-fn read_words(b: &[u8]) -> [u32; CREDENTIALS]
-    ensures { λ r. ⌜ r ≡ numbersIn credentialCount wordSize (drop wordsAt (now (b .entry))) ⌝ }
+// Eight words from a place on.
+fn read_words(b: &[u8], at: usize) -> [u32; CREDENTIALS]
+    requires { ⌜ at ≤ secondsAt ⌝ }
+    ensures { λ r. ⌜ r ≡ wordsFrom at (now (b .entry)) ⌝ }
 {
     let mut words: [u32; CREDENTIALS] = [0; CREDENTIALS];
     let mut i: usize = 0;
     while i < CREDENTIALS {
-        words[i] = rows::number32(b, WORDS_AT + i * WORD_SIZE);
+        words[i] = rows::number32(b, at + i * WORD_SIZE);
         i += 1;
     }
     words
 }
 
-// A mask and words: bit i is credential i's.
-fn grants_said(mask: u16, words: [u32; CREDENTIALS]) -> [Grants; CREDENTIALS]
-    ensures { λ r. ⌜ r ≡ grantsSaid mask words ⌝ }
+// The second words: zero in the old layout, whose rows begin where they would lie.
+fn read_seconds(b: &[u8], offset: usize) -> [u32; CREDENTIALS]
+    ensures { λ r. ⌜ r ≡ secondsFrom offset (now (b .entry)) ⌝ }
+{
+    if offset == SAVED_AT {
+        return read_words(b, SECONDS_AT);
+    }
+    [0; CREDENTIALS]
+}
+
+// A mask, grant words and second words: bit i is credential i's.
+fn grants_said(
+    mask: u16,
+    words: [u32; CREDENTIALS],
+    seconds: [u32; CREDENTIALS],
+) -> [Grants; CREDENTIALS]
+    ensures { λ r. ⌜ r ≡ grantsSaid mask words seconds ⌝ }
 {
     let mut grants = [UNPROVISIONED; CREDENTIALS];
     let mut left = mask;
@@ -73,7 +101,10 @@ fn grants_said(mask: u16, words: [u32; CREDENTIALS]) -> [Grants; CREDENTIALS]
     while i < CREDENTIALS {
         grants[i] = Grants {
             provisioned: left % 2 == 1,
-            word: words[i],
+            words: Words {
+                grant: words[i],
+                second: seconds[i],
+            },
         };
         left = left / 2;
         i += 1;
@@ -81,9 +112,11 @@ fn grants_said(mask: u16, words: [u32; CREDENTIALS]) -> [Grants; CREDENTIALS]
     grants
 }
 
-// The credentials of a mask and the words that bytes have.
-pub fn read_grants(b: &[u8], mask: u16) -> [Grants; CREDENTIALS]
-    ensures { λ r. ⌜ r ≡ grantsSaid mask (numbersIn credentialCount wordSize (drop wordsAt (now (b .entry)))) ⌝ }
+// The credentials of a mask and the words that bytes have whose rows begin at an offset.
+pub fn read_grants(b: &[u8], mask: u16, offset: usize) -> [Grants; CREDENTIALS]
+    ensures { λ r. ⌜ r ≡ grantsAmong mask offset (now (b .entry)) ⌝ }
 {
-    grants_said(mask, read_words(b))
+    let words = read_words(b, WORDS_AT);
+    let seconds = read_seconds(b, offset);
+    grants_said(mask, words, seconds)
 }

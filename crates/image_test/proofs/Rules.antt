@@ -6,7 +6,7 @@ use mathlib.Core.Bool.{Bool, true, false, not}
 use mathlib.Core.List.{List}
 use native.Mathlib.Omega.{arith}
 use borrow.Author.Needs.{needs}
-use borrow.Author.Tests.{eqb-true, eq-eqb, ne-eqb, not-true, not-false}
+use borrow.Author.Tests.{eqb-true, ne-eqb, not-true, not-false}
 use mir.Syntax.{w64}
 use mir.Val.{Fits}
 use lib.Dec.{eqb, leb}
@@ -18,46 +18,52 @@ use Rattle.rows.proofs.Loops.{EveryFrom, every-begin, every-on, every-fail, eve
 use Rattle.names.specs.Names.{readName, sameName}
 use Rattle.names.specs.declared.Credential.{Credential}
 use Rattle.names.specs.declared.NameRead.{NameRead}
-use Rattle.module_state.specs.Module.{unprovisioned, credentialCount, wordSize}
+use Rattle.module_state.specs.Module.{unprovisioned, credentialCount}
 use Rattle.module_state.specs.declared.Grants.{Grants}
 use Rattle.image.specs.declared.ImageHead.{ImageHead}
 use Rattle.image.specs.declared.ImageTest.{ImageTest}
 use Rattle.image.specs.declared.SavedRow.{SavedRow}
-use Rattle.image.specs.Image.{wordsAt, savedSize, savedOwnerAt, savedNextAt, savedNameAt, imageLong, numbersIn, headIn, grantsSaid, grantsIn, savedFrom, savedAmong, savedIn, imageIn, isOwner, isKeepable, differ, headFits, wordFits, imageFits, isImage, imageTest, SavedLie}
+use Rattle.image.specs.Image.{savedSize, savedOwnerAt, savedNextAt, savedNameAt, imageLong, headIn, grantsAmong, grantsIn, savedFrom, savedAmong, savedIn, imageIn, isOwner, isKeepable, differ, headFits, wordsFit, imageFits, isImage, imageTest, SavedLie}
 use Rattle.image.proofs.Rows.{saved-name}
 use Rattle.image.proofs.Laws.{offset-low, head-has, rowAt, saved-room, saved-part, saved-fits, saved-ends}
 use Rattle.image_test.specs.Tests.{restFits}
 
--- ---- the words: the first i pass
+-- ---- the words
+module _ (g : Grants) where
+  pub fit-provisioned : g .provisioned ≡ true → true ≡ wordsFit g
+  unfolding wordsFit
+  fit-provisioned e = rw e
+
+  module _ (e : g .provisioned ≡ false) where
+    pub fit-grant : (g .words .grant ≡ 0 → ⊥) → false ≡ wordsFit g
+    unfolding wordsFit
+    fit-grant n = rw (e, ne-eqb (g .words .grant) 0 n)
+
+    pub fit-second : g .words .grant ≡ 0 → eqb (g .words .second) 0 ≡ wordsFit g
+    unfolding wordsFit
+    fit-second z = rw (e, z)
+
+-- the first i pass
 pub record WordsTo (grants : List Grants) (i : ℕ) : Type 0 where
   pub long : length grants ≡ credentialCount
-  pub passed : EveryFrom wordFits grants 0 i
+  pub passed : EveryFrom wordsFit grants 0 i
 
 pub words-begin : (grants : List Grants) → length grants ≡ credentialCount → WordsTo grants 0
-words-begin grants h = record { long = h; passed = every-begin wordFits grants 0 (omega arith) }
+words-begin grants h = record { long = h; passed = every-begin wordsFit grants 0 (omega arith) }
 
-module _ {grants : List Grants} {i : ℕ} (v : WordsTo grants i) (h : i < credentialCount) where
-  inside : i < length grants
-  inside = omega (arith, v .long)
+module _ {grants : List Grants} {i : ℕ} (v : WordsTo grants i) where
+  module _ (h : i < credentialCount) {t : Bool} (e : t ≡ wordsFit (getD grants i unprovisioned)) where
+    inside : i < length grants
+    inside = omega (arith, v .long)
 
-  pub words-provisioned : not (getD grants i unprovisioned .provisioned) ≡ false → WordsTo grants (i + 1)
-  unfolding wordFits
-  words-provisioned e =
-      record { long = v .long; passed = every-on unprovisioned (v .passed) inside (rw (not-false (getD grants i unprovisioned .provisioned) e)) }
+    pub words-on : not t ≡ false → WordsTo grants (i + 1)
+    words-on n = record { long = v .long; passed = every-on unprovisioned (v .passed) inside (sym e ∙ not-false t n) }
 
-  module _ (e : not (getD grants i unprovisioned .provisioned) ≡ true) where
-    by-word : wordFits (getD grants i unprovisioned) ≡ eqb (getD grants i unprovisioned .word) 0
-    unfolding wordFits
-    by-word = rw (not-true (getD grants i unprovisioned .provisioned) e)
+    pub words-fail : not t ≡ true → false ≡ every wordsFit grants
+    words-fail n = sym (every-fail unprovisioned (v .passed) inside (sym e ∙ not-true t n))
 
-    pub words-zero : getD grants i unprovisioned .word ≡ 0 → WordsTo grants (i + 1)
-    words-zero z = record { long = v .long; passed = every-on unprovisioned (v .passed) inside (by-word ∙ eq-eqb (getD grants i unprovisioned .word) 0 z) }
-
-    pub words-fail : (getD grants i unprovisioned .word ≡ 0 → ⊥) → false ≡ every wordFits grants
-    words-fail n = sym (every-fail unprovisioned (v .passed) inside (by-word ∙ ne-eqb (getD grants i unprovisioned .word) 0 n))
-
-pub words-all : {grants : List Grants} {i : ℕ} → WordsTo grants i → credentialCount ≤ i → true ≡ every wordFits grants
-words-all v h = sym (every-all (v .passed) (omega (arith, v .long)))
+  pub words-all : credentialCount ≤ i → true ≡ every wordsFit grants
+  words-all h = sym (every-all (v .passed) (omega (arith, v .long)))
 
 -- ---- a row by itself
 module _ (grants : List Grants) (c : Credential) where
@@ -115,7 +121,7 @@ module _ (b : List ℕ) (h : ImageHead) (e : headFits h ≡ true) where
     unfolding restFits
     rest-short m = rw (← l, not-true long m)
 
-    module _ (y : not long ≡ false) {words : Bool} (w : words ≡ every wordFits grants) where
+    module _ (y : not long ≡ false) {words : Bool} (w : words ≡ every wordsFit grants) where
       pub rest-words : not words ≡ true → false ≡ restFits b h grants
       unfolding restFits imageFits
       rest-words m = rw (← l, not-false long y, ← w, not-true words m)
@@ -137,7 +143,7 @@ module _ (b : List ℕ) (h : ImageHead) (e : headFits h ≡ true) where
         unfolding restFits imageFits
         rest-all o r = rw (← l, not-false long y, ← w, not-false words m, ← q, not-false keep o, r)
 
-module _ (b : List ℕ) {h : ImageHead} {grants : List Grants} (e : h ≡ headIn b) (g : grants ≡ grantsSaid (h .mask) (numbersIn credentialCount wordSize (drop wordsAt b))) where
+module _ (b : List ℕ) {h : ImageHead} {grants : List Grants} (e : h ≡ headIn b) (g : grants ≡ grantsAmong (h .mask) (h .offset) b) where
   grants-are : grants ≡ grantsIn b
   unfolding grantsIn
   grants-are = g ∙ rw e
@@ -154,4 +160,4 @@ module _ (b : List ℕ) {h : ImageHead} {grants : List Grants} (e : h ≡ headIn
     unfolding imageTest isImage restFits imageIn savedIn
     test-all n r = rw (r, grants-are, e) (rw (← e, ← f, n))
 
-pub ruleset rules = (needs, length-mapped, words-begin, words-provisioned, words-zero, words-fail, words-all, owner-is, nobody, keep-unprovisioned, keep-number, saved-room, saved-part, saved-fits, saved-ends, each-fail, each-all, names-differ, later-begin, later-on, differ-fail, later-all, records-begin, records-on, records-all, paired-begin, paired-on, paired-fail, paired-all, long-part, long-fits, length-asked, rest-short, rest-words, rest-lies, rest-rows, rest-all, test-goes, test-head, test-all)
+pub ruleset rules = (needs, length-mapped, fit-provisioned, fit-grant, fit-second, words-begin, words-on, words-fail, words-all, owner-is, nobody, keep-unprovisioned, keep-number, saved-room, saved-part, saved-fits, saved-ends, each-fail, each-all, names-differ, later-begin, later-on, differ-fail, later-all, records-begin, records-on, records-all, paired-begin, paired-on, paired-fail, paired-all, long-part, long-fits, length-asked, rest-short, rest-words, rest-lies, rest-rows, rest-all, test-goes, test-head, test-all)

@@ -5,7 +5,7 @@ ghost use Prim.Native.Nat.{_<_};
 ghost use lib.Dec.{eqb};
 ghost use lib.ListN.{length};
 ghost use Rattle.rows.specs.Rows.{every, pairwise};
-ghost use Rattle.image.specs.Image.{savedSize, imageLong, savedFrom, savedAmong, isOwner, isKeepable, differ, headFits, wordFits, imageTest, SavedLie};
+ghost use Rattle.image.specs.Image.{savedSize, imageLong, savedFrom, savedAmong, isOwner, isKeepable, differ, headFits, wordsFit, imageTest, SavedLie};
 ghost use Rattle.image_test.specs.Tests.{laterDiffer, restFits};
 use image::ImageHead;
 use image::ImageTest;
@@ -19,16 +19,27 @@ use names::Credential;
 
 // ---- the words
 
-fn words_fit(grants: [Grants; CREDENTIALS]) -> bool
-    ensures { λ r. ⌜ r ≡ every wordFits grants ⌝ }
+// Whether a credential is provisioned, or has neither word.
+fn words_fit(g: Grants) -> bool
+    ensures { λ r. ⌜ r ≡ wordsFit g ⌝ }
+{
+    if g.provisioned {
+        return true;
+    }
+    if g.words.grant != 0 {
+        return false;
+    }
+    g.words.second == 0
+}
+
+fn all_fit(grants: [Grants; CREDENTIALS]) -> bool
+    ensures { λ r. ⌜ r ≡ every wordsFit grants ⌝ }
 {
     let mut i: usize = 0;
     while i < CREDENTIALS {
         let one = grants[i];
-        if !one.provisioned {
-            if one.word != 0 {
-                return false;
-            }
+        if !words_fit(one) {
+            return false;
         }
         i += 1;
     }
@@ -141,7 +152,7 @@ fn rest_fits(b: &[u8], h: ImageHead, grants: [Grants; CREDENTIALS]) -> bool
     if !is_long(b, h) {
         return false;
     }
-    if !words_fit(grants) {
+    if !all_fit(grants) {
         return false;
     }
     let offset = h.offset;
@@ -157,7 +168,7 @@ pub fn test_image(b: &[u8]) -> ImageTest
     ensures { λ r. ⌜ r ≡ imageTest (now (b .entry)) ⌝ }
 {
     let head = image_head::read_head(b);
-    let grants = image_head::read_grants(b, head.mask);
+    let grants = image_head::read_grants(b, head.mask, head.offset);
     let mut fits = false;
     if image_head::head_fits(head) {
         fits = rest_fits(b, head, grants);

@@ -1,14 +1,15 @@
--- The loops of the writer over the credentials: the mask, and the words.
+-- The loops of the writer over the credentials: the mask, their words, and words written.
 -- Assumes nothing.
 use Prim.Native.Nat.{ℕ, suc, _+_, _-_, _*_, _<_, _≤_}
-use mathlib.Core.Path.{_≡_, sym, ap, _∙_}
+use mathlib.Core.Path.{_≡_, refl, sym, ap, _∙_}
 use mathlib.Core.Bool.{Bool, cond}
 use mathlib.Core.List.{List, map}
 use native.Mathlib.Omega.{arith}
 use borrow.Rule.Slice.PartMut.{putMid}
 use lib.Pow.{pow-mono}
-use lib.ListN.{length, getD, drop, length-drop, length-map, List·getD-map, drop-of-length-le}
+use lib.ListN.{length, getD, drop, set, replicate, length-drop, length-map, List·getD-map, drop-of-length-le}
 use lib.Seq.{drop-cons}
+use Rattle.lists.proofs.Loops.{Copied, copied-none, copied-more, copied-all}
 use Rattle.rows.specs.Bytes.{bytesOf}
 use Rattle.rows.specs.Rows.{over, Put}
 use Rattle.rows.proofs.Bytes.{length-bytes}
@@ -17,7 +18,7 @@ use Rattle.rows.proofs.Loops.{Wrote, wrote-begin, wrote-length, wrote-room, wro
 use Rattle.module_state.specs.Module.{unprovisioned, credentialCount, wordSize}
 use Rattle.module_state.specs.declared.Grants.{Grants}
 use Rattle.image.proofs.Rows.{mask-small}
-use Rattle.image.specs.Image.{wordsAt, savedAt, numbersBytes, maskOf, wordIn}
+use Rattle.image.specs.Image.{wordsSize, numbersBytes, maskOf}
 
 -- ---- the mask, from the last credential on: those from `left` on are in it
 pub record Masked (l : List Grants) (mask left : ℕ) : Type 0 where
@@ -50,34 +51,51 @@ module _ {l : List Grants} {mask left : ℕ} (v : Masked l mask left) where
   pub masked-all : left ≤ 0 → mask ≡ maskOf l
   masked-all h = let none : left ≡ 0 = omega arith in rw none at (v .is)
 
--- ---- the words: the first i are written
-pub record Worded (l : List Grants) (old new : List ℕ) (i : ℕ) : Type 0 where
+-- ---- an array of words that the credentials have: the first i are in it
+pub record Taken (f : Grants → ℕ) (l : List Grants) (out₀ out : List ℕ) (i : ℕ) : Type 0 where
   pub long : length l ≡ credentialCount
-  pub wrote : Wrote (bytesOf wordSize) wordSize wordsAt (map wordIn l) old new i
+  pub done : Copied (map f l) out₀ out i
 
-pub worded-none : (l : List Grants) (old : List ℕ) → length l ≡ credentialCount → savedAt ≤ length old → Worded l old old 0
-worded-none l old h r =
-    record { long = h; wrote = wrote-begin (bytesOf wordSize) wordSize wordsAt (map wordIn l) old (rw (length-map, h) r) }
+pub taken-none : (f : Grants → ℕ) (l : List Grants) → length l ≡ credentialCount → Taken f l (replicate credentialCount 0) (replicate credentialCount 0) 0
+taken-none f l h = record { long = h; done = copied-none (map f l) (replicate credentialCount 0) (sym (length-map l f ∙ h)) }
 
-module _ {l : List Grants} {old new : List ℕ} {i : ℕ} (v : Worded l old new i) where
+module _ {f : Grants → ℕ} {l : List Grants} {out₀ out : List ℕ} {i : ℕ} (v : Taken f l out₀ out i) where
+  pub taken-on : i < credentialCount → {w : ℕ} → w ≡ f (getD l i unprovisioned) → Taken f l out₀ (set out i w) (i + 1)
+  taken-on h {w} e =
+      let inside : i < length (map f l) = rw (length-map, v .long) h in
+      let word : w ≡ getD (map f l) i (f unprovisioned) = e ∙ sym (List·getD-map f l i unprovisioned) in
+      record { long = v .long; done = rw word (copied-more (v .done) (f unprovisioned) inside) }
+
+  pub taken-all : credentialCount ≤ i → out ≡ map f l
+  taken-all h = copied-all (v .done) (rw (length-map, v .long) h)
+
+-- ---- words written from a place on: the first i are
+pub record Worded (words : List ℕ) (at : ℕ) (old new : List ℕ) (i : ℕ) : Type 0 where
+  pub long : length words ≡ credentialCount
+  pub wrote : Wrote (bytesOf wordSize) wordSize at words old new i
+
+pub worded-none : (words : List ℕ) (at : ℕ) (old : List ℕ) → length words ≡ credentialCount → at + wordsSize ≤ length old → Worded words at old old 0
+worded-none words at old h r = record { long = h; wrote = wrote-begin (bytesOf wordSize) wordSize at words old (rw h r) }
+
+module _ {words : List ℕ} {at : ℕ} {old new : List ℕ} {i : ℕ} (v : Worded words at old new i) where
   pub worded-length : length new ≡ length old
   worded-length = wrote-length (v .wrote)
 
   module _ (h : i < credentialCount) where
-    inside : i < length (map wordIn l)
-    inside = rw (length-map, v .long) h
+    inside : i < length words
+    inside = rw (v .long) h
 
-    pub worded-on : {w : ℕ} {new′ : List ℕ} → w ≡ wordIn (getD l i unprovisioned) → new′ ≡ over (wordsAt + i * wordSize) wordSize (bytesOf wordSize w) new → Worded l old new′ (i + 1)
-    worded-on {w} {new′} e p =
-        let at : ℕ = wordsAt + i * wordSize in
-        let n : at + wordSize - at ≡ wordSize = omega arith in
-        let word : w ≡ getD (map wordIn l) i (wordIn unprovisioned) = e ∙ sym (List·getD-map wordIn l i unprovisioned) in
-        let put : new′ ≡ putMid at (at + wordSize - at) new (bytesOf wordSize w) = p ∙ rw n (sym (over-part at wordSize (bytesOf wordSize w) new (wrote-room (v .wrote) inside))) in
+    pub worded-on : {new′ : List ℕ} → new′ ≡ over (at + i * wordSize) wordSize (bytesOf wordSize (getD words i 0)) new → Worded words at old new′ (i + 1)
+    worded-on {new′} p =
+        let from : ℕ = at + i * wordSize in
+        let w : ℕ = getD words i 0 in
+        let n : from + wordSize - from ≡ wordSize = omega arith in
+        let put : new′ ≡ putMid from (from + wordSize - from) new (bytesOf wordSize w) = p ∙ rw n (sym (over-part from wordSize (bytesOf wordSize w) new (wrote-room (v .wrote) inside))) in
         record {
           long = v .long;
-          wrote = rw put (wrote-on (v .wrote) (wordIn unprovisioned) inside (ap (bytesOf wordSize) word) (length-bytes wordSize w ∙ sym (wrote-part (v .wrote) inside)));
+          wrote = rw put (wrote-on (v .wrote) 0 inside refl (length-bytes wordSize w ∙ sym (wrote-part (v .wrote) inside)));
         }
 
-  pub worded-all : credentialCount ≤ i → Put wordsAt (credentialCount * wordSize) (numbersBytes wordSize (map wordIn l)) old new
+  pub worded-all : credentialCount ≤ i → Put at wordsSize (numbersBytes wordSize words) old new
   unfolding numbersBytes
-  worded-all h = rw (length-map, v .long) at (wrote-all (v .wrote) (rw (length-map, v .long) h))
+  worded-all h = rw (v .long) at (wrote-all (v .wrote) (rw (v .long) h))

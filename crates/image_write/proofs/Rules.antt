@@ -26,12 +26,13 @@ use Rattle.table.specs.declared.Table.{Table}
 use Rattle.table.proofs.Laws.{standing-few}
 use Rattle.table.proofs.Rules.{noProcess, front, small}
 use Rattle.table.proofs.Counting.{Counting, count-begin, count-on, count-not, count-all}
-use Rattle.module_state.specs.Module.{unprovisioned, credentialCount, wordSize}
+use Rattle.module_state.specs.Module.{unprovisioned, credentialCount, wordSize, wordsOf}
 use Rattle.module_state.specs.declared.Grants.{Grants}
 use Rattle.module_state.specs.declared.State.{State}
+use Rattle.module_state.specs.declared.Words.{Words}
 use Rattle.image.specs.declared.SavedRow.{SavedRow}
-use Rattle.image.specs.Image.{maskAt, wordCountAt, wordOffsetAt, rowCountAt, rowOffsetAt, wordsAt, savedAt, savedOwnerAt, savedNextAt, savedNameAt, savedSize, imageLong, numbersBytes, headNumbers, maskOf, wordIn, savedBytes, imageBytes, savedRow, isSavedOne, savedRows, savedOf, imageOf, stateImage, imageRoom, lacksRoom, ImageWritten}
-use Rattle.image_write.proofs.Rows.{Masked, masked-none, masked-low, masked-on, masked-all, worded-none, worded-length, worded-on, worded-all}
+use Rattle.image.specs.Image.{maskAt, wordCountAt, wordOffsetAt, rowCountAt, rowOffsetAt, wordsAt, wordsSize, secondsAt, savedAt, savedOwnerAt, savedNextAt, savedNameAt, savedSize, isNew, imageLong, numbersBytes, headNumbers, maskOf, grantIn, secondIn, secondsBytes, savedBytes, imageBytes, savedRow, isSavedOne, savedRows, savedOf, imageOf, stateImage, imageRoom, lacksRoom, ImageWritten}
+use Rattle.image_write.proofs.Rows.{Masked, masked-none, masked-low, masked-on, masked-all, taken-none, taken-on, taken-all, worded-none, worded-length, worded-on, worded-all}
 
 -- ---- the mask
 module _ {l : List Grants} {mask left : ℕ} (v : Masked l mask left) where
@@ -75,14 +76,21 @@ module _ (old : List ℕ) (mask n offset : ℕ) {a b c d new : List ℕ}
   unfolding numbersBytes join bytesOf
   head-put h = put-next (put-next (put-next (put-next mask-put count-put (omega arith)) words-put (omega arith)) rows-put (omega arith)) offset-put (omega arith)
 
--- ---- the words
-pub word-is : (g : Grants) → g .provisioned ≡ true → g .word ≡ wordIn g
-unfolding wordIn
-word-is g e = rw e
+-- ---- the words of a credential
+module _ (g : Grants) {has : Words} (e : has ≡ wordsOf g) where
+  pub grant-in : has .grant ≡ grantIn g
+  unfolding grantIn
+  grant-in = ap (λ (w : Words). w .grant) e
 
-pub word-none : (g : Grants) → g .provisioned ≡ false → 0 ≡ wordIn g
-unfolding wordIn
-word-none g e = rw e
+  pub second-in : has .second ≡ secondIn g
+  unfolding secondIn
+  second-in = ap (λ (w : Words). w .second) e
+
+-- both kinds, one after the other
+pub both-put : (l : List Grants) {grants seconds old a new : List ℕ} → grants ≡ map grantIn l → seconds ≡ map secondIn l → savedAt ≤ length old
+    → Put wordsAt wordsSize (numbersBytes wordSize grants) old a → Put secondsAt wordsSize (numbersBytes wordSize seconds) a new
+    → Put wordsAt (wordsSize + wordsSize) (numbersBytes wordSize (map grantIn l) ++ numbersBytes wordSize (map secondIn l)) old new
+both-put l e f r p q = rw (← e, ← f) (put-next p q (omega arith))
 
 -- ---- those counted that are saved
 pub saved-all : (t : Table) {n k i : ℕ} → n ≡ size t → Counting isSavedOne (t .places) n k i → n ≤ i → k ≡ length (savedRows (standing t))
@@ -167,18 +175,18 @@ module _ (st : State) (old : List ℕ) {saved : ℕ} (e : saved ≡ length (save
     image-length = rw (room-is, le-ltb (length old) (savedAt + saved * savedSize) h)
 
     -- a head, whatever it says, and then the words leave the room for the rows
-    pub rows-start : (mask n offset : ℕ) {a b : List ℕ} → Put 0 wordsAt (numbersBytes 2 (headNumbers mask n offset)) old a → Put wordsAt (credentialCount * wordSize) (numbersBytes wordSize (map wordIn (st .credentials))) a b
+    pub rows-start : (mask n offset : ℕ) {a b : List ℕ} → Put 0 wordsAt (numbersBytes 2 (headNumbers mask n offset)) old a → Put wordsAt (wordsSize + wordsSize) (numbersBytes wordSize (map grantIn (st .credentials)) ++ numbersBytes wordSize (map secondIn (st .credentials))) a b
         → imageLong savedAt (length (savedRows (standing (st .table)))) ≤ length b
     unfolding imageLong
     rows-start mask n offset p q = omega (arith, put-length p, put-length q)
 
     pub image-put : {mask : ℕ} {a b new : List ℕ} → mask ≡ maskOf (st .credentials)
-        → Put 0 wordsAt (numbersBytes 2 (headNumbers mask saved savedAt)) old a → Put wordsAt (credentialCount * wordSize) (numbersBytes wordSize (map wordIn (st .credentials))) a b
+        → Put 0 wordsAt (numbersBytes 2 (headNumbers mask saved savedAt)) old a → Put wordsAt (wordsSize + wordsSize) (numbersBytes wordSize (map grantIn (st .credentials)) ++ numbersBytes wordSize (map secondIn (st .credentials))) a b
         → Put savedAt (length (savedRows (standing (st .table))) * savedSize) (join (map savedBytes (savedRows (standing (st .table))))) b new → new ≡ over 0 (imageRoom st) (stateImage st) old
-    unfolding imageRoom imageLong stateImage imageBytes imageOf savedOf
+    unfolding imageRoom imageLong stateImage imageBytes secondsBytes isNew imageOf savedOf
     image-put m p q r = put-next (put-next p q (omega arith)) r (omega arith) .is ∙ rw (m, e) (simp append-assoc)
 
 pub image-written : {st : State} {old new : List ℕ} {long : ℕ} → long ≡ cond (lacksRoom st (length old)) 0 (imageRoom st) → new ≡ over 0 (imageRoom st) (stateImage st) old → ImageWritten st old long new
 image-written l b = record { length-is = l; bytes-are = b }
 
-pub ruleset rules = (needs, length-mapped, masked-none, mask-double, mask-more, mask-hit, mask-miss, masked-all, head-put, word-is, word-none, worded-none, worded-length, worded-on, worded-all, count-begin, count-on, count-not, saved-all, saved-put, row-made, rows-begin, rows-end, chosen-room, chosen-part, rows-on, chosen-over, chosen-length, rows-fit, image-fits, saved-fits, short-length, short-stays, image-length, rows-start, image-put, image-written)
+pub ruleset rules = (needs, length-mapped, masked-none, mask-double, mask-more, mask-hit, mask-miss, masked-all, head-put, grant-in, second-in, taken-none, taken-on, taken-all, worded-none, worded-length, worded-on, worded-all, both-put, count-begin, count-on, count-not, saved-all, saved-put, row-made, rows-begin, rows-end, chosen-room, chosen-part, rows-on, chosen-over, chosen-length, rows-fit, image-fits, saved-fits, short-length, short-stays, image-length, rows-start, image-put, image-written)

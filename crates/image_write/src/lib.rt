@@ -1,13 +1,13 @@
-// The image of a state, written at the front of a buffer. docs/IMAGE.md draws it.
+// The image of a state, in the new layout, written at the front of a buffer. docs/IMAGE.md draws it.
 ghost use mathlib.Core.Path.{_≡_};
-ghost use mathlib.Core.List.{map};
-ghost use Prim.Native.Nat.{_*_, _≤_};
+ghost use mathlib.Core.List.{_++_, map};
+ghost use Prim.Native.Nat.{_+_, _*_, _≤_};
 ghost use lib.ListN.{length};
 ghost use Rattle.lists.specs.Lists.{join};
 ghost use Rattle.rows.specs.Rows.{Put};
 ghost use Rattle.table.specs.Table.{standing};
-ghost use Rattle.module_state.specs.Module.{credentialCount, wordSize};
-ghost use Rattle.image.specs.Image.{wordsAt, savedAt, savedSize, imageLong, numbersBytes, headNumbers, maskOf, wordIn, savedBytes, savedRow, isSavedOne, savedRows, ImageWritten};
+ghost use Rattle.module_state.specs.Module.{wordSize};
+ghost use Rattle.image.specs.Image.{wordsAt, wordsSize, savedAt, savedSize, imageLong, numbersBytes, headNumbers, maskOf, grantIn, secondIn, savedBytes, savedRow, isSavedOne, savedRows, ImageWritten};
 use image::MASK_AT;
 use image::ROW_COUNT_AT;
 use image::ROW_OFFSET_AT;
@@ -16,6 +16,7 @@ use image::SAVED_NAME_AT;
 use image::SAVED_NEXT_AT;
 use image::SAVED_OWNER_AT;
 use image::SAVED_SIZE;
+use image::SECONDS_AT;
 use image::SavedRow;
 use image::WORD_COUNT_AT;
 use image::WORD_OFFSET_AT;
@@ -61,23 +62,52 @@ fn put_numbers(buffer: &mut [u8], mask: u16, n: u16, offset: u16)
 
 // ---- the words
 
-// A credential's word; zero where it is not provisioned.
-fn word_in(g: Grants) -> u32
-    ensures { λ r. ⌜ r ≡ wordIn g ⌝ }
+fn grants_in(l: [Grants; CREDENTIALS]) -> [u32; CREDENTIALS]
+    ensures { λ r. ⌜ r ≡ map grantIn l ⌝ }
 {
-    if g.provisioned { g.word } else { 0 }
-}
-
-fn put_words(buffer: &mut [u8], l: [Grants; CREDENTIALS])
-    requires { ⌜ savedAt ≤ length (now buffer) ⌝ }
-    ensures { λ r. ⌜ Put wordsAt (credentialCount * wordSize) (numbersBytes wordSize (map wordIn l)) (now (buffer .entry)) (now (buffer .exit)) ⌝ }
-{
+    let mut words: [u32; CREDENTIALS] = [0; CREDENTIALS];
     let mut i: usize = 0;
     while i < CREDENTIALS {
         let g = l[i];
-        rows::put_number32(buffer, WORDS_AT + i * WORD_SIZE, word_in(g));
+        let has = module_state::words_of(g);
+        words[i] = has.grant;
         i += 1;
     }
+    words
+}
+
+fn seconds_in(l: [Grants; CREDENTIALS]) -> [u32; CREDENTIALS]
+    ensures { λ r. ⌜ r ≡ map secondIn l ⌝ }
+{
+    let mut seconds: [u32; CREDENTIALS] = [0; CREDENTIALS];
+    let mut i: usize = 0;
+    while i < CREDENTIALS {
+        let g = l[i];
+        let has = module_state::words_of(g);
+        seconds[i] = has.second;
+        i += 1;
+    }
+    seconds
+}
+
+fn put_words(buffer: &mut [u8], at: usize, words: [u32; CREDENTIALS])
+    requires { ⌜ at + wordsSize ≤ length (now buffer) ⌝ }
+    ensures { λ r. ⌜ Put at wordsSize (numbersBytes wordSize words) (now (buffer .entry)) (now (buffer .exit)) ⌝ }
+{
+    let mut i: usize = 0;
+    while i < CREDENTIALS {
+        rows::put_number32(buffer, at + i * WORD_SIZE, words[i]);
+        i += 1;
+    }
+}
+
+// The grant words, and the second words after them.
+fn put_both(buffer: &mut [u8], l: [Grants; CREDENTIALS])
+    requires { ⌜ savedAt ≤ length (now buffer) ⌝ }
+    ensures { λ r. ⌜ Put wordsAt (wordsSize + wordsSize) (numbersBytes wordSize (map grantIn l) ++ numbersBytes wordSize (map secondIn l)) (now (buffer .entry)) (now (buffer .exit)) ⌝ }
+{
+    put_words(buffer, WORDS_AT, grants_in(l));
+    put_words(buffer, SECONDS_AT, seconds_in(l));
 }
 
 // ---- the rows: the saved processes, in table order
@@ -165,7 +195,7 @@ pub fn write_image(buffer: &mut [u8], st: State) -> usize
         return 0;
     }
     put_numbers(buffer, mask_of(credentials), saved as u16, SAVED_AT as u16);
-    put_words(buffer, credentials);
+    put_both(buffer, credentials);
     put_saved(buffer, t);
     long
 }

@@ -6,19 +6,25 @@ use Rattle.image_head.proofs.grants_said.Statement.{statement}
 use Rattle.image_head.proofs.grants_said.Tie as tie
 
 abbrev Inv-loop : tie.InvT-loop
-Inv-loop mask words grants₀ left₀ i₀ grants left i = SaidTo mask words grants₀ grants left i
+Inv-loop mask words seconds grants₀ left₀ i₀ grants left i = SaidTo mask words seconds grants₀ grants left i
 
 abbrev μ-loop : tie.MeasureT-loop
-μ-loop mask words grants₀ left₀ i₀ grants left i = credentialCount - i
+μ-loop mask words seconds grants₀ left₀ i₀ grants left i = credentialCount - i
 
 loop-holds : tie.Need-loop-holds Inv-loop μ-loop
 loop-holds c = search rules
 
-mul-t10 : tie.Need-mul-t10 Inv-loop μ-loop
-mul-t10 c = search rules
+mul-t13 : tie.Need-mul-t13 Inv-loop μ-loop
+mul-t13 c = search rules
 
-array-read-t13 : tie.Need-array-read-t13 Inv-loop μ-loop
-array-read-t13 c = search rules
+array-read-t16 : tie.Need-array-read-t16 Inv-loop μ-loop
+array-read-t16 c = search rules
+
+mul-t17 : tie.Need-mul-t17 Inv-loop μ-loop
+mul-t17 c = search rules
+
+array-read-t20 : tie.Need-array-read-t20 Inv-loop μ-loop
+array-read-t20 c = search rules
 
 mul-grants : tie.Need-mul-grants Inv-loop μ-loop
 mul-grants c = search rules
@@ -45,8 +51,10 @@ grants-said-spec =
     Inv-loop
     μ-loop
     loop-holds
-    mul-t10
-    array-read-t13
+    mul-t13
+    array-read-t16
+    mul-t17
+    array-read-t20
     mul-grants
     array-set-from-grants
     add-i

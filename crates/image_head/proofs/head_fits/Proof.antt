@@ -15,8 +15,12 @@ returns-3 c = search rules
 returns-4 : tie.Need-returns-4
 returns-4 c = search rules
 
+is-row-offset-requires : tie.Need-is-row-offset-requires
+is-row-offset-requires c κs = search rules
+
 returns-5 : tie.Need-returns-5
 returns-5 c = search rules
 
 pub head-fits-spec : {M : Type 1} → statement M
-head-fits-spec = tie.close (tie.spec returns returns-2 returns-3 returns-4 returns-5)
+head-fits-spec =
+    tie.close (tie.spec returns returns-2 returns-3 returns-4 is-row-offset-requires returns-5)

@@ -6,6 +6,9 @@ use Rattle.image_head.proofs.read_grants.Tie as tie
 read-words-requires : tie.Need-read-words-requires
 read-words-requires c κs = search rules
 
+read-seconds-requires : tie.Need-read-seconds-requires
+read-seconds-requires c κs = search rules
+
 grants-said-requires : tie.Need-grants-said-requires
 grants-said-requires c κs = search rules
 
@@ -13,4 +16,5 @@ returns : tie.Need-returns
 returns c = search rules
 
 pub read-grants-spec : {M : Type 1} → statement M
-read-grants-spec = tie.close (tie.spec read-words-requires grants-said-requires returns)
+read-grants-spec =
+    tie.close (tie.spec read-words-requires read-seconds-requires grants-said-requires returns)

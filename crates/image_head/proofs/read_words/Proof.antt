@@ -3,16 +3,15 @@ use Prim.Native.Nat.{_-_}
 use Rattle.rows.specs.Bytes.{numberOf}
 use Rattle.rows.proofs.Loops.{FilledBy}
 use Rattle.module_state.specs.Module.{credentialCount, wordSize}
-use Rattle.image.specs.Image.{wordsAt}
 use Rattle.image_head.proofs.Rules.{rules}
 use Rattle.image_head.proofs.read_words.Statement.{statement}
 use Rattle.image_head.proofs.read_words.Tie as tie
 
 abbrev Inv-loop : tie.InvT-loop
-Inv-loop b words₀ i₀ words i = FilledBy numberOf credentialCount wordSize wordsAt b words₀ words i
+Inv-loop b at words₀ i₀ words i = FilledBy numberOf credentialCount wordSize at b words₀ words i
 
 abbrev μ-loop : tie.MeasureT-loop
-μ-loop b words₀ i₀ words i = credentialCount - i
+μ-loop b at words₀ i₀ words i = credentialCount - i
 
 loop-holds : tie.Need-loop-holds Inv-loop μ-loop
 loop-holds c = search rules

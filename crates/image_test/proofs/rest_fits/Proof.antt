@@ -9,8 +9,8 @@ is-long-requires c κs = search rules
 returns : tie.Need-returns
 returns c = search rules
 
-words-fit-requires : tie.Need-words-fit-requires
-words-fit-requires c κs = search rules
+all-fit-requires : tie.Need-all-fit-requires
+all-fit-requires c κs = search rules
 
 returns-2 : tie.Need-returns-2
 returns-2 c = search rules
@@ -33,7 +33,7 @@ rest-fits-spec =
     (tie.spec
     is-long-requires
     returns
-    words-fit-requires
+    all-fit-requires
     returns-2
     are-keepable-requires
     returns-3

@@ -1,52 +1,16 @@
 -- written by tools/scaffold, which keeps the answers that are not a plain search
-use Prim.Native.Nat.{_-_}
-use mathlib.Core.Logic.{⊎-elim}
-use Rattle.module_state.specs.Module.{credentialCount}
-use Rattle.image_test.proofs.Rules.{WordsTo, rules}
+use Rattle.image_test.proofs.Rules.{rules}
 use Rattle.image_test.proofs.words_fit.Statement.{statement}
 use Rattle.image_test.proofs.words_fit.Tie as tie
 
-abbrev Inv-loop : tie.InvT-loop
-Inv-loop grants i₀ i = WordsTo grants i
-
-abbrev μ-loop : tie.MeasureT-loop
-μ-loop grants i₀ i = credentialCount - i
-
-loop-holds : tie.Need-loop-holds Inv-loop μ-loop
-loop-holds c = search rules
-
-mul-one : tie.Need-mul-one Inv-loop μ-loop
-mul-one c = search rules
-
-array-copy-out-one : tie.Need-array-copy-out-one Inv-loop μ-loop
-array-copy-out-one c = search rules
-
-returns : tie.Need-returns Inv-loop μ-loop
+returns : tie.Need-returns
 returns c = search rules
 
-add-i : tie.Need-add-i Inv-loop μ-loop
-add-i c = search rules
-
-loop-less : tie.Need-loop-less Inv-loop μ-loop
-loop-less c = search rules
-
-loop-again : tie.Need-loop-again Inv-loop μ-loop
-loop-again c = ⊎-elim (λ w. search rules) (λ w. search rules) (c .if1 .came)
-
-returns-2 : tie.Need-returns-2 Inv-loop μ-loop
+returns-2 : tie.Need-returns-2
 returns-2 c = search rules
 
+returns-3 : tie.Need-returns-3
+returns-3 c = search rules
+
 pub words-fit-spec : {M : Type 1} → statement M
-words-fit-spec =
-    tie.close
-    (tie.spec
-    Inv-loop
-    μ-loop
-    loop-holds
-    mul-one
-    array-copy-out-one
-    returns
-    add-i
-    loop-less
-    loop-again
-    returns-2)
+words-fit-spec = tie.close (tie.spec returns returns-2 returns-3)

@@ -7,19 +7,13 @@ use Rattle.image_write.proofs.put_words.Statement.{statement}
 use Rattle.image_write.proofs.put_words.Tie as tie
 
 abbrev Inv-loop : tie.InvT-loop
-Inv-loop buffer₀ l i₀ buffer i = Worded l buffer₀ buffer i
+Inv-loop buffer₀ at words i₀ buffer i = Worded words at buffer₀ buffer i
 
 abbrev μ-loop : tie.MeasureT-loop
-μ-loop buffer₀ l i₀ buffer i = credentialCount - i
+μ-loop buffer₀ at words i₀ buffer i = credentialCount - i
 
 loop-holds : tie.Need-loop-holds Inv-loop μ-loop
 loop-holds c = search rules
-
-mul-g : tie.Need-mul-g Inv-loop μ-loop
-mul-g c = search rules
-
-array-copy-out-g : tie.Need-array-copy-out-g Inv-loop μ-loop
-array-copy-out-g c = search rules
 
 mul-put-number32 : tie.Need-mul-put-number32 Inv-loop μ-loop
 mul-put-number32 c = search rules
@@ -27,8 +21,11 @@ mul-put-number32 c = search rules
 add-put-number32 : tie.Need-add-put-number32 Inv-loop μ-loop
 add-put-number32 c = search rules
 
-word-in-requires : tie.Need-word-in-requires Inv-loop μ-loop
-word-in-requires c κs = search rules
+mul-put-number32-2 : tie.Need-mul-put-number32-2 Inv-loop μ-loop
+mul-put-number32-2 c = search rules
+
+array-read-put-number32 : tie.Need-array-read-put-number32 Inv-loop μ-loop
+array-read-put-number32 c = search rules
 
 put-number32-requires : tie.Need-put-number32-requires Inv-loop μ-loop
 put-number32-requires c κs = search rules
@@ -55,11 +52,10 @@ put-words-spec =
     Inv-loop
     μ-loop
     loop-holds
-    mul-g
-    array-copy-out-g
     mul-put-number32
     add-put-number32
-    word-in-requires
+    mul-put-number32-2
+    array-read-put-number32
     put-number32-requires
     add-i
     loop-less

@@ -27,8 +27,8 @@ cast-put-numbers-2 c = search rules
 put-numbers-requires : tie.Need-put-numbers-requires
 put-numbers-requires c κs = search rules
 
-put-words-requires : tie.Need-put-words-requires
-put-words-requires c κs = search rules
+put-both-requires : tie.Need-put-both-requires
+put-both-requires c κs = search rules
 
 put-saved-requires : tie.Need-put-saved-requires
 put-saved-requires c κs = search rules
@@ -51,7 +51,7 @@ write-image-spec =
     cast-put-numbers
     cast-put-numbers-2
     put-numbers-requires
-    put-words-requires
+    put-both-requires
     put-saved-requires
     same-length
     returns-2)
