@@ -431,7 +431,7 @@ impl Generator {
             true => self.drawn_image(),
             false => self.images[self.random.below(self.images.len())].clone(),
         };
-        if self.random.percent(20) && !images::is_old(&image) {
+        if self.random.percent(20) {
             image = images::old(&image);
         }
         if self.random.percent(85) {

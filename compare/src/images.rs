@@ -56,8 +56,11 @@ pub fn is_old(image: &[u8]) -> bool {
     offset(image) == OLD_ROWS_AT
 }
 
-/// An image of the new layout in the old one: its second words are gone.
+/// An image in the old layout: its second words are gone.
 pub fn old(image: &[u8]) -> Vec<u8> {
+    if is_old(image) {
+        return image.to_vec();
+    }
     let mut old = [&image[..SECONDS_AT], &image[ROWS_AT..]].concat();
     put(&mut old, ROWS_OFFSET_AT, OLD_ROWS_AT as u16);
     old
