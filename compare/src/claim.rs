@@ -4,14 +4,18 @@ use crate::call::{user_claim, Call};
 use slavotuk_model::Module;
 
 /// The refusals after a claim that documents 01 and 02 have, by entry and number.
-pub const AFTER_THE_CLAIM: [(&str, u32); 7] = [
+pub const AFTER_THE_CLAIM: [(&str, u32); 11] = [
     ("end", 10),
+    ("end", 18),
     ("record", 10),
+    ("record", 18),
     ("list", 10),
     ("list", 15),
+    ("list", 18),
     ("kill", 6),
     ("set_word", 5),
     ("set_word", 10),
+    ("set_word", 18),
 ];
 
 /// The place of the process whose user claim passed its check in a call that was answered with this number. There is none where the claim is elevated, and where
@@ -21,7 +25,7 @@ pub const AFTER_THE_CLAIM: [(&str, u32); 7] = [
 pub fn passed(call: &Call, number: u32, before: &Module) -> Option<usize> {
     let (session, credential, _) = user_claim(call)?;
     let (place, _) = before.find_active_user(session as usize, credential as usize)?;
-    matches!(number, 0 | 5 | 6 | 10 | 15).then_some(place)
+    matches!(number, 0 | 5 | 6 | 10 | 15 | 18).then_some(place)
 }
 
 /// The place of a refused call's answer in [`AFTER_THE_CLAIM`].
@@ -34,7 +38,7 @@ pub fn refusal_after(call: &Call, number: u32) -> Option<usize> {
 mod tests {
     use super::*;
     use slavotuk::entries::RawClaim;
-    use slavotuk_model::module::{Kind, Process, Session};
+    use slavotuk_model::module::{Credential, Kind, Process, Session};
 
     fn kill(session: u32, claim: RawClaim) -> Call {
         Call::Kill {
@@ -46,7 +50,7 @@ mod tests {
 
     #[test]
     fn a_6_is_the_claims_own_where_its_process_does_not_stand() {
-        let mut module = Module::fresh([(true, 0); 8]);
+        let mut module = Module::fresh([Credential::with(0, 0); 8]);
         module.sessions[2] = Session::OpenWithVersion;
         module.processes.push(Process {
             credential: 1,
@@ -68,8 +72,9 @@ mod tests {
     #[test]
     fn refusals_have_their_places() {
         let claim = RawClaim::user(1, 0);
-        assert_eq!(refusal_after(&kill(2, claim), 6), Some(4));
+        assert_eq!(refusal_after(&kill(2, claim), 6), Some(7));
         assert_eq!(refusal_after(&kill(2, claim), 10), None);
+        assert_eq!(refusal_after(&kill(2, claim), 18), None);
         assert_eq!(refusal_after(&kill(2, claim), 0), None);
     }
 }

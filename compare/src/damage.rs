@@ -7,7 +7,7 @@ use crate::random::Random;
 use crate::report::{Report, Singles};
 use crate::sequence::{run, Plan};
 use slavotuk_model::layout::{self, STATE_LENGTH};
-use slavotuk_model::module::{Kind, CREDENTIALS, PLACES};
+use slavotuk_model::module::{Credential, Kind, CREDENTIALS, PLACES};
 use slavotuk_model::Module;
 
 /// How many states of twelve processes are damaged, beside the plain ones.
@@ -48,7 +48,11 @@ pub fn soak(state: &[u8], random: &mut Random) -> Result<u64, String> {
 }
 
 fn states(random: &mut Random) -> Vec<(String, Vec<u8>)> {
-    let fresh = Module::fresh([1, 2, 3, 4, 5, 6, 7, 8].map(|c| (c % 3 != 0, 0x0102_0304 * c)));
+    let fresh = Module::fresh([1, 2, 3, 4, 5, 6, 7, 8].map(|c| Credential {
+        provisioned: c % 3 != 0,
+        word: 0x0102_0304 * c,
+        second: 0x0807_0605 * c,
+    }));
     let mut states = vec![
         ("all zero".to_string(), vec![0; STATE_LENGTH]),
         ("fresh".to_string(), layout::write(&fresh)),
@@ -62,7 +66,7 @@ fn states(random: &mut Random) -> Vec<(String, Vec<u8>)> {
     states
 }
 
-/// The state that the seed's sequence ends in, if it has twelve processes of all three types.
+/// The state that the seed's sequence ends in, if it has twelve processes of all three types, and second words.
 fn deep_state(seed: u64) -> Option<Module> {
     let plan = Plan {
         calls: 300,
@@ -83,7 +87,8 @@ fn is_deep(module: &Module) -> bool {
         Kind::ActiveUser { next, .. } | Kind::SavedUser { next } => next > 0,
         Kind::ActiveElevation { .. } => false,
     });
-    module.processes.len() == PLACES && (0..3).all(of_type) && counted
+    let marked = module.credentials.iter().any(|held| held.second != 0);
+    module.processes.len() == PLACES && (0..3).all(of_type) && counted && marked
 }
 
 /// The trial of slices made from one state.
@@ -269,7 +274,7 @@ fn random_bytes(states: &[(String, Vec<u8>)], random: &mut Random) -> Result<Str
     Ok(format!("20000 slices of random bytes: {calls} calls"))
 }
 
-/// Every flag's value at each place, and every length of the three slices.
+/// Every flag's value at each place, and every length of the four slices.
 pub fn test_fresh(seed: u64, report: &mut Report) {
     let mut random = Random::new(seed);
     report.judge(fresh_flags(&mut random));
@@ -303,22 +308,24 @@ fn fresh_lengths(random: &mut Random) -> Result<String, String> {
     let mut accepted = 0;
     for flags in 0..=10 {
         for length in 0..=10 {
-            let words = (0..length).map(|_| random.word()).collect();
-            let call = Call::Fresh {
-                provisioned: vec![1; flags],
-                words,
-            };
-            let answer = singles.on(&random.bytes(STATE_LENGTH), &call)?;
-            accepted += u64::from(answer.number == 0);
+            for second_length in 0..=10 {
+                let call = Call::Fresh {
+                    provisioned: vec![1; flags],
+                    words: words(length, random),
+                    seconds: words(second_length, random),
+                };
+                let answer = singles.on(&random.bytes(STATE_LENGTH), &call)?;
+                accepted += u64::from(answer.number == 0);
+            }
         }
     }
     match accepted {
         1 => Ok(format!(
-            "fresh, both slices of 0 to 10: {} calls, 1 accepted",
+            "fresh, flags, words and second words of 0 to 10 each: {} calls, 1 accepted",
             singles.calls
         )),
         _ => Err(format!(
-            "fresh accepted {accepted} pairs of lengths, 1 is good"
+            "fresh accepted {accepted} of the lengths, 1 is good"
         )),
     }
 }
@@ -342,6 +349,13 @@ fn fresh_state_lengths(random: &mut Random) -> Result<String, String> {
 }
 
 fn fresh(provisioned: Vec<u8>, random: &mut Random) -> Call {
-    let words = (0..CREDENTIALS).map(|_| random.word()).collect();
-    Call::Fresh { provisioned, words }
+    Call::Fresh {
+        provisioned,
+        words: words(CREDENTIALS, random),
+        seconds: words(CREDENTIALS, random),
+    }
+}
+
+fn words(count: usize, random: &mut Random) -> Vec<u32> {
+    (0..count).map(|_| random.word()).collect()
 }

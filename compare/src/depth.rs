@@ -2,12 +2,13 @@
 
 use crate::call::{Answer, Call, ENTRIES};
 use crate::claim::{passed, refusal_after, AFTER_THE_CLAIM};
-use slavotuk_model::module::{Kind, Name, Process, PLACES, SPENT};
+use crate::images;
+use slavotuk_model::module::{Grant, Kind, Name, Process, PLACES, SPENT};
 use slavotuk_model::Module;
 use std::collections::{HashMap, HashSet};
 
-/// How many numbers there are.
-const NUMBERS: usize = 16;
+/// One more than the largest number.
+const NUMBERS: usize = 19;
 
 /// The numbers that documents 01 and 02 let each entry answer.
 #[rustfmt::skip]
@@ -21,11 +22,11 @@ const POSSIBLE: [&[usize]; ENTRIES] = [
     /* start         */ &[0, 1, 2, 3, 5, 7, 11, 12],
     /* continue      */ &[0, 1, 2, 3, 5, 6, 7],
     /* elevate       */ &[0, 1, 2, 3, 5, 7, 8, 11, 12],
-    /* end           */ &[0, 1, 2, 3, 5, 6, 8, 9, 10, 13],
-    /* record        */ &[0, 1, 2, 3, 5, 6, 8, 9, 10, 13],
-    /* list          */ &[0, 1, 2, 3, 5, 6, 8, 9, 10, 13, 15],
+    /* end           */ &[0, 1, 2, 3, 5, 6, 8, 9, 10, 13, 18],
+    /* record        */ &[0, 1, 2, 3, 5, 6, 8, 9, 10, 13, 18],
+    /* list          */ &[0, 1, 2, 3, 5, 6, 8, 9, 10, 13, 15, 18],
     /* kill          */ &[0, 1, 2, 3, 5, 6, 8, 9, 13],
-    /* set_word      */ &[0, 1, 2, 3, 5, 6, 8, 9, 10, 13],
+    /* set_word      */ &[0, 1, 2, 3, 5, 6, 8, 9, 10, 13, 18],
     /* image         */ &[0, 15],
     /* restore       */ &[0, 14],
     /* read_request  */ &[0, 14],
@@ -62,10 +63,14 @@ pub struct Depth {
     continued: u64,
     continued_elsewhere: u64,
     elevated: u64,
+    /// Of these, the records of a class that is granted only so.
+    only_elevated: u64,
     /// Images written.
     images: u64,
     /// Images restored: the newest that was written, an older one, some other.
     restored: [u64; 3],
+    /// Those of the old layout.
+    restored_old: u64,
     /// Their rows.
     restored_rows: u64,
     /// Those of the processes from an image that were continued, and the claims that passed under them.
@@ -117,7 +122,7 @@ impl Depth {
             | Call::SetWord { claim, .. }
                 if claim.kind == 1 =>
             {
-                self.elevated += 1
+                self.note_elevated(call, before)
             }
             _ => {}
         }
@@ -160,10 +165,22 @@ impl Depth {
             None => 2,
         };
         self.restored[whose] += 1;
+        self.restored_old += u64::from(images::is_old(image));
         self.restored_rows += after.processes.len() as u64;
         trail.used = after.processes.len();
         trail.saved_in.clear();
         trail.restored = after.processes.iter().map(|process| process.name).collect();
+    }
+
+    fn note_elevated(&mut self, call: &Call, before: &Module) {
+        self.elevated += 1;
+        let Call::Record { session, class, .. } = call else {
+            return;
+        };
+        let elevation = before.find_elevation(*session as usize);
+        let owner = elevation.map(|place| before.processes[place].credential);
+        let only_so = |owner| before.lookup(owner, *class) == Grant::OnlyUnderElevation;
+        self.only_elevated += u64::from(owner.is_some_and(only_so));
     }
 
     /// Of a claim that passed its check, whatever the call was answered afterwards.
@@ -207,8 +224,10 @@ impl Depth {
         self.continued += other.continued;
         self.continued_elsewhere += other.continued_elsewhere;
         self.elevated += other.elevated;
+        self.only_elevated += other.only_elevated;
         self.images += other.images;
         add_each(&mut self.restored, &other.restored);
+        self.restored_old += other.restored_old;
         self.restored_rows += other.restored_rows;
         self.restored_continued += other.restored_continued;
         self.restored_claims += other.restored_claims;
@@ -222,21 +241,28 @@ impl Depth {
     /// The table of entries and numbers, a line for each entry.
     pub fn table(&self) -> Vec<String> {
         let mut head = format!("  {:13}", "");
-        for number in 0..NUMBERS {
+        let numbers: Vec<usize> = (0..NUMBERS).filter(|number| self.is_met(*number)).collect();
+        for number in &numbers {
             head += &format!(" {number:>7}");
         }
         let mut lines = vec![head];
         for (entry, answered) in self.answered.iter().enumerate() {
             let mut line = format!("  {:13}", Call::ENTRIES[entry]);
-            for (number, times) in answered.iter().enumerate() {
-                match (POSSIBLE[entry].contains(&number), times) {
+            for number in &numbers {
+                match (POSSIBLE[entry].contains(number), answered[*number]) {
                     (false, 0) => line += &format!(" {:>7}", "."),
-                    _ => line += &format!(" {times:>7}"),
+                    (_, times) => line += &format!(" {times:>7}"),
                 }
             }
             lines.push(line);
         }
         lines
+    }
+
+    /// Whether some entry answers the number by the documents, or has answered it.
+    fn is_met(&self, number: usize) -> bool {
+        let mut entries = POSSIBLE.iter().zip(&self.answered);
+        entries.any(|(possible, answered)| possible.contains(&number) || answered[number] > 0)
     }
 
     /// Whether everything that is to come up did, each at least so many times: a line for each.
@@ -277,14 +303,18 @@ impl Depth {
                 ),
             ),
             reached(
-                self.elevated,
-                format!("{} calls accepted under an elevated claim", self.elevated),
+                self.elevated.min(self.only_elevated),
+                format!(
+                    "{} calls accepted under an elevated claim, {} of them records of a class that is granted only so",
+                    self.elevated, self.only_elevated
+                ),
             ),
             reached(
-                newest.min(older).min(others),
+                newest.min(older).min(others).min(self.restored_old),
                 format!(
-                    "{} power cycles: the newest of {images} images {newest} times, an older one {older}, some other {others}",
-                    self.power_cycles()
+                    "{} power cycles: the newest of {images} images {newest} times, an older one {older}, some other {others}; the old layout {}",
+                    self.power_cycles(),
+                    self.restored_old
                 ),
             ),
             reached(
@@ -418,7 +448,7 @@ mod tests {
             ..Depth::default()
         };
         assert!(depth.judge_refused(5).is_ok());
-        depth.claims[3] = 4;
+        depth.claims[5] = 4;
         let told = depth.judge_refused(5).unwrap_err();
         assert!(told.contains("list 10 4 times"), "{told}");
     }
@@ -427,10 +457,12 @@ mod tests {
     fn an_answer_that_cannot_be_is_seen() {
         let mut depth = Depth::default();
         assert!(depth.judge_impossible().is_ok());
-        depth.answered[12][10] = 1;
+        assert_eq!(depth.table()[0].split_whitespace().last(), Some("18"));
+        assert!(!depth.table()[0].contains("17"));
+        depth.answered[12][18] = 1;
         assert_eq!(
             depth.judge_impossible(),
-            Err("kill answered 10, 1 times".to_string())
+            Err("kill answered 18, 1 times".to_string())
         );
     }
 }

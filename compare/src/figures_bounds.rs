@@ -1,25 +1,23 @@
 //! Drawers on both sides of each bound.
 
 use crate::figures_drawers::{
-    every_row_count, example, image_of, image_with, piece, with_length, with_rows, LONGEST_PIECE,
-    MOST_IMAGES,
+    every_row_count, example, image_of, image_with, in_both_layouts, piece, with_length, with_rows,
+    LONGEST_PIECE, MOST_IMAGES,
 };
 use crate::figures_trial::{Setting, Trial};
-use crate::images::put;
-use slavotuk::layout::image::{row_at, NEXT};
+use crate::images::{self, put, row_in};
+use slavotuk::layout::image::NEXT;
 use slavotuk_model::figures::figures;
-use slavotuk_model::image::{HEAD_LENGTH, LONGEST, ROW_LENGTH};
-use slavotuk_model::module::{CREDENTIALS, PLACES, SPENT};
+use slavotuk_model::image::{HEAD_LENGTH, LONGEST, OLD_HEAD_LENGTH, ROW_LENGTH};
+use slavotuk_model::module::{Credential, CREDENTIALS, PLACES, SPENT};
 
 /// What document 02 says itself: the model has to print that too.
 pub fn known(setting: &Setting) -> Result<String, String> {
     let mut trial = Trial::new(setting, "known");
+    let [old, new] = in_both_layouts(&example()).map(|image| piece(&image));
     for (which, drawer, text) in [
-        (
-            "the document's example",
-            piece(&example()),
-            "0 5 0\ntotal 1 0 5\n",
-        ),
+        ("the document's example", new, "0 5 0\ntotal 1 0 5\n"),
+        ("the same in the old layout", old, "0 5 0\ntotal 1 0 5\n"),
         ("an empty drawer", vec![], "total 0 0 0\n"),
     ] {
         let model = figures(&drawer);
@@ -28,13 +26,13 @@ pub fn known(setting: &Setting) -> Result<String, String> {
         }
         trial.drawer(which, &drawer)?;
     }
-    Ok(trial.counted("the document's example, and an empty drawer"))
+    Ok(trial.counted("the document's example in both layouts, and an empty drawer"))
 }
 
 pub fn lone_bytes(setting: &Setting) -> Result<String, String> {
     let mut trial = Trial::new(setting, "lone");
     for before in [vec![], piece(&example()), every_row_count(), piece(&[])] {
-        for byte in [0, 1, 42, 255] {
+        for byte in [0, 1, 42, 74, 255] {
             let which = format!("a lone {byte} after {} bytes", before.len());
             trial.drawer(which, &[&before[..], &[byte]].concat())?;
         }
@@ -44,19 +42,18 @@ pub fn lone_bytes(setting: &Setting) -> Result<String, String> {
 
 /// Each with an image after it, and cut off in front of its last byte, behind its length, and in its length.
 pub fn lengths(setting: &Setting) -> Result<String, String> {
-    const ONE_ROW: usize = HEAD_LENGTH + ROW_LENGTH;
     let mut lengths = vec![0, 1, LONGEST + 2, LONGEST_PIECE];
-    for bound in [HEAD_LENGTH, ONE_ROW] {
-        lengths.extend([bound - 1, bound, bound + 1]);
+    for head in [OLD_HEAD_LENGTH, HEAD_LENGTH] {
+        for rows in [0, 1, PLACES] {
+            let bound = head + ROW_LENGTH * rows;
+            lengths.extend([bound - 1, bound, bound + 1]);
+        }
     }
-    lengths.extend([LONGEST, LONGEST + 1]);
     let mut trial = Trial::new(setting, "lengths");
     for length in lengths {
-        for rows in nearest_row_counts(length) {
-            let mut image = with_rows(rows);
-            image.resize(length, 0);
-            let piece = piece(&image);
-            let which = format!("length {length}, an image of {rows} rows fitted to it");
+        for image in nearest(length) {
+            let piece = piece(&fitted(&image, length));
+            let which = format!("length {length}, an image of {} fitted to it", image.len());
             let whole = [every_row_count(), piece.clone(), every_row_count()].concat();
             trial.drawer(&which, &whole)?;
             let lefts = [1, 2, 3, piece.len() - 1];
@@ -67,31 +64,42 @@ pub fn lengths(setting: &Setting) -> Result<String, String> {
             }
         }
     }
-    Ok(trial.counted("lengths of no row, one row and twelve and their neighbours, 0, 1 and 65,535, whole and cut off"))
+    Ok(trial.counted("lengths of no row, one row and twelve in both layouts and their neighbours, 0, 1 and 65,535, whole and cut off"))
 }
 
-/// How many rows have the images that are just not longer than this, and just longer.
-fn nearest_row_counts(length: usize) -> [usize; 2] {
+/// The images that are just not longer than this and just longer, of both layouts.
+fn nearest(length: usize) -> Vec<Vec<u8>> {
     let rows = length.saturating_sub(HEAD_LENGTH) / ROW_LENGTH;
-    [rows.min(PLACES), (rows + 1).min(PLACES)]
+    let counts = [rows, rows + 1].map(|rows| rows.min(PLACES));
+    let images = counts.map(|rows| in_both_layouts(&with_rows(rows)));
+    images.concat()
+}
+
+/// The image cut to this length, or made longer.
+fn fitted(image: &[u8], length: usize) -> Vec<u8> {
+    let mut fitted = image.to_vec();
+    fitted.resize(length, 0);
+    fitted
 }
 
 /// An image cut off at each of its bytes, and bytes that are an image where more are said.
 pub fn cut_off(setting: &Setting) -> Result<String, String> {
     let mut trial = Trial::new(setting, "cut-off");
-    for rows in [0, 2] {
-        let image = piece(&with_rows(rows));
+    for image in [0, 2]
+        .map(|rows| in_both_layouts(&with_rows(rows)))
+        .concat()
+    {
+        let image = piece(&image);
         for left in 1..image.len() {
             let drawer = [piece(&example()), image[..left].to_vec()].concat();
-            trial.drawer(format!("{rows} rows, {left} bytes of it"), &drawer)?;
+            trial.drawer(format!("{left} bytes of {}", image.len()), &drawer)?;
         }
     }
-    for rows in 0..=PLACES {
-        let image = with_rows(rows);
+    for image in (0..=PLACES).flat_map(|rows| in_both_layouts(&with_rows(rows))) {
         let next_row = image.len() + ROW_LENGTH;
         for length in [image.len() + 1, next_row, LONGEST + 1, LONGEST_PIECE] {
             let drawer = [piece(&example()), with_length(length, &image)].concat();
-            trial.drawer(format!("{rows} rows, after length {length}"), &drawer)?;
+            trial.drawer(format!("{} after length {length}", image.len()), &drawer)?;
         }
     }
     Ok(trial
@@ -101,7 +109,8 @@ pub fn cut_off(setting: &Setting) -> Result<String, String> {
 /// What is skipped is full of images: none of them is told of.
 pub fn skipped(setting: &Setting) -> Result<String, String> {
     let mut trial = Trial::new(setting, "skipped");
-    let images = piece(&example()).repeat(LONGEST_PIECE / HEAD_LENGTH);
+    let both = in_both_layouts(&example()).map(|image| piece(&image));
+    let images = both.concat().repeat(LONGEST_PIECE / HEAD_LENGTH);
     let lengths = [
         LONGEST + 1,
         LONGEST + 2,
@@ -186,7 +195,8 @@ fn many_images(count: usize) -> [(&'static str, Vec<u8>); 5] {
     let good = piece(&with_rows(1));
     let (empty, damaged) = (piece(&[]), piece(&[7; HEAD_LENGTH]));
     let full = piece(&image_of(&[u32::MAX; CREDENTIALS], &[SPENT; PLACES]));
-    let by_turns = [&good, &empty, &damaged].into_iter().cycle();
+    let old = piece(&images::old(&with_rows(1)));
+    let by_turns = [&good, &empty, &old, &damaged].into_iter().cycle();
     let mixed: Vec<&[u8]> = by_turns.take(count).map(Vec::as_slice).collect();
     [
         ("mixed", mixed.concat()),
@@ -197,31 +207,40 @@ fn many_images(count: usize) -> [(&'static str, Vec<u8>); 5] {
     ]
 }
 
-/// Every class by itself, of every credential, beside words that are zero, not provisioned or full.
+/// Every class by itself, of every credential, beside words that are zero, not provisioned or full, under second words that have it, have the others, or are zero.
 pub fn classes(setting: &Setting) -> Result<String, String> {
     let mut trial = Trial::new(setting, "classes");
     for (which, others) in [
-        ("none provisioned", (false, 0)),
-        ("zero", (true, 0)),
-        ("full", (true, u32::MAX)),
+        ("none provisioned", Credential::UNPROVISIONED),
+        ("zero", Credential::with(0, 0)),
+        ("zero, second words full", Credential::with(0, u32::MAX)),
+        ("full", Credential::with(u32::MAX, 0)),
+        (
+            "full, second words too",
+            Credential::with(u32::MAX, u32::MAX),
+        ),
     ] {
         let mut drawer = Vec::new();
-        for credential in 0..CREDENTIALS {
-            for class in 0..32 {
-                let mut pairs = [others; CREDENTIALS];
-                pairs[credential] = (true, 1 << class);
-                drawer.extend(piece(&image_with(pairs, &[])));
+        for (credential, class) in every_class() {
+            for second in [0, 1 << class, !(1 << class)] {
+                let mut credentials = [others; CREDENTIALS];
+                credentials[credential] = Credential::with(1 << class, second);
+                let image = image_with(credentials, &[]);
+                drawer.extend(in_both_layouts(&image).map(|image| piece(&image)).concat());
             }
         }
-        trial.drawer(
-            format!("every class alone, the other words {which}"),
-            &drawer,
-        )?;
+        let which = format!("every class alone, the other words {which}");
+        trial.drawer(which, &drawer)?;
     }
-    let full =
-        (0..=CREDENTIALS).map(|count| piece(&image_of(&[u32::MAX; CREDENTIALS][..count], &[])));
-    trial.drawer("words that are full", &full.collect::<Vec<_>>().concat())?;
-    Ok(trial.counted("each of 32 classes of each of 8 credentials alone, and up to 256 classes"))
+    let full = (0..=CREDENTIALS).map(|count| image_of(&[u32::MAX; CREDENTIALS][..count], &[]));
+    let full: Vec<u8> = full.flat_map(|image| piece(&image)).collect();
+    trial.drawer("words that are full", &full)?;
+    Ok(trial.counted("each of 32 classes of each of 8 credentials alone, with second words and in the old layout, and up to 256 classes"))
+}
+
+/// Every class of every credential.
+fn every_class() -> impl Iterator<Item = (usize, u32)> {
+    (0..CREDENTIALS).flat_map(|credential| (0..32).map(move |class| (credential, class)))
 }
 
 /// The largest number at each row of images of each row count.
@@ -240,7 +259,8 @@ pub fn largest(setting: &Setting) -> Result<String, String> {
             for row in 0..rows {
                 let mut numbers = vec![others; rows];
                 numbers[row] = most;
-                drawer.extend(piece(&image_of(&[0], &numbers)));
+                let both = in_both_layouts(&image_of(&[0], &numbers));
+                drawer.extend(both.map(|image| piece(&image)).concat());
             }
         }
         trial.drawer(format!("number {most} among {others}"), &drawer)?;
@@ -251,45 +271,50 @@ pub fn largest(setting: &Setting) -> Result<String, String> {
 /// Every next number there is, 0 too.
 pub fn every_number(setting: &Setting) -> Result<String, String> {
     let mut trial = Trial::new(setting, "numbers");
-    let image = |number| {
-        let mut image = with_rows(1);
-        put(&mut image, row_at(0) + NEXT, number);
-        image
-    };
-    let images: Vec<Vec<u8>> = (0..=u16::MAX).map(image).collect();
-    all(&mut trial, "next numbers", &images)?;
-    Ok(trial.counted("every next number from 0 to 65,535"))
+    for image in in_both_layouts(&with_rows(1)) {
+        let numbered = |number| {
+            let mut image = image.clone();
+            let at = row_in(&image, 0) + NEXT;
+            put(&mut image, at, number);
+            image
+        };
+        let images: Vec<Vec<u8>> = (0..=u16::MAX).map(numbered).collect();
+        all(&mut trial, "next numbers", &images)?;
+    }
+    Ok(trial.counted("every next number from 0 to 65,535, in both layouts"))
 }
 
 /// Every byte of an image of two rows at every value.
 pub fn every_byte(setting: &Setting) -> Result<String, String> {
     let mut trial = Trial::new(setting, "bytes");
-    let image = with_rows(2);
     let mut images = Vec::new();
-    for at in 0..image.len() {
-        for value in 0..=255 {
-            let mut changed = image.clone();
-            changed[at] = value;
-            images.push(changed);
+    for image in in_both_layouts(&with_rows(2)) {
+        for at in 0..image.len() {
+            for value in 0..=255 {
+                let mut changed = image.clone();
+                changed[at] = value;
+                images.push(changed);
+            }
         }
     }
     all(&mut trial, "a byte of an image changed", &images)?;
-    Ok(trial.counted("every byte of an image of two rows at every value"))
+    Ok(trial.counted("every byte of an image of two rows at every value, in both layouts"))
 }
 
 /// Images cut, and made longer.
 pub fn every_length(setting: &Setting) -> Result<String, String> {
     let mut trial = Trial::new(setting, "every-length");
     for rows in [0, 1, 2, PLACES] {
-        let fitted = |length| {
-            let mut image = with_rows(rows);
-            image.resize(length, 0);
-            image
-        };
-        let images: Vec<Vec<u8>> = (0..=LONGEST + ROW_LENGTH).map(fitted).collect();
-        all(&mut trial, &format!("an image of {rows} rows"), &images)?;
+        for image in in_both_layouts(&with_rows(rows)) {
+            let fitted = |length| fitted(&image, length);
+            let images: Vec<Vec<u8>> = (0..=LONGEST + ROW_LENGTH).map(fitted).collect();
+            all(&mut trial, &format!("an image of {rows} rows"), &images)?;
+        }
     }
-    Ok(trial.counted("images of 0, 1, 2 and 12 rows at every length from 0 to 718"))
+    Ok(
+        trial
+            .counted("images of 0, 1, 2 and 12 rows in both layouts at every length from 0 to 750"),
+    )
 }
 
 /// Drawers with all of these images.

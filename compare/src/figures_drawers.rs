@@ -1,7 +1,8 @@
 //! What drawers are made of.
 
+use crate::images;
 use slavotuk_model::image;
-use slavotuk_model::module::{Kind, Module, Process, CREDENTIALS, NAME_LENGTH, PLACES};
+use slavotuk_model::module::{Credential, Kind, Module, Process, CREDENTIALS, NAME_LENGTH, PLACES};
 
 /// This many images are told of: document 02's number, and not the model's.
 pub const MOST_IMAGES: usize = 4_096;
@@ -20,18 +21,19 @@ pub fn with_length(length: usize, bytes: &[u8]) -> Vec<u8> {
     [&length.to_le_bytes(), bytes].concat()
 }
 
-/// An image in which the credentials from 0 on are provisioned with these words, with a row for each of the numbers.
+/// An image in which the credentials from 0 on are provisioned with these words, with a row for each of the numbers. Its second words have other classes: they
+/// are not counted.
 pub fn image_of(words: &[u32], numbers: &[u16]) -> Vec<u8> {
-    let mut pairs = [(false, 0); CREDENTIALS];
-    for (pair, word) in pairs.iter_mut().zip(words) {
-        *pair = (true, *word);
+    let mut credentials = [Credential::UNPROVISIONED; CREDENTIALS];
+    for (credential, word) in credentials.iter_mut().zip(words) {
+        *credential = Credential::with(*word, 0x0700_0011);
     }
-    image_with(pairs, numbers)
+    image_with(credentials, numbers)
 }
 
 /// An image with these credentials, of which the first is provisioned where there are rows, and a row for each of the numbers.
-pub fn image_with(pairs: [(bool, u32); CREDENTIALS], numbers: &[u16]) -> Vec<u8> {
-    let mut module = Module::fresh(pairs);
+pub fn image_with(credentials: [Credential; CREDENTIALS], numbers: &[u16]) -> Vec<u8> {
+    let mut module = Module::fresh(credentials);
     for (row, next) in numbers.iter().enumerate() {
         module.processes.push(Process {
             credential: 0,
@@ -47,16 +49,21 @@ pub fn example() -> Vec<u8> {
     image_of(&[15, 16], &[])
 }
 
+/// An image in the old layout, and as it is.
+pub fn in_both_layouts(image: &[u8]) -> [Vec<u8>; 2] {
+    [images::old(image), image.to_vec()]
+}
+
 /// A good image of so many rows.
 pub fn with_rows(rows: usize) -> Vec<u8> {
     let numbers: Vec<u16> = (1..=rows as u16).collect();
     image_of(&[0x8000_0001, 7], &numbers)
 }
 
-/// A drawer with the images of 0 to 12 rows.
+/// A drawer with the images of 0 to 12 rows, the layouts by turns.
 pub fn every_row_count() -> Vec<u8> {
-    let pieces = (0..=PLACES).map(|rows| piece(&with_rows(rows)));
-    pieces.collect::<Vec<_>>().concat()
+    let images = (0..=PLACES).flat_map(|rows| in_both_layouts(&with_rows(rows)));
+    images.flat_map(|image| piece(&image)).collect()
 }
 
 #[cfg(test)]
@@ -66,11 +73,17 @@ mod tests {
 
     #[test]
     fn they_are_what_they_say() {
-        assert_eq!(figures(&piece(&example())), "0 5 0\ntotal 1 0 5\n");
-        for rows in 0..=12 {
-            let total = format!("{rows} 5 {rows}\ntotal 1 {rows} 5\n");
-            assert_eq!(figures(&piece(&with_rows(rows))), total);
+        for image in in_both_layouts(&example()) {
+            assert_eq!(figures(&piece(&image)), "0 5 0\ntotal 1 0 5\n");
         }
+        for rows in 0..=12 {
+            for image in in_both_layouts(&with_rows(rows)) {
+                let total = format!("{rows} 5 {rows}\ntotal 1 {rows} 5\n");
+                assert_eq!(figures(&piece(&image)), total);
+            }
+        }
+        let all = figures(&every_row_count());
+        assert!(all.ends_with("12 5 12\n12 5 12\ntotal 26 156 130\n"));
         let cut_off = with_length(example().len() + 1, &example());
         assert_eq!(figures(&cut_off), "bad\ntotal 0 0 0\n");
     }

@@ -4,6 +4,7 @@ use crate::figures_drawers::{piece, with_length, LONGEST_PIECE, MOST_IMAGES};
 use crate::figures_trial::{Setting, Trial};
 use crate::images;
 use crate::random::Random;
+use slavotuk::layout::image::{second_at, word_at};
 use slavotuk_model::image::{self, LONGEST};
 use slavotuk_model::module::{CREDENTIALS, PLACES};
 use std::fmt::{self, Display};
@@ -20,6 +21,8 @@ const ENDS: [&str; 3] = ["in a lone byte", "cut off", "whole"];
 struct Depth {
     /// Good images by their count of rows.
     rows: [usize; PLACES + 1],
+    /// Those of the old layout.
+    old: usize,
     bad: usize,
     ends: [usize; ENDS.len()],
     too_many: usize,
@@ -93,9 +96,13 @@ fn good(random: &mut Random) -> Vec<u8> {
     let names = images::names(rows, random);
     let mut image = images::draw(mask, &names, random);
     for credential in (0..CREDENTIALS).filter(|credential| mask & (1 << credential) != 0) {
-        images::put_word(&mut image, credential, word(random));
+        images::put_word(&mut image, word_at(credential), word(random));
+        images::put_word(&mut image, second_at(credential), word(random));
     }
-    image
+    match random.percent(50) {
+        true => images::old(&image),
+        false => image,
+    }
 }
 
 /// Words with few classes, and with many.
@@ -119,14 +126,18 @@ fn cut_off(random: &mut Random) -> Vec<u8> {
 impl Depth {
     fn count(&mut self, bytes: &[u8]) {
         match image::read(bytes) {
-            Ok(module) => self.rows[module.processes.len()] += 1,
+            Ok(module) => {
+                self.rows[module.processes.len()] += 1;
+                self.old += usize::from(images::is_old(bytes));
+            }
             Err(_) => self.bad += 1,
         }
     }
 
     /// Two drawers are enough for the ends that are bad.
     fn is_enough(&self) -> bool {
-        let counts = [&self.rows[..], &[self.bad], &self.ends[..2]].concat();
+        let new = self.rows.iter().sum::<usize>() - self.old;
+        let counts = [&self.rows[..], &[self.old, new, self.bad], &self.ends[..2]].concat();
         counts.iter().all(|count| *count > 0)
     }
 }
@@ -141,8 +152,9 @@ impl Display for Depth {
         let ends: Vec<String> = ends.map(|(count, end)| format!("{count} {end}")).collect();
         write!(
             to,
-            "images of 0 to 12 rows {}; bad {}; drawers that end {}; {} past 4,096",
+            "images of 0 to 12 rows {}; old layout {}; bad {}; drawers that end {}; {} past 4,096",
             joined(&self.rows),
+            self.old,
             self.bad,
             ends.join(", "),
             self.too_many

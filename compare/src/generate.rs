@@ -7,7 +7,7 @@ use slavotuk::entries::RawClaim;
 use slavotuk::layout::image as places;
 use slavotuk::layout::listing::{row_at, FULL_LENGTH, ROWS_AT};
 use slavotuk_model::layout::{self, STATE_LENGTH};
-use slavotuk_model::module::{Credential, Kind, Name, Process, Session, Wanted};
+use slavotuk_model::module::{Credential, Grant, Kind, Name, Process, Session, Wanted};
 use slavotuk_model::module::{CREDENTIALS, NAME_LENGTH, PLACES, SESSIONS, SPENT};
 use slavotuk_model::{image, messages, Module};
 
@@ -167,15 +167,12 @@ impl Generator {
     fn nearly_spent(&mut self) -> Module {
         let mut module = Module {
             sessions: [Session::OpenWithVersion; SESSIONS],
-            ..Module::fresh([(false, 0); CREDENTIALS])
+            ..Module::fresh([Credential::UNPROVISIONED; CREDENTIALS])
         };
         for credential in &mut module.credentials {
-            *credential = Credential {
-                provisioned: self.random.percent(80),
-                word: 0,
-            };
-            if credential.provisioned {
-                credential.word = draw_word(&mut self.random);
+            if self.random.percent(80) {
+                let (word, second) = draw_words(&mut self.random);
+                *credential = Credential::with(word, second);
             }
         }
         let most = self.random.below(PLACES) + 1;
@@ -206,24 +203,32 @@ impl Generator {
     fn fresh(&mut self) -> Call {
         let provisioned = (0..CREDENTIALS).map(|_| u8::from(self.random.percent(75)));
         let provisioned = provisioned.collect();
-        let words = (0..CREDENTIALS).map(|_| draw_word(&mut self.random));
-        let words = words.collect();
-        Call::Fresh { provisioned, words }
+        let words = (0..CREDENTIALS).map(|_| draw_words(&mut self.random));
+        let (words, seconds) = words.unzip();
+        Call::Fresh {
+            provisioned,
+            words,
+            seconds,
+        }
     }
 
     /// A fresh that is mostly refused, so that the state lives on.
     fn wrong_fresh(&mut self) -> Call {
         let mut call = self.fresh();
         if let Call::Fresh {
-            provisioned, words, ..
+            provisioned,
+            words,
+            seconds,
         } = &mut call
         {
-            match self.random.below(8) {
+            match self.random.below(10) {
                 0 => {}
                 1 => provisioned.truncate(self.random.below(8)),
                 2 => provisioned.push(1),
                 3 => words.truncate(self.random.below(8)),
                 4 => words.push(1),
+                5 => seconds.truncate(self.random.below(8)),
+                6 => seconds.push(1),
                 _ => provisioned[self.random.below(8)] = self.random.pick(&[2, 3, 128, 255]),
             }
         }
@@ -311,7 +316,7 @@ impl Generator {
         let (session, claim) = self.claim(module);
         let credential = claimant(module, session, claim);
         let granted: Vec<u32> = (4..32)
-            .filter(|class| module.grants(credential, *class))
+            .filter(|class| module.lookup(credential, *class) != Grant::No)
             .collect();
         let class = match granted.is_empty() || self.random.percent(30) {
             true => 4 + self.random.below(28) as u32,
@@ -383,25 +388,31 @@ impl Generator {
     fn set_word(&mut self, module: &Module) -> Call {
         let (session, claim) = self.claim(module);
         let target = self.credential(module);
-        let word = match self.random.percent(30) {
-            true => {
-                let held = module.credentials[target as usize % CREDENTIALS].word;
-                held ^ (1 << self.random.below(32))
-            }
-            false => draw_word(&mut self.random),
+        let (word, second) = match self.random.percent(30) {
+            true => self.near_words(module.credentials[target as usize % CREDENTIALS]),
+            false => draw_words(&mut self.random),
         };
         Call::SetWord {
             session,
             claim,
             target,
             word,
+            second,
         }
+    }
+
+    /// The words that are held, with a bit of one or both changed.
+    fn near_words(&mut self, held: Credential) -> (u32, u32) {
+        let bit = 1 << self.random.below(32);
+        let (changed, marked) = self.random.pick(&[(bit, 0), (0, bit), (bit, bit)]);
+        (held.word ^ changed, held.second ^ marked)
     }
 
     fn image(&mut self, module: &Module) -> Call {
         let exact = image::write(module).len();
         let bounds = [
             places::WORDS_AT,
+            places::old_row_at(0),
             places::row_at(0),
             places::row_at(1),
             places::FULL_LENGTH,
@@ -420,6 +431,9 @@ impl Generator {
             true => self.drawn_image(),
             false => self.images[self.random.below(self.images.len())].clone(),
         };
+        if self.random.percent(20) {
+            image = images::old(&image);
+        }
         if self.random.percent(85) {
             let fields = 1 + self.random.below(4);
             images::damage(&mut image, fields, &mut self.random);
@@ -431,7 +445,11 @@ impl Generator {
         let mask = (self.random.word() | self.random.word() | self.random.word()) as u8;
         let most = if mask == 0 { 0 } else { PLACES };
         let rows = self.random.below(most + 1);
-        images::draw(mask, &self.names[..rows], &mut self.random)
+        let image = images::draw(mask, &self.names[..rows], &mut self.random);
+        match self.random.percent(50) {
+            true => images::old(&image),
+            false => image,
+        }
     }
 
     fn read_request(&mut self) -> Call {
@@ -677,6 +695,21 @@ fn draw_names(random: &mut Random) -> Vec<Name> {
         names.swap(at, random.below(at + 1));
     }
     names
+}
+
+/// A grant word, and a second word with bits that agree with its bits and bits that don't.
+fn draw_words(random: &mut Random) -> (u32, u32) {
+    let word = draw_word(random);
+    let drawn = random.word();
+    let second = match random.below(8) {
+        0..=2 => 0,
+        3 => word,
+        4 => !word,
+        5 => 1 << random.below(6),
+        6 => word & drawn,
+        _ => drawn,
+    };
+    (word, second)
 }
 
 fn draw_word(random: &mut Random) -> u32 {

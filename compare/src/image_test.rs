@@ -1,12 +1,14 @@
-//! Images on both sides of each bound. An accepted one is written again and has to be the same bytes; after a refusal the slice has to hold what it held.
+//! Images of both layouts on both sides of each bound. An accepted one is written again and has to be the same bytes, those of the new layout where it has the old
+//! one; after a refusal the slice has to hold what it held.
 
 use crate::call::{Bytes, Call};
-use crate::images::{self, names, put};
+use crate::images::{self, names, put, row_in};
 use crate::random::Random;
 use crate::report::Report;
 use crate::sides::Pair;
 use slavotuk::layout::image::{
-    row_at, MASK_AT, NEXT, ROWS_OFFSET_AT, ROW_COUNT_AT, WORDS_OFFSET_AT, WORD_COUNT_AT,
+    row_at, MASK_AT, NEXT, OLD_ROWS_AT, ROWS_AT, ROWS_OFFSET_AT, ROW_COUNT_AT, WORDS_OFFSET_AT,
+    WORD_COUNT_AT,
 };
 use slavotuk_model::image::{self, LONGEST, ROW_LENGTH};
 use slavotuk_model::layout::{self, STATE_LENGTH};
@@ -19,12 +21,16 @@ const LENGTHS: usize = LONGEST + ROW_LENGTH;
 /// How often an image's fields are damaged.
 const DAMAGED: usize = 200_000;
 
+/// Offsets of rows: those of the layouts, and others that are not far.
+const OFFSETS: [u16; 12] = [0, 10, 41, 42, 43, 73, 74, 75, 94, 126, 0x2a00, u16::MAX];
+
 type Part = fn(&mut Tried, &[Image]) -> Result<String, String>;
 
-const PARTS: [Part; 6] = [
+const PARTS: [Part; 7] = [
     every_byte,
     every_number,
     every_length,
+    every_offset,
     damaged_fields,
     every_room,
     every_slice,
@@ -32,7 +38,7 @@ const PARTS: [Part; 6] = [
 
 /// An image with its name.
 struct Image {
-    name: &'static str,
+    name: String,
     bytes: Vec<u8>,
 }
 
@@ -59,20 +65,33 @@ pub fn soak(module: &Module, seed: u64) -> Result<u64, String> {
     Ok(tried.accepted + tried.refused)
 }
 
+/// Each in both layouts.
 fn images(random: &mut Random) -> Vec<Image> {
     let names = names(PLACES, random);
-    let mut drawn = |name, mask, rows| Image {
-        name,
-        bytes: images::draw(mask, &names[..rows], random),
-    };
-    vec![
-        drawn("no credential, no row", 0, 0),
-        drawn("all credentials, no row", 0xff, 0),
-        drawn("one row", 0x03, 1),
-        drawn("three rows", 0x94, 3),
-        drawn("twelve rows", 0x6b, 12),
-        drawn("all credentials, twelve rows", 0xff, 12),
-    ]
+    let mut images = Vec::new();
+    for (name, mask, rows) in [
+        ("no credential, no row", 0, 0),
+        ("all credentials, no row", 0xff, 0),
+        ("one row", 0x03, 1),
+        ("three rows", 0x94, 3),
+        ("twelve rows", 0x6b, 12),
+        ("all credentials, twelve rows", 0xff, 12),
+    ] {
+        let bytes = images::draw(mask, &names[..rows], random);
+        images.push(Image {
+            name: format!("{name}, old layout"),
+            bytes: images::old(&bytes),
+        });
+        let name = name.to_string();
+        images.push(Image { name, bytes });
+    }
+    images
+}
+
+/// Those of one layout.
+fn of_layout(images: &[Image], old: bool) -> Vec<&Image> {
+    let of_it = |image: &&Image| images::is_old(&image.bytes) == old;
+    images.iter().filter(of_it).collect()
 }
 
 /// The trial of images.
@@ -123,9 +142,10 @@ impl Tried {
     }
 
     fn written_again(&mut self, pair: &mut Pair, image: &[u8]) -> Result<(), String> {
-        let room = image.len() + self.random.below(3);
+        let renewed = images::renewed(image);
+        let room = renewed.len() + self.random.below(3);
         match self.written(pair, room)? {
-            (0, written) if written == image => Ok(()),
+            (0, written) if written == renewed => Ok(()),
             (number, written) => Err(format!(
                 "{} is accepted, and written again {number} with {}",
                 Bytes(image),
@@ -155,6 +175,42 @@ impl Tried {
             true => Ok(()),
             false => Err(format!("accepted: {}, right: {good}", !good)),
         }
+    }
+
+    /// The number that stands there at every value, of which so many are good.
+    fn every_value(&mut self, image: &[u8], at: usize, good: u64) -> Result<(), String> {
+        let before = self.accepted;
+        let mut changed = image.to_vec();
+        for value in 0..=u16::MAX {
+            put(&mut changed, at, value);
+            let outcome = self.image(&changed);
+            outcome.map_err(|what| format!("at {value}: {what}"))?;
+        }
+        match self.accepted - before {
+            accepted if accepted == good => Ok(()),
+            accepted => Err(format!("{accepted} accepted, {good} are good")),
+        }
+    }
+
+    /// With each count of its rows, which stand there, and cut to every length.
+    fn every_count(&mut self, rows: &mut [u8], rows_at: usize) -> Result<(), String> {
+        for count in 0..=PLACES + 1 {
+            put(rows, ROW_COUNT_AT, count as u16);
+            let whole = rows_at + ROW_LENGTH * count;
+            for length in 0..=rows.len() {
+                let image = &rows[..length];
+                let outcome = match images::offset(rows) {
+                    offset if offset == rows_at => {
+                        self.expect(image, count <= PLACES && length == whole)
+                    }
+                    // the other layout: it finds words and rows in these bytes, or not
+                    OLD_ROWS_AT | ROWS_AT => self.image(image).map(|_| ()),
+                    _ => self.expect(image, false),
+                };
+                outcome.map_err(|what| format!("{count} rows at length {length}: {what}"))?;
+            }
+        }
+        Ok(())
     }
 
     fn damaged(&mut self, image: &[u8]) -> Result<bool, String> {
@@ -193,38 +249,31 @@ fn every_byte(tried: &mut Tried, images: &[Image]) -> Result<String, String> {
 
 /// The numbers of two bytes at every value, each with how many are good by document 02.
 fn every_number(tried: &mut Tried, images: &[Image]) -> Result<String, String> {
-    let [none, _, _, three, ..] = images else {
-        return Err("an image is missing".to_string());
-    };
-    let last = row_at(images::rows(&three.bytes) - 1);
-    let owners = three.bytes[MASK_AT].count_ones().into();
-    let numbers = [
-        ("mask", none, MASK_AT, 256),
-        ("count of words", three, WORD_COUNT_AT, 1),
-        ("offset of words", three, WORDS_OFFSET_AT, 1),
-        ("count of rows", three, ROW_COUNT_AT, 1),
-        ("offset of rows", three, ROWS_OFFSET_AT, 1),
-        ("credential", three, last, owners),
-        ("next number", three, last + NEXT, 65_535),
-    ];
-    for (number, image, at, good) in numbers {
-        let before = tried.accepted;
-        let mut changed = image.bytes.clone();
-        for value in 0..=u16::MAX {
-            put(&mut changed, at, value);
-            let outcome = tried.image(&changed);
-            outcome.map_err(|what| format!("{number} at {value}: {what}"))?;
-        }
-        let accepted = tried.accepted - before;
-        if accepted != good {
-            return Err(format!("{number}: {accepted} accepted, {good} are good"));
+    let mut count = 0;
+    for old in [true, false] {
+        let [none, _, _, three, ..] = of_layout(images, old)[..] else {
+            return Err("an image is missing".to_string());
+        };
+        let last = row_in(&three.bytes, images::rows(&three.bytes) - 1);
+        let owners = three.bytes[MASK_AT].count_ones().into();
+        for (number, image, at, good) in [
+            ("mask", none, MASK_AT, 256),
+            ("count of words", three, WORD_COUNT_AT, 1),
+            ("offset of words", three, WORDS_OFFSET_AT, 1),
+            ("count of rows", three, ROW_COUNT_AT, 1),
+            ("offset of rows", three, ROWS_OFFSET_AT, 1),
+            ("credential", three, last, owners),
+            ("next number", three, last + NEXT, 65_535),
+        ] {
+            let outcome = tried.every_value(&image.bytes, at, good);
+            outcome.map_err(|what| format!("{number} of '{}': {what}", image.name))?;
+            count += 1;
         }
     }
-    let count = numbers.len();
     tried.counted(&format!("{count} numbers of an image at every value"))
 }
 
-/// Cut, and made longer with zeros, with random bytes and with good rows, with each count.
+/// Cut, and made longer with zeros and with random bytes.
 fn every_length(tried: &mut Tried, images: &[Image]) -> Result<String, String> {
     for Image { name, bytes } in images {
         for length in 0..=LENGTHS {
@@ -238,17 +287,24 @@ fn every_length(tried: &mut Tried, images: &[Image]) -> Result<String, String> {
             }
         }
     }
+    tried.counted(&format!("images of every length from 0 to {LENGTHS}"))
+}
+
+/// Thirteen good rows at the place that each layout has for them, under each offset.
+fn every_offset(tried: &mut Tried, _: &[Image]) -> Result<String, String> {
     let names = names(PLACES + 1, &mut tried.random);
-    let mut rows = images::draw(0x5a, &names, &mut tried.random);
-    for count in 0..=PLACES + 1 {
-        put(&mut rows, ROW_COUNT_AT, count as u16);
-        for length in 0..=LENGTHS {
-            let good = count <= PLACES && length == row_at(count);
-            let outcome = tried.expect(&rows[..length], good);
-            outcome.map_err(|what| format!("{count} rows at length {length}: {what}"))?;
+    let new = images::draw(0x5a, &names, &mut tried.random);
+    for (mut rows, rows_at) in [(images::old(&new), OLD_ROWS_AT), (new, ROWS_AT)] {
+        for offset in OFFSETS {
+            put(&mut rows, ROWS_OFFSET_AT, offset);
+            let outcome = tried.every_count(&mut rows, rows_at);
+            outcome.map_err(|what| format!("rows at {rows_at}, offset {offset}: {what}"))?;
         }
     }
-    tried.counted(&format!("images of every length from 0 to {LENGTHS}"))
+    let offsets = OFFSETS.len();
+    tried.counted(&format!(
+        "{offsets} offsets of rows, with rows of both layouts, counts of 0 to 13 and every length"
+    ))
 }
 
 fn damaged_fields(tried: &mut Tried, images: &[Image]) -> Result<String, String> {
@@ -269,7 +325,7 @@ fn every_room(tried: &mut Tried, images: &[Image]) -> Result<String, String> {
     ];
     for Image { name, bytes } in images {
         let module = image::read(bytes).map_err(|number| format!("'{name}': {number:?}"))?;
-        slices.push((layout::write(&module), Some(bytes.len())));
+        slices.push((layout::write(&module), Some(images::renewed(bytes).len())));
     }
     for (slice, length) in &slices {
         for room in 0..=LENGTHS {

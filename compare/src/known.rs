@@ -1,4 +1,4 @@
-//! Rows of calls whose numbers are known: a process spent, and the relay's attack of document 02.
+//! Rows of calls whose numbers are known: a process spent, the relay's attack of document 02, and the same with a record that needs elevation.
 
 use crate::call::{Answer, Call};
 use crate::sides::Pair;
@@ -16,15 +16,19 @@ struct Known {
 
 impl Known {
     /// A module of credentials 0 to 6, with session 0 open and a process of credential 1 in it.
-    fn started(word: u32) -> Result<Known, String> {
+    fn started(word: u32, second: u32) -> Result<Known, String> {
         let mut known = Known {
             pair: Pair::of(&[0; STATE_LENGTH]),
             made: 0,
         };
         let mut provisioned = vec![1; CREDENTIALS];
         provisioned[UNPROVISIONED as usize] = 0;
-        let words = vec![word; CREDENTIALS];
-        known.expect(Call::Fresh { provisioned, words }, 0)?;
+        let fresh = Call::Fresh {
+            provisioned,
+            words: vec![word; CREDENTIALS],
+            seconds: vec![second; CREDENTIALS],
+        };
+        known.expect(fresh, 0)?;
         known.enter()?;
         known.expect(start(1), 0)?;
         Ok(known)
@@ -48,8 +52,23 @@ impl Known {
         }
     }
 
+    /// Saves the process of credential 1, under this number, and takes it up again after a power cycle.
+    fn power_cycle(&mut self, number: u16) -> Result<(), String> {
+        self.expect(keep(number), 0)?;
+        self.restore_the_newest()?;
+        self.enter()?;
+        let (session, credential, name) = (0, 1, name_of(1));
+        let taken_up = Call::Continue {
+            session,
+            credential,
+            name,
+        };
+        self.expect(taken_up, 0)?;
+        Ok(())
+    }
+
     /// Writes an image and restores it.
-    fn power_cycle(&mut self) -> Result<(), String> {
+    fn restore_the_newest(&mut self) -> Result<(), String> {
         let call = Call::Image {
             image: vec![0xee; LONGEST].into(),
             length: 0,
@@ -87,12 +106,16 @@ fn kill(number: u16, of: u32) -> Call {
     }
 }
 
-/// One process from its first number to its last, by accepted calls and by every refusal after the claim, 65,534 by a 10: every number passes its check in turn,
-/// and then none.
+/// One process from its first number to its last, by accepted calls and by every refusal after the claim, 65,534 by a 10 or an 18: every number passes its check in
+/// turn, and then none.
 pub fn run_to_spent() -> Result<String, String> {
     let mut made = 0;
-    for (word, calls) in [(u32::MAX, &GRANTED), (16, &NOT_GRANTED)] {
-        let mut known = Known::started(word)?;
+    for (word, second, calls) in [
+        (u32::MAX, 0, &GRANTED),
+        (16, 0, &NOT_GRANTED),
+        (u32::MAX, !16, &ONLY_ELEVATED),
+    ] {
+        let mut known = Known::started(word, second)?;
         known.expect(start(2), 0)?;
         let call = |number: u16| calls[usize::from(number) % calls.len()];
         for number in 0..SPENT {
@@ -107,7 +130,7 @@ pub fn run_to_spent() -> Result<String, String> {
         made += known.made;
     }
     Ok(format!(
-        "numbers 0 to 65534 of two processes taken in turn, by accepted calls and by every refusal after the claim, then all refused: {made} calls"
+        "numbers 0 to 65534 of three processes taken in turn, by accepted calls and by every refusal after the claim, then all refused: {made} calls"
     ))
 }
 
@@ -134,6 +157,16 @@ const NOT_GRANTED: [Numbered; 6] = [
     (10, keep),
 ];
 
+/// Every class is granted, and all but class 4 only under elevation.
+const ONLY_ELEVATED: [Numbered; 6] = [
+    (0, |number| record(number, 4)),
+    (6, |number| kill(number, 2)),
+    (18, |number| record(number, 5)),
+    (18, |number| list(number, 2, row_at(1))),
+    (18, |number| set_word(number, UNPROVISIONED)),
+    (18, keep),
+];
+
 fn record(number: u16, class: u32) -> Call {
     Call::Record {
         session: 0,
@@ -158,6 +191,7 @@ fn set_word(number: u16, target: u32) -> Call {
         claim: RawClaim::user(1, number),
         target,
         word: number.into(),
+        second: 0,
     }
 }
 
@@ -175,19 +209,10 @@ fn keep(number: u16) -> Call {
 pub fn run_the_relays_attack() -> Result<String, String> {
     let mut made = 0;
     for power_cycle in [false, true] {
-        let mut known = Known::started(u32::MAX)?;
+        let mut known = Known::started(u32::MAX, 0)?;
         known.expect(kill(0, 2), 6)?;
         if power_cycle {
-            known.expect(keep(1), 0)?;
-            known.power_cycle()?;
-            known.enter()?;
-            let (session, credential, name) = (0, 1, name_of(1));
-            let taken_up = Call::Continue {
-                session,
-                credential,
-                name,
-            };
-            known.expect(taken_up, 0)?;
+            known.power_cycle(1)?;
         }
         known.expect(start(2), 0)?;
         known.expect(kill(0, 2), 9)?;
@@ -197,5 +222,34 @@ pub fn run_the_relays_attack() -> Result<String, String> {
     }
     Ok(format!(
         "a kill that got 6, sent again after the start of the process it names, gets 9, after a power cycle too: {made} calls"
+    ))
+}
+
+/// A relay keeps a record that got 18, and sends it again once its class is granted plainly: at once, and after a power cycle.
+pub fn run_the_kept_record() -> Result<String, String> {
+    const CLASS: u32 = 5;
+    let mut made = 0;
+    for power_cycle in [false, true] {
+        let mut known = Known::started(u32::MAX, 1 << CLASS)?;
+        known.expect(record(0, CLASS), 18)?;
+        known.expect(record(0, CLASS), 9)?;
+        if power_cycle {
+            known.power_cycle(1)?;
+        }
+        let next = if power_cycle { 2 } else { 1 };
+        let plain = Call::SetWord {
+            session: 0,
+            claim: RawClaim::user(1, next),
+            target: 1,
+            word: u32::MAX,
+            second: 0,
+        };
+        known.expect(plain, 0)?;
+        known.expect(record(0, CLASS), 9)?;
+        known.expect(record(next + 1, CLASS), 0)?;
+        made += known.made;
+    }
+    Ok(format!(
+        "a record that got 18, sent again after its class is granted plainly, gets 9, after a power cycle too: {made} calls"
     ))
 }

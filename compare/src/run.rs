@@ -2,6 +2,7 @@
 
 use crate::damage;
 use crate::depth::Depth;
+use crate::grants;
 use crate::image_test;
 use crate::known;
 use crate::messages;
@@ -40,6 +41,9 @@ pub fn test(calls: usize, seed: u64) -> ExitCode {
     test_replays(seed, &mut report);
     report.judge(known::run_to_spent());
     report.judge(known::run_the_relays_attack());
+    report.judge(known::run_the_kept_record());
+    report.judge(grants::every_pair_of_bits());
+    report.judge(grants::every_class_of_a_record());
     damage::test(seed, &mut report);
     damage::test_fresh(seed, &mut report);
     image_test::test(seed, &mut report);

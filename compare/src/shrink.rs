@@ -7,7 +7,7 @@ use crate::sides::Pair;
 use slavotuk::entries::RawClaim;
 use slavotuk::layout::{image, listing};
 use slavotuk_model::layout::{self, STATE_LENGTH};
-use slavotuk_model::module::{Module, NAME_LENGTH, SESSIONS};
+use slavotuk_model::module::{Credential, Module, NAME_LENGTH, SESSIONS};
 
 /// The failure with its sequence made short and plain.
 pub fn shrink(mut failure: Failure) -> Failure {
@@ -185,14 +185,19 @@ fn plainer_calls(call: &Call) -> Vec<Call> {
     let mut plainer = vec![change(&plain_elevated_claim)];
     match call {
         Call::Fresh {
-            provisioned, words, ..
+            provisioned,
+            words,
+            seconds,
         } => {
-            for (at, held) in provisioned.iter().zip(words).enumerate() {
-                let held = (*held.0, *held.1);
-                let pairs = [(0, 0), (1, 0), (1, 15), (1, 16), (1, 31)];
-                for pair in pairs.into_iter().take_while(|pair| *pair != held) {
-                    plainer.push(change(&|call| set_pair(call, at, pair)));
+            let held = words.iter().zip(seconds);
+            for (at, (flag, (word, second))) in provisioned.iter().zip(held).enumerate() {
+                if (*flag, *word, *second) != (0, 0, 0) {
+                    plainer.push(change(&|call| set_credential(call, at, 0, (0, 0))));
                 }
+                let provisioned = plainer_words(*word, *second).into_iter();
+                plainer.extend(
+                    provisioned.map(|words| change(&|call| set_credential(call, at, 1, words))),
+                );
             }
         }
         Call::Record { .. } => plainer.push(change(&|call| set_class(call, 4))),
@@ -214,22 +219,30 @@ fn plainer_calls(call: &Call) -> Vec<Call> {
             }
         }
         Call::Restore { image } => {
+            if images::is_old(image) && slavotuk_model::image::read(image).is_ok() {
+                let image = images::renewed(image);
+                plainer.push(Call::Restore { image });
+            }
             for row in 0..images::rows(image) {
                 let shorter = images::without_row(image, row);
                 plainer.extend(shorter.map(|image| Call::Restore { image }));
             }
         }
-        Call::SetWord { word, .. } => {
-            for plain in [0, 15, 16, 31]
-                .into_iter()
-                .take_while(|plain| plain != word)
-            {
-                plainer.push(change(&|call| set_word(call, plain)));
-            }
+        Call::SetWord { word, second, .. } => {
+            let words = plainer_words(*word, *second).into_iter();
+            plainer.extend(words.map(|words| change(&|call| set_words(call, words))));
         }
         _ => {}
     }
     plainer
+}
+
+/// Words a little plainer than these, the plainest first.
+fn plainer_words(word: u32, second: u32) -> Vec<(u32, u32)> {
+    let plain = [(0, 0), (15, 0), (16, 0), (31, 0), (15, 15), (31, 31)];
+    let unmarked = [(word, 0)];
+    let all = plain.into_iter().chain(unmarked);
+    all.take_while(|words| *words != (word, second)).collect()
 }
 
 fn plain_elevated_claim(call: &mut Call) {
@@ -244,12 +257,15 @@ fn plain_elevated_claim(call: &mut Call) {
     }
 }
 
-fn set_pair(call: &mut Call, at: usize, pair: (u8, u32)) {
+fn set_credential(call: &mut Call, at: usize, flag: u8, plain: (u32, u32)) {
     if let Call::Fresh {
-        provisioned, words, ..
+        provisioned,
+        words,
+        seconds,
     } = call
     {
-        (provisioned[at], words[at]) = pair;
+        provisioned[at] = flag;
+        (words[at], seconds[at]) = plain;
     }
 }
 
@@ -275,9 +291,9 @@ fn set_room(call: &mut Call, room: usize) {
     }
 }
 
-fn set_word(call: &mut Call, plain: u32) {
-    if let Call::SetWord { word, .. } = call {
-        *word = plain;
+fn set_words(call: &mut Call, plain: (u32, u32)) {
+    if let Call::SetWord { word, second, .. } = call {
+        (*word, *second) = plain;
     }
 }
 
@@ -298,16 +314,16 @@ pub fn describe(failure: &Failure) -> Vec<String> {
 
 fn describe_lent(lent: &[u8]) -> Vec<String> {
     match layout::read(lent) {
-        Some(module) if module == Module::fresh([(false, 0); 8]) => {
+        Some(module) if module == Module::fresh([Credential::UNPROVISIONED; 8]) => {
             vec![format!("lent: {STATE_LENGTH} zero bytes")]
         }
         Some(module) => {
             let mut lines = vec![format!("lent: sessions {:?}", module.sessions)];
             for (number, credential) in module.credentials.iter().enumerate() {
                 if credential.provisioned {
+                    let (word, second) = (credential.word, credential.second);
                     lines.push(format!(
-                        "lent: credential {number}, word {:#x}",
-                        credential.word
+                        "lent: credential {number}, word {word:#x}, second {second:#x}"
                     ));
                 }
             }

@@ -3,7 +3,7 @@
 use crate::image;
 use crate::layout::{self, STATE_LENGTH};
 use crate::messages;
-use crate::module::{Claim, Module, Name, UserClaim, Wanted, CREDENTIALS, SESSIONS};
+use crate::module::{Claim, Credential, Module, Name, UserClaim, Wanted, CREDENTIALS, SESSIONS};
 use crate::number::{refuse_unless, refuse_when, Number};
 
 /// The wanted credential that stands for all.
@@ -64,16 +64,21 @@ pub struct RawClaim {
 }
 
 /// Makes a fresh module; of the state only the length is tested.
-pub fn fresh(lent: &mut Lent, provisioned: &[u8], words: &[u32]) -> u32 {
+pub fn fresh(lent: &mut Lent, provisioned: &[u8], words: &[u32], seconds: &[u32]) -> u32 {
     number_of(|| {
         refuse_unless(lent.length() == STATE_LENGTH, Number::Argument)?;
         refuse_unless(provisioned.len() == CREDENTIALS, Number::Argument)?;
         refuse_unless(words.len() == CREDENTIALS, Number::Argument)?;
-        let mut pairs = [(false, 0); CREDENTIALS];
-        for (credential, pair) in pairs.iter_mut().enumerate() {
-            *pair = (flag(provisioned[credential].into())?, words[credential]);
+        refuse_unless(seconds.len() == CREDENTIALS, Number::Argument)?;
+        let mut credentials = [Credential::UNPROVISIONED; CREDENTIALS];
+        for (number, credential) in credentials.iter_mut().enumerate() {
+            *credential = Credential {
+                provisioned: flag(provisioned[number].into())?,
+                word: words[number],
+                second: seconds[number],
+            };
         }
-        *lent = Lent::State(Module::fresh(pairs));
+        *lent = Lent::State(Module::fresh(credentials));
         Ok(())
     })
 }
@@ -192,10 +197,18 @@ pub fn kill(lent: &mut Lent, session: u32, claim: RawClaim, name: &[u8]) -> u32 
 }
 
 /// Set word.
-pub fn set_word(lent: &mut Lent, session: u32, claim: RawClaim, target: u32, word: u32) -> u32 {
+pub fn set_word(
+    lent: &mut Lent,
+    session: u32,
+    claim: RawClaim,
+    target: u32,
+    word: u32,
+    second: u32,
+) -> u32 {
     number_of(|| {
+        let (claim, target) = (claimed(claim)?, owner(target)?);
         lent.module()?
-            .set_word(handle(session)?, claimed(claim)?, owner(target)?, word)
+            .set_word(handle(session)?, claim, target, word, second)
     })
 }
 

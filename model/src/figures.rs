@@ -91,19 +91,32 @@ fn largest_next(module: &Module) -> u16 {
 #[cfg(test)]
 mod tests {
     use super::*;
-    use crate::image::{HEAD_LENGTH, LONGEST};
-    use crate::module::{Process, CREDENTIALS};
+    use crate::image::{HEAD_LENGTH, LONGEST, OLD_HEAD_LENGTH};
+    use crate::module::{Credential, Process, CREDENTIALS};
 
     /// The document's good image: no rows, and words 15 and 16.
     fn example() -> Vec<u8> {
-        let mut pairs = [(false, 0); CREDENTIALS];
-        pairs[..2].copy_from_slice(&[(true, 15), (true, 16)]);
-        image::write(&Module::fresh(pairs))
+        example_with([0, 0])
     }
 
-    /// An image in which every word is this one, with a row for each of the numbers.
+    /// The same with second words.
+    fn example_with(seconds: [u32; 2]) -> Vec<u8> {
+        let mut credentials = [Credential::UNPROVISIONED; CREDENTIALS];
+        credentials[0] = Credential::with(15, seconds[0]);
+        credentials[1] = Credential::with(16, seconds[1]);
+        image::write(&Module::fresh(credentials))
+    }
+
+    /// The image in the old layout.
+    fn old(image: &[u8]) -> Vec<u8> {
+        let mut old = [&image[..OLD_HEAD_LENGTH], &image[HEAD_LENGTH..]].concat();
+        old[8] = OLD_HEAD_LENGTH as u8;
+        old
+    }
+
+    /// An image in which every grant word is this one, with a row for each of the numbers.
     fn image_of(word: u32, numbers: &[u16]) -> Vec<u8> {
-        let mut module = Module::fresh([(true, word); CREDENTIALS]);
+        let mut module = Module::fresh([Credential::with(word, !word); CREDENTIALS]);
         for (row, next) in numbers.iter().enumerate() {
             module.processes.push(Process {
                 credential: row % CREDENTIALS,
@@ -135,12 +148,13 @@ mod tests {
     #[test]
     fn every_class_of_every_credential_counts_one() {
         for class in 0..32 {
-            let mut pairs = [(true, 0); CREDENTIALS];
+            let mut credentials = [Credential::with(0, u32::MAX); CREDENTIALS];
             for credential in 0..CREDENTIALS {
-                pairs[credential].1 = 1 << class;
-                let image = image::write(&Module::fresh(pairs));
+                credentials[credential].word = 1 << class;
+                let image = image::write(&Module::fresh(credentials));
                 let first = format!("0 {} 0\n", credential + 1);
                 assert!(figures(&piece(&image)).starts_with(&first));
+                assert!(figures(&piece(&old(&image))).starts_with(&first));
             }
         }
         let full = piece(&image_of(u32::MAX, &[]));
@@ -171,6 +185,21 @@ mod tests {
         ];
         let lines = "2 8 8\nbad\nbad\n1 16 9\n";
         let printed = format!("{lines}total 2 3 24\n");
+        assert_eq!(figures(&drawer(&images)), printed);
+    }
+
+    /// The first words alone are counted, and marked classes are among them.
+    #[test]
+    fn both_layouts_in_one_drawer() {
+        let images = [
+            piece(&example_with([15, 0])),
+            piece(&old(&example())),
+            piece(&old(&image_of(1, &[7, 8]))),
+            piece(&example_with([u32::MAX, u32::MAX])),
+            piece(&image_of(3, &[9])),
+        ];
+        let lines = "0 5 0\n0 5 0\n2 8 8\n0 5 0\n1 16 9\n";
+        let printed = format!("{lines}total 5 3 39\n");
         assert_eq!(figures(&drawer(&images)), printed);
     }
 
@@ -206,12 +235,12 @@ mod tests {
             let full = image.repeat(4_096);
             let lines = line.repeat(4_096);
             assert_eq!(figures(&full), format!("{lines}{total}"));
-            for more in [&[0][..], &[0, 0], &[42, 0], &[9, 0, 1], &good] {
+            for more in [&[0][..], &[0, 0], &[74, 0], &[9, 0, 1], &good] {
                 let past = [&full, more].concat();
                 assert_eq!(figures(&past), format!("{lines}too many\n"));
             }
         }
-        for last in [&[0][..], &[42, 0], &good[..43]] {
+        for last in [&[0][..], &[74, 0], &good[..75]] {
             let full = [&good.repeat(4_095), last].concat();
             assert!(figures(&full).ends_with("0 5 0\nbad\ntotal 4095 0 20475\n"));
         }

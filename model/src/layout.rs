@@ -1,4 +1,4 @@
-//! The state in a slice of 681 bytes, as docs/STATE.md draws it.
+//! The state in a slice of 713 bytes, as docs/STATE.md draws it.
 
 use crate::module::{
     same_name, Credential, Kind, Module, Name, Process, Session, CREDENTIALS, NAME_LENGTH, PLACES,
@@ -6,15 +6,15 @@ use crate::module::{
 };
 
 /// Bytes of a state.
-pub const STATE_LENGTH: usize = 681;
+pub const STATE_LENGTH: usize = 713;
 /// Where the credentials begin.
 pub const CREDENTIALS_AT: usize = 4;
 /// Bytes of a credential.
-pub const CREDENTIAL_LENGTH: usize = 5;
+pub const CREDENTIAL_LENGTH: usize = 9;
 /// Where the count of processes stands.
-pub const COUNT_AT: usize = 44;
+pub const COUNT_AT: usize = 76;
 /// Where the places begin.
-pub const PLACES_AT: usize = 45;
+pub const PLACES_AT: usize = 77;
 /// Bytes of a place.
 pub const PLACE_LENGTH: usize = 53;
 
@@ -31,6 +31,7 @@ pub fn write(module: &Module) -> Vec<u8> {
     for credential in module.credentials {
         bytes.push(u8::from(credential.provisioned));
         bytes.extend(credential.word.to_le_bytes());
+        bytes.extend(credential.second.to_le_bytes());
     }
     bytes.push(module.processes.len() as u8);
     for process in &module.processes {
@@ -76,22 +77,14 @@ fn read_sessions(bytes: &[u8]) -> Option<[Session; SESSIONS]> {
 }
 
 fn read_credentials(bytes: &[u8]) -> Option<[Credential; CREDENTIALS]> {
-    let mut credentials = [Credential {
-        provisioned: false,
-        word: 0,
-    }; CREDENTIALS];
+    let mut credentials = [Credential::UNPROVISIONED; CREDENTIALS];
     for (number, credential) in credentials.iter_mut().enumerate() {
         let field = &bytes[CREDENTIALS_AT + CREDENTIAL_LENGTH * number..][..CREDENTIAL_LENGTH];
         let word = u32::from_le_bytes([field[1], field[2], field[3], field[4]]);
-        *credential = match (field[0], word) {
-            (0, 0) => Credential {
-                provisioned: false,
-                word: 0,
-            },
-            (1, word) => Credential {
-                provisioned: true,
-                word,
-            },
+        let second = u32::from_le_bytes([field[5], field[6], field[7], field[8]]);
+        *credential = match (field[0], word, second) {
+            (0, 0, 0) => Credential::UNPROVISIONED,
+            (1, word, second) => Credential::with(word, second),
             _ => return None,
         };
     }
@@ -169,15 +162,17 @@ fn may_stand_together(one: &Process, other: &Process) -> bool {
 /// The example of docs/STATE.md: sessions 0 and 1 open, session 0 with a version; credentials 0 and 1; three processes with the names P, Q and R.
 pub fn example() -> Vec<u8> {
     let mut bytes = vec![0; STATE_LENGTH];
-    bytes[..14].copy_from_slice(&[2, 1, 0, 0, 1, 0x0f, 0, 0, 0, 1, 0x10, 0, 0, 0]);
-    bytes[COUNT_AT] = 3;
-    bytes[45..50].copy_from_slice(&[0, 0, 0, 3, 0]);
-    bytes[66..98].fill(0x11);
-    bytes[98..103].copy_from_slice(&[1, 2, 0, 0x2c, 1]);
-    bytes[119..151].fill(0x22);
-    bytes[151..156].copy_from_slice(&[1, 1, 0, 0, 0]);
-    bytes[172..203].fill(0x11);
-    bytes[203] = 0x12;
+    bytes[..4].copy_from_slice(&[2, 1, 0, 0]);
+    bytes[4..13].copy_from_slice(&[1, 0x0f, 0, 0, 0, 0, 0, 0, 0]);
+    bytes[13..22].copy_from_slice(&[1, 0x10, 0, 0, 0, 0, 0, 0, 0]);
+    bytes[76] = 3;
+    bytes[77..82].copy_from_slice(&[0, 0, 0, 3, 0]);
+    bytes[98..130].fill(0x11);
+    bytes[130..135].copy_from_slice(&[1, 2, 0, 0x2c, 1]);
+    bytes[151..183].fill(0x22);
+    bytes[183..188].copy_from_slice(&[1, 1, 0, 0, 0]);
+    bytes[204..235].fill(0x11);
+    bytes[235] = 0x12;
     bytes
 }
 
@@ -214,17 +209,18 @@ mod tests {
         let changes = [
             (3, 0, 3),
             (4, 1, 2),
-            (18, 0, 1),
-            (44, 3, 2),
-            (44, 3, 4),
-            (44, 3, 0x0d),
-            (45, 0, 2),
-            (47, 0, 1),
-            (47, 0, 2),
-            (100, 0, 1),
-            (155, 0, 1),
-            (203, 0x12, 0x11),
-            (680, 0, 1),
+            (23, 0, 1),
+            (36, 0, 1),
+            (76, 3, 2),
+            (76, 3, 4),
+            (76, 3, 0x0d),
+            (77, 0, 2),
+            (79, 0, 1),
+            (79, 0, 2),
+            (132, 0, 1),
+            (187, 0, 1),
+            (235, 0x12, 0x11),
+            (712, 0, 1),
         ];
         for (at, from, to) in changes {
             let mut bytes = example();
@@ -238,19 +234,36 @@ mod tests {
     fn a_saved_process_has_counted_one() {
         let mut bytes = example();
         for (next, holds) in [([0, 0], false), ([1, 0], true), ([0, 1], true)] {
-            bytes[101..103].copy_from_slice(&next);
+            bytes[133..135].copy_from_slice(&next);
             assert_eq!(read(&bytes).is_some(), holds, "{next:?}");
+        }
+    }
+
+    /// Each word of each credential, the last byte of it too.
+    #[test]
+    fn the_words_of_a_credential_that_is_not_provisioned_are_zero() {
+        for number in 0..CREDENTIALS {
+            for at in [1, 4, 5, 8] {
+                let mut bytes = vec![0; STATE_LENGTH];
+                let begin = CREDENTIALS_AT + CREDENTIAL_LENGTH * number;
+                bytes[begin + at] = 0x80;
+                assert_eq!(read(&bytes), None, "credential {number}, byte {at}");
+                bytes[begin] = 1;
+                let module = read(&bytes).expect("it is provisioned");
+                let held = module.credentials[number];
+                assert_eq!((held.word != 0, held.second != 0), (at < 5, at >= 5));
+                assert_eq!(write(&module), bytes);
+            }
         }
     }
 
     #[test]
     fn all_zero_is_a_state_and_another_length_is_none() {
-        assert_eq!(
-            read(&[0; STATE_LENGTH]),
-            Some(Module::fresh([(false, 0); 8]))
-        );
-        assert_eq!(read(&[0; STATE_LENGTH - 1]), None);
-        assert_eq!(read(&[0; STATE_LENGTH + 1]), None);
-        assert_eq!(read(&[]), None);
+        let unprovisioned = Module::fresh([Credential::UNPROVISIONED; 8]);
+        assert_eq!(read(&[0; STATE_LENGTH]), Some(unprovisioned));
+        // 681 bytes were a state before there were second words
+        for length in [0, 681, STATE_LENGTH - 1, STATE_LENGTH + 1] {
+            assert_eq!(read(&vec![0; length]), None);
+        }
     }
 }

@@ -44,6 +44,37 @@ pub struct Credential {
     pub provisioned: bool,
     /// Its grant word: bit k grants class k.
     pub word: u32,
+    /// Its second word: where bit k is set too, class k is granted only under elevation.
+    pub second: u32,
+}
+
+impl Credential {
+    /// One that is not provisioned.
+    pub const UNPROVISIONED: Credential = Credential {
+        provisioned: false,
+        word: 0,
+        second: 0,
+    };
+
+    /// One that is provisioned, with these words.
+    pub const fn with(word: u32, second: u32) -> Credential {
+        Credential {
+            provisioned: true,
+            word,
+            second,
+        }
+    }
+}
+
+/// What the grant lookup answers.
+#[derive(Clone, Copy, Debug, PartialEq, Eq)]
+pub enum Grant {
+    /// The bit of the grant word is clear, whatever the second word has there.
+    No,
+    /// It is set, and the second word's is clear.
+    Yes,
+    /// Both are set.
+    OnlyUnderElevation,
 }
 
 /// A process's type, with what has a meaning for that type alone.
@@ -144,13 +175,13 @@ pub fn same_name(one: &Name, other: &Name) -> bool {
 }
 
 impl Module {
-    /// A fresh module: all sessions closed and no process. An unprovisioned credential's word is taken as zero.
-    pub fn fresh(pairs: [(bool, u32); CREDENTIALS]) -> Module {
+    /// A fresh module: all sessions closed and no process. Both words of an unprovisioned credential are taken as zero.
+    pub fn fresh(credentials: [Credential; CREDENTIALS]) -> Module {
         Module {
             sessions: [Session::Closed; SESSIONS],
-            credentials: pairs.map(|(provisioned, word)| Credential {
-                provisioned,
-                word: if provisioned { word } else { 0 },
+            credentials: credentials.map(|given| match given.provisioned {
+                true => Credential::with(given.word, given.second),
+                false => Credential::UNPROVISIONED,
             }),
             processes: Vec::new(),
         }
@@ -245,15 +276,12 @@ impl Module {
         Ok(())
     }
 
-    /// End: claim; 10 if keep and class 2 is clear. The process, its claim counted, is saved, or removed when not kept.
+    /// End: claim; if keep, 10 and 18 by class 2. The process, its claim counted, is saved, or removed when not kept.
     pub fn end(&mut self, session: usize, claim: UserClaim, keep: bool) -> Result<(), Number> {
         self.check_version(session)?;
         let (place, next) = self.take_user_claim(session, claim)?;
-        refuse_when(
-            keep && !self.grants(claim.credential, SAVE_OWN),
-            Number::NotGranted,
-        )?;
         if keep {
+            self.check_granted(Claim::User(claim), claim.credential, SAVE_OWN)?;
             self.processes[place].kind = Kind::SavedUser { next };
         } else {
             self.processes.remove(place);
@@ -261,14 +289,14 @@ impl Module {
         Ok(())
     }
 
-    /// Record: claim; 10.
+    /// Record: claim; 10; 18.
     pub fn record(&mut self, session: usize, claim: Claim, class: u32) -> Result<(), Number> {
         self.check_version(session)?;
         let credential = self.take_claim(session, claim)?;
-        refuse_unless(self.grants(credential, class), Number::NotGranted)
+        self.check_granted(claim, credential, class)
     }
 
-    /// List: claim; 10 if wanted differs from the claim's credential and class 0 is clear; 15. Answers with the message.
+    /// List: claim; if wanted differs from the claim's credential, 10 and 18 by class 0; 15. Answers with the message.
     pub fn list(
         &mut self,
         session: usize,
@@ -278,43 +306,45 @@ impl Module {
     ) -> Result<Vec<u8>, Number> {
         self.check_version(session)?;
         let credential = self.take_claim(session, claim)?;
-        refuse_when(
-            wanted != Wanted::Of(credential) && !self.grants(credential, LIST_OTHERS),
-            Number::NotGranted,
-        )?;
+        if wanted != Wanted::Of(credential) {
+            self.check_granted(claim, credential, LIST_OTHERS)?;
+        }
         let message = messages::listing(&self.rows(wanted));
         refuse_when(room < message.len(), Number::Room)?;
         Ok(message)
     }
 
-    /// Kill: claim; 6 if no process that this claim may kill has the name.
+    /// Kill: claim; 6 if no process that this claim may kill has the name. It may kill its own credential's processes of every type, and all where class 1 is
+    /// granted to it.
     pub fn kill(&mut self, session: usize, claim: Claim, name: Name) -> Result<(), Number> {
         self.check_version(session)?;
         let credential = self.take_claim(session, claim)?;
+        let reaches_all = self.check_granted(claim, credential, KILL_OTHERS).is_ok();
+        let may_kill = |process: &Process| reaches_all || process.credential == credential;
         let place = self
             .processes
             .iter()
-            .position(|process| {
-                same_name(&process.name, &name) && self.may_kill(credential, process)
-            })
+            .position(|process| same_name(&process.name, &name) && may_kill(process))
             .ok_or(Number::NoProcess)?;
         self.processes.remove(place);
         Ok(())
     }
 
-    /// Set word: claim; 10 by class 3; 5.
+    /// Set word: claim; 10 and 18 by class 3; 5. Sets both words.
     pub fn set_word(
         &mut self,
         session: usize,
         claim: Claim,
         target: usize,
         word: u32,
+        second: u32,
     ) -> Result<(), Number> {
         self.check_version(session)?;
         let credential = self.take_claim(session, claim)?;
-        refuse_unless(self.grants(credential, SET_WORDS), Number::NotGranted)?;
+        self.check_granted(claim, credential, SET_WORDS)?;
         self.check_provisioned(target)?;
         self.credentials[target].word = word;
+        self.credentials[target].second = second;
         Ok(())
     }
 
@@ -356,9 +386,15 @@ impl Module {
             .position(|process| process.kind == Kind::ActiveElevation { session })
     }
 
-    /// Whether the credential's word has the class's bit.
-    pub fn grants(&self, credential: usize, class: u32) -> bool {
-        self.credentials[credential].word & (1 << class) != 0
+    /// The grant lookup, of classes 0 to 31.
+    pub fn lookup(&self, credential: usize, class: u32) -> Grant {
+        let Credential { word, second, .. } = self.credentials[credential];
+        let has_class = |word: u32| word & (1 << class) != 0;
+        match (has_class(word), has_class(second)) {
+            (false, _) => Grant::No,
+            (true, false) => Grant::Yes,
+            (true, true) => Grant::OnlyUnderElevation,
+        }
     }
 
     fn find_saved(&self, credential: usize, name: &Name) -> Option<(usize, u16)> {
@@ -373,11 +409,6 @@ impl Module {
                 }
                 _ => None,
             })
-    }
-
-    /// Its own credential's processes of every type, and all when class 1 is granted.
-    fn may_kill(&self, credential: usize, process: &Process) -> bool {
-        process.credential == credential || self.grants(credential, KILL_OTHERS)
     }
 
     fn check_open(&self, session: usize) -> Result<(), Number> {
@@ -413,6 +444,17 @@ impl Module {
 
     fn check_place(&self) -> Result<(), Number> {
         refuse_when(self.processes.len() == PLACES, Number::Full)
+    }
+
+    /// 10; 18 where the class is granted only under elevation and the claim is a user's. It is the claim that is elevated or not, whatever stands in its session.
+    fn check_granted(&self, claim: Claim, credential: usize, class: u32) -> Result<(), Number> {
+        match self.lookup(credential, class) {
+            Grant::No => Err(Number::NotGranted),
+            Grant::Yes => Ok(()),
+            Grant::OnlyUnderElevation => {
+                refuse_unless(claim == Claim::Elevated, Number::OnlyElevated)
+            }
+        }
     }
 
     /// The check of a claim, by which a user's is counted. Elevated: 6 unless the session has an active elevation; the credential is that process's, and

@@ -1,6 +1,6 @@
 //! "Numbers a call can answer".
 
-/// The sixteen numbers.
+/// Document 01's sixteen, and those of document 02's orders.
 #[derive(Clone, Copy, Debug, PartialEq, Eq)]
 pub enum Number {
     /// Accepted.
@@ -35,6 +35,8 @@ pub enum Number {
     Message = 14,
     /// The buffer is too short.
     Room = 15,
+    /// A user claim for a class that is granted only under elevation.
+    OnlyElevated = 18,
 }
 
 /// One test in a call's order of checks: refuses with the number where the condition is met.

@@ -1,9 +1,11 @@
 //! Document 01's thirteen steps, "Sequences on both sides of each bound", with the numbers that document 02 corrects, through the model's entries. They run on
-//! from each other, so each test begins with the steps before its own. Behind them stands what document 02 asks of a refused claim.
+//! from each other, so each test begins with the steps before its own. Behind them stands what document 02 asks of a refused claim, and then the steps of its
+//! order 7, with second words; the words of document 01's steps have none.
 
 use crate::entries::{self, Lent, RawClaim};
+use crate::figures::figures;
 use crate::layout::STATE_LENGTH;
-use crate::module::{Kind, Module};
+use crate::module::{Credential, Kind, Module};
 
 const SPENT: u16 = 65_535;
 
@@ -37,6 +39,14 @@ fn user(credential: u32, number: u16) -> RawClaim {
     }
 }
 
+/// What it carries beside its kind is ignored.
+const ELEVATED: RawClaim = RawClaim {
+    kind: 1,
+    credential: 99,
+    number: 99,
+    verdict: 99,
+};
+
 fn denied(credential: u32, number: u16) -> RawClaim {
     RawClaim {
         verdict: 0,
@@ -51,12 +61,20 @@ struct Steps {
 
 impl Steps {
     fn new() -> Steps {
+        Steps::of(&[(15, 0), (16, 0)])
+    }
+
+    /// A fresh module of the credentials from 0 on with these words; of the others, which are not provisioned, words are handed in too.
+    fn of(given: &[(u32, u32)]) -> Steps {
         let mut lent = Lent::Other(vec![0xa5; STATE_LENGTH]);
-        let words = [15, 16, 0xffff_ffff, 0, 0, 0, 0, 0];
-        assert_eq!(
-            entries::fresh(&mut lent, &[1, 1, 0, 0, 0, 0, 0, 0], &words),
-            0
-        );
+        let (mut provisioned, mut words, mut seconds) =
+            ([0; 8], [0xffff_ffff; 8], [0x1020_3040; 8]);
+        for (credential, (word, second)) in given.iter().enumerate() {
+            provisioned[credential] = 1;
+            (words[credential], seconds[credential]) = (*word, *second);
+        }
+        let number = entries::fresh(&mut lent, &provisioned, &words, &seconds);
+        assert_eq!(number, 0);
         Steps { lent }
     }
 
@@ -160,7 +178,11 @@ impl Steps {
     }
 
     fn set_word(&mut self, claim: RawClaim, target: u32) -> u32 {
-        entries::set_word(&mut self.lent, 0, claim, target, 0x14)
+        self.set_words(claim, target, 0x14, 0)
+    }
+
+    fn set_words(&mut self, claim: RawClaim, target: u32, word: u32, second: u32) -> u32 {
+        entries::set_word(&mut self.lent, 0, claim, target, word, second)
     }
 
     fn end(&mut self, claim: RawClaim, keep: u32) -> u32 {
@@ -180,7 +202,7 @@ fn steps_1_to_3() {
     let steps = Steps::after_step_3();
     assert_eq!(steps.module().processes.len(), 1);
     assert_eq!(steps.module().processes[0].name, p());
-    assert_eq!(steps.module().credentials[2].word, 0);
+    assert_eq!(steps.module().credentials[2], Credential::UNPROVISIONED);
 }
 
 #[test]
@@ -235,18 +257,18 @@ fn step_11() {
 fn step_11_with_power_cycles() {
     let mut steps = Steps::after_the_save();
     let image = steps.power_cycle();
-    assert_eq!(image.len(), 42 + 52);
-    assert_eq!(image[..10], [3, 0, 8, 0, 10, 0, 1, 0, 42, 0]);
+    assert_eq!(image.len(), 74 + 52);
+    assert_eq!(image[..10], [3, 0, 8, 0, 10, 0, 1, 0, 74, 0]);
     assert_eq!(image[10..18], [15, 0, 0, 0, 16, 0, 0, 0]);
-    assert_eq!(image[18..42], [0; 24]);
-    assert_eq!(image[42..46], [0, 0, 4, 0]);
-    assert_eq!(image[46..], p());
+    assert_eq!(image[18..74], [0; 56]);
+    assert_eq!(image[74..78], [0, 0, 4, 0]);
+    assert_eq!(image[78..], p());
     assert_eq!(steps.start(0, r()), 2);
     steps.continue_p();
     let mut uninterrupted = Steps::after_step_11();
     assert_eq!(entries::close(&mut uninterrupted.lent, 0), 0);
     assert_eq!(steps.module(), uninterrupted.module());
-    assert_eq!(steps.power_cycle().len(), 42);
+    assert_eq!(steps.power_cycle().len(), 74);
     assert!(steps.module().processes.is_empty());
 }
 
@@ -255,8 +277,9 @@ fn step_12() {
     let mut steps = Steps::after_step_11();
     for byte in 1..=11 {
         assert_eq!(steps.start(1, name_of(byte)), 0);
-        let saved = entries::set_word(&mut steps.lent, 1, user(0, 3 + u16::from(byte)), 1, 0x14);
-        assert_eq!(saved, 0);
+        let claim = user(0, 3 + u16::from(byte));
+        let set = entries::set_word(&mut steps.lent, 1, claim, 1, 0x14, 0);
+        assert_eq!(set, 0);
         assert_eq!(steps.end(user(1, 0), 1), 0);
     }
     assert_eq!(steps.module().processes.len(), 12);
@@ -374,16 +397,233 @@ fn an_argument_error_leaves_everything() {
 
 #[test]
 fn an_elevated_claim_counts_nothing() {
-    let elevated = RawClaim {
-        kind: 1,
-        ..user(0, 0)
-    };
     for (credential, number, call) in &AFTER_THE_CLAIM[1..] {
         let mut steps = two_standing();
         let lent = &mut steps.lent;
         assert_eq!(entries::elevate(lent, 0, *credential, &name_of(3), 1), 0);
         let before = steps.lent.clone();
-        assert_eq!(call(&mut steps, elevated), *number);
+        assert_eq!(call(&mut steps, ELEVATED), *number);
         assert_eq!(steps.lent, before);
+    }
+}
+
+/// The steps of order 7: credential 0 has the module's own classes; 1 has class 4 plainly, 5 only under elevation, and 6 not at all; 2 has the module's own classes
+/// only under elevation.
+impl Steps {
+    fn after_the_starts() -> Steps {
+        let mut steps = Steps::of(&[(15, 0), (0x30, 0x60), (15, 15)]);
+        assert_eq!(steps.open(0), 0);
+        assert_eq!(steps.select(0x10), 0);
+        assert_eq!(steps.start(0, p()), 0);
+        assert_eq!(steps.start(1, r()), 0);
+        assert_eq!(steps.start(2, q()), 0);
+        steps
+    }
+
+    fn after_the_records() -> Steps {
+        let mut steps = Steps::after_the_starts();
+        assert_eq!(steps.record(user(1, 0), 4), 0);
+        assert_eq!(steps.record(user(1, 1), 5), 18);
+        assert_eq!(steps.record(user(1, 1), 5), 9);
+        assert_eq!(steps.record(user(1, 2), 6), 10);
+        assert_eq!(steps.record(user(1, 3), 7), 10);
+        assert_eq!(steps.record(user(1, 4), 4), 0);
+        assert_eq!(steps.record(denied(1, 5), 5), 8);
+        assert_eq!(steps.record(user(1, 5), 3), 1);
+        steps
+    }
+
+    fn after_the_lists() -> Steps {
+        let mut steps = Steps::after_the_records();
+        assert_eq!(steps.list(user(2, 0), 2, &mut [0; 55]), (0, 55));
+        assert_eq!(steps.list(user(2, 1), 0, &mut [0; 55]), (18, 0));
+        assert_eq!(steps.list(user(2, 2), 65_535, &mut []), (18, 0));
+        assert_eq!(steps.list(user(2, 3), 2, &mut [0; 54]), (15, 0));
+        assert_eq!(steps.list(user(1, 5), 0, &mut []), (10, 0));
+        steps
+    }
+
+    fn after_the_refused_words() -> Steps {
+        let mut steps = Steps::after_the_lists();
+        assert_eq!(steps.kill(user(2, 4), p()), 6);
+        assert_eq!(steps.kill(user(2, 5), name_of(9)), 6);
+        assert_eq!(steps.end(user(2, 6), 1), 18);
+        assert_eq!(steps.set_word(user(2, 7), 1), 18);
+        assert_eq!(steps.set_word(user(2, 8), 3), 18);
+        assert_eq!(steps.set_word(user(1, 6), 3), 10);
+        assert_eq!(steps.set_word(user(0, 0), 3), 5);
+        steps
+    }
+
+    fn after_the_elevation() -> Steps {
+        let mut steps = Steps::after_the_refused_words();
+        let elevated = entries::elevate(&mut steps.lent, 0, 2, &name_of(3), 1);
+        assert_eq!(elevated, 0);
+        assert_eq!(steps.set_word(ELEVATED, 3), 5);
+        assert_eq!(steps.set_words(ELEVATED, 1, 0x30, 0x10), 0);
+        assert_eq!(steps.record(user(1, 7), 5), 0);
+        assert_eq!(steps.record(user(1, 8), 4), 18);
+        steps
+    }
+
+    fn after_the_elevated_calls() -> Steps {
+        let mut steps = Steps::after_the_elevation();
+        assert_eq!(steps.list(ELEVATED, 65_535, &mut [0; 207]), (15, 0));
+        assert_eq!(steps.list(ELEVATED, 65_535, &mut [0; 208]), (0, 208));
+        assert_eq!(steps.kill(ELEVATED, p()), 0);
+        assert_eq!(steps.record(ELEVATED, 5), 10);
+        assert_eq!(steps.set_words(ELEVATED, 2, 0x2f, 0x2f), 0);
+        assert_eq!(steps.record(ELEVATED, 5), 0);
+        assert_eq!(steps.record(user(2, 9), 5), 18);
+        steps
+    }
+
+    fn next_numbers(&self) -> Vec<u16> {
+        let users = self.module().processes.iter();
+        let numbers = users.filter_map(|process| match process.kind {
+            Kind::ActiveUser { next, .. } => Some(next),
+            Kind::ActiveElevation { .. } | Kind::SavedUser { .. } => None,
+        });
+        numbers.collect()
+    }
+}
+
+#[test]
+fn order_7_steps_1_and_2() {
+    assert_eq!(Steps::after_the_records().next_numbers(), [0, 5, 0]);
+}
+
+#[test]
+fn order_7_steps_3_to_5() {
+    let steps = Steps::after_the_refused_words();
+    assert_eq!(steps.next_numbers(), [1, 7, 9]);
+    let started = Steps::after_the_starts();
+    assert_eq!(steps.module().credentials, started.module().credentials);
+}
+
+#[test]
+fn order_7_steps_6_and_7() {
+    let steps = Steps::after_the_elevated_calls();
+    assert_eq!(steps.next_numbers(), [9, 10]);
+    let mut credentials = [Credential::UNPROVISIONED; 8];
+    credentials[0] = Credential::with(15, 0);
+    credentials[1] = Credential::with(0x30, 0x10);
+    credentials[2] = Credential::with(0x2f, 0x2f);
+    assert_eq!(steps.module().credentials, credentials);
+}
+
+#[test]
+fn order_7_step_8() {
+    let mut steps = Steps::after_the_elevated_calls();
+    assert_eq!(entries::drop(&mut steps.lent, 0), 0);
+    assert_eq!(steps.record(ELEVATED, 5), 6);
+    assert_eq!(steps.kill(user(2, 10), q()), 0);
+    assert_eq!(steps.module().processes.len(), 1);
+}
+
+/// The number of a restore.
+fn restored(image: &[u8]) -> u32 {
+    entries::restore(&mut Lent::Other(vec![0xa5; STATE_LENGTH]), image)
+}
+
+fn changed(bytes: &[u8], at: usize, to: u8) -> Vec<u8> {
+    let mut changed = bytes.to_vec();
+    changed[at] = to;
+    changed
+}
+
+fn printed(image: &[u8]) -> String {
+    figures(&[&(image.len() as u16).to_le_bytes(), image].concat())
+}
+
+#[test]
+fn order_7_step_9_the_new_layout() {
+    let mut steps = Steps::of(&[(15, 15), (16, 0)]);
+    let (mut short, mut length) = ([0xee; 73], 9);
+    let number = entries::image(&mut steps.lent, &mut short, &mut length);
+    assert_eq!((number, length), (15, 0));
+    let before = steps.module().clone();
+    let image = steps.power_cycle();
+    assert_eq!(*steps.module(), before);
+    let mut expected = vec![3, 0, 8, 0, 0x0a, 0, 0, 0, 0x4a, 0];
+    expected.resize(74, 0);
+    (expected[10], expected[14], expected[42]) = (0x0f, 0x10, 0x0f);
+    assert_eq!(image, expected);
+    assert_eq!(printed(&image), "0 5 0\ntotal 1 0 5\n");
+    for offset in [41, 42, 43, 73, 75] {
+        assert_eq!(restored(&changed(&image, 8, offset)), 14);
+    }
+    assert_eq!(restored(&changed(&image, 50, 1)), 14);
+    assert_eq!(restored(&changed(&image, 2, 16)), 14);
+}
+
+#[test]
+fn order_7_step_9_the_old_layout() {
+    let mut old = vec![3, 0, 8, 0, 0x0a, 0, 0, 0, 0x2a, 0];
+    old.extend([15, 0, 0, 0, 16, 0, 0, 0]);
+    old.resize(42, 0);
+    let mut steps = Steps::of(&[(1, 1)]);
+    assert_eq!(entries::restore(&mut steps.lent, &old), 0);
+    assert_eq!(steps.module(), Steps::of(&[(15, 0), (16, 0)]).module());
+    assert_eq!(printed(&old), "0 5 0\ntotal 1 0 5\n");
+    assert_eq!(restored(&changed(&old, 8, 74)), 14);
+    assert_eq!(steps.power_cycle().len(), 74);
+}
+
+/// 94 bytes with 42, 126 with 74; each other pair is 14.
+#[test]
+fn order_7_step_9_one_row() {
+    let image = Steps::after_the_save().power_cycle();
+    assert_eq!(image.len(), 126);
+    let old = [&image[..42], &image[74..]].concat();
+    for (bytes, offset, number) in [
+        (&image, 74, 0),
+        (&image, 42, 14),
+        (&old, 74, 14),
+        (&old, 42, 0),
+    ] {
+        assert_eq!(restored(&changed(bytes, 8, offset)), number);
+    }
+}
+
+#[test]
+fn order_7_step_10() {
+    let held = Steps::after_the_starts().lent.bytes();
+    let holds = |bytes: &[u8]| entries::holds(&mut Lent::of(bytes));
+    assert_eq!(holds(&held), 0);
+    assert_eq!(holds(&changed(&held, 9 + 9 * 3, 1)), 1);
+    let longer = [&held[..], &[0]].concat();
+    for length in [681, 712, 714] {
+        assert_eq!(holds(&longer[..length]), 1);
+    }
+}
+
+/// 18 is one more refusal after the claim: of credential 2, which has the module's own classes only under elevation.
+#[test]
+fn an_18_spends_the_number_and_nothing_else() {
+    let calls: [fn(&mut Steps, RawClaim) -> u32; 5] = [
+        |steps, claim| steps.end(claim, 1),
+        |steps, claim| steps.record(claim, 5),
+        |steps, claim| steps.list(claim, 1, &mut [0; 616]).0,
+        |steps, claim| steps.list(claim, 65_535, &mut []).0,
+        |steps, claim| steps.set_words(claim, 3, 0, 0),
+    ];
+    for call in calls {
+        let mut steps = Steps::after_the_starts();
+        let claim = user(0, 0);
+        assert_eq!(steps.set_words(claim, 2, 0x2f, 0x2f), 0);
+        let mut expected = steps.module().clone();
+        expected.processes[2].kind = Kind::ActiveUser {
+            session: 0,
+            next: 1,
+        };
+        assert_eq!(call(&mut steps, user(2, 0)), 18);
+        assert_eq!(*steps.module(), expected);
+        assert_eq!(call(&mut steps, user(2, 0)), 9);
+        assert_eq!(*steps.module(), expected);
+        // it passes once the class is no longer marked, and its number is not good again
+        assert_eq!(steps.set_words(user(0, 1), 2, 0x2f, 0), 0);
+        assert_eq!(call(&mut steps, user(2, 0)), 9);
+        assert_ne!(call(&mut steps, user(2, 1)), 18);
     }
 }
