@@ -34,7 +34,7 @@ use Rattle.module_state.specs.declared.Phase.the-variants.{Chosen}
 use Rattle.module_state.specs.declared.SessionState.{SessionState}
 use Rattle.module_state.specs.declared.State.{State}
 use Rattle.module_state.specs.declared.UserClaim.{UserClaim}
-use Rattle.module_state.proofs.Laws.{unless-false, clear-first, clear-rest, clear-when, clear-unless, by-when, by-unless, by-then, by-grant, passed-check, passed-user}
+use Rattle.module_state.proofs.Laws.{unless-false, clear-first, clear-rest, clear-when, clear-unless, by-when, by-unless, by-then, by-grant, by-check, passed-check, passed-user}
 use Rattle.calls.specs.declared.Answer.the-variants.{Done, RefusedClaim}
 use Rattle.calls.specs.declared.Outcome.{Outcome}
 use Rattle.calls.specs.Calls.{Call, Open, Close, Select, Start, Continue, Elevate, Drop, End, Record, ListProcesses, Kill, SetWord, killOthers, isVersion, hasNamed, reach, endTests, recordTests, listTests, killTests, setWordTests, asked, number, counted, effect, protection, aheadNumber, protectedNumber, passes, charged, left, answerNumber, refusal, outcome, fresh}
@@ -63,18 +63,21 @@ known-entered : (st : State) (s : Session) → No.IsKnown (entered st s)
 unfolding entered phaseNumber
 known-entered st s = search known
 
-known-turn : (next : ℕ) (u : UserClaim) → No.IsKnown (turnNumber next u)
-unfolding turnNumber
-known-turn next u = search known
-
-known-claim : (claim : Claim) (view : ClaimView) → No.IsKnown (claimNumber claim view)
-unfolding claimNumber
-known-claim Elevated view = search known
-known-claim (ByUser u) view = search (known, known-turn)
-
 known-checked : (st : State) (s : Session) (claim : Claim) → No.IsKnown (checked st s claim .number)
-unfolding checked checkOf checkNumber phaseNumber
-known-checked st s claim = search (known, known-claim) depth 12
+known-checked st s claim =
+    by-check No.IsKnown
+    (record {
+      n0 = done-known;
+      n1 = record { is = refl };
+      n2 = record { is = refl };
+      n3 = record { is = refl };
+      n5 = record { is = refl };
+      n6 = record { is = refl };
+      n8 = record { is = refl };
+      n9 = record { is = refl };
+      n13 = record { is = refl };
+    })
+    st s claim
 
 known-grant : (by : Checked) (class : Class) → No.IsKnown (grantNumber by class)
 known-grant = by-grant No.IsKnown done-known (record { is = refl }) (record { is = refl })
@@ -178,10 +181,14 @@ module _ (st : State) (s : Session) (claim : Claim) (name : Name) (h : hasNamed 
   unfolding refusal protection
   refused = outcome-refused st (Kill s claim name) unreached-not ∙ rw (unreached-left, unreached)
 
-module _ (st : State) (s : Session) (claim : Claim) (c : Credential) (mine : speaker st s claim ≡ c) (lacks : lookup (grantsOf st c) killOthers ≡ NotGranted) where
+module _ (st : State) (s : Session) (claim : Claim) (c : Credential) (mine : speaker st s claim ≡ c) (lacks : eqb (grantNumber (checked st s claim) killOthers) No.done ≡ false) where
+  speaks : checked st s claim .credential ≡ c
+  unfolding checked checkOf claimView
+  speaks = mine
+
   own : reach (checked st s claim) ≡ Of c
-  unfolding reach checked checkOf claimView grantNumber lookupNumber
-  own = rw (mine, lacks)
+  unfolding reach
+  own = rw (lacks, speaks)
 
   -- what no process has, none of the credential's has
   none-own : (name : Name) (l : List Process) → any (isNamed name All) l ≡ false → any (isNamed name (Of c)) l ≡ false
@@ -192,7 +199,7 @@ module _ (st : State) (s : Session) (claim : Claim) (c : Credential) (mine : spe
       (λ h. clash (ap (λ (b : Bool). b || any (isNamed name All) l) h) e)
       (λ h. let k : any (isNamed name (Of c)) l ≡ false = none-own name l (rw h at e) in split (isOf c p) (λ q. rw (q, h, k)) (λ q. rw (q, k)))
 
-  -- the claim's credential lacks class 1. No process of its own has the one name, whoever else's has it; no process at all has the other
+  -- the claim does not get class 1: its credential lacks it, or has it only under elevation and the claim is a user's. No process of its own has the one name, whoever else's has it; no process at all has the other
   pub stranger-as-unknown : (strangers unknown : Name) → hasNamed st strangers (Of c) ≡ false → hasNamed st unknown All ≡ false → outcome st (Kill s claim strangers) ≡ outcome st (Kill s claim unknown)
   unfolding hasNamed
   stranger-as-unknown strangers unknown h k =

@@ -22,7 +22,8 @@ use Rattle.history.specs.Lives.{nobody}
 use Rattle.history.specs.Fits.{Fits}
 use Rattle.history.proofs.Form.{state-step}
 use Rattle.image.specs.Image as Image
-use Rattle.image.specs.Image.{stateImage}
+use Rattle.image.specs.Image.{hasSeconds, headIn, stateImage}
+use Rattle.image.proofs.Laws.{state-new}
 use Rattle.history_resumed.specs.Resumed.{toldBy}
 use Rattle.history_resumed.specs.Changes.{changesImage}
 use Rattle.history_resumed.proofs.Changes.{image-kept}
@@ -66,7 +67,7 @@ newest-by w g is (written {after = after} {entry = entry} e i k) =
     newest-by (noting entry w) on (image-written i (goes-state (noting entry w) after on)) k
 newest-by {b} w g is (cycled {slices = slices} {after = after} bytes r k) =
     let on : Goes (cycledSince w) after = goes-again w {last = b} {slices = slices} {after = after} (goes-state w b g) (goes-holds w b g) bytes is r in
-    newest-by (cycledSince w) on (sym (restored-image bytes r)) k
+    newest-by (cycledSince w) on (sym (restored-image bytes r (rw is (state-new (goes-state w b g))))) k
 
 -- from a fresh module on, whose image is written
 pub hosted-made : {before slices : Slices} {pairs : Handed} {old new : List ℕ} {long : ℕ} → OfWords pairs → FreshEntry (before .state) pairs 0 (slices .state) → ImageEntry (slices .state) old 0 new long → {happenings : List Happening} {last : Slices} {newest : List ℕ} → Hosted slices (take long new) happenings last newest → IsNewest (sinceAll (begun (fresh (pairsOf pairs)) nobody) happenings) last newest
@@ -75,7 +76,14 @@ hosted-made {before} {slices} {pairs} h e i k =
     let g : Goes w slices = goes-fresh {before = before} {after = slices} h e in
     newest-by w g (image-written i (goes-state w slices g)) k
 
--- and from a module that was restored on
-pub hosted-restored : {before slices : Slices} {image : List ℕ} → Bytes image → RestoreEntry (before .state) image 0 (slices .state) → {happenings : List Happening} {last : Slices} {newest : List ℕ} → Hosted slices image happenings last newest → IsNewest (sinceAll (begun (Image.restored image) (toldBy image)) happenings) last newest
-hosted-restored {before} {slices} {image} h r k =
-    newest-by (begun (Image.restored image) (toldBy image)) (goes-restored-done before slices image h r) (sym (restored-image h r)) k
+-- from a module on that was restored from an image of the new layout
+pub hosted-restored : {before slices : Slices} {image : List ℕ} → Bytes image → hasSeconds (headIn image .offset) ≡ true → RestoreEntry (before .state) image 0 (slices .state) → {happenings : List Happening} {last : Slices} {newest : List ℕ} → Hosted slices image happenings last newest → IsNewest (sinceAll (begun (Image.restored image) (toldBy image)) happenings) last newest
+hosted-restored {before} {slices} {image} h n r k =
+    newest-by (begun (Image.restored image) (toldBy image)) (goes-restored-done before slices image h r) (sym (restored-image h r n)) k
+
+-- and from one of either layout on, where the module's image is then written: of the old layout the flash has no image of the state until it is
+pub hosted-renewed : {before slices : Slices} {image old new : List ℕ} {long : ℕ} → Bytes image → RestoreEntry (before .state) image 0 (slices .state) → ImageEntry (slices .state) old 0 new long → {happenings : List Happening} {last : Slices} {newest : List ℕ} → Hosted slices (take long new) happenings last newest → IsNewest (sinceAll (begun (Image.restored image) (toldBy image)) happenings) last newest
+hosted-renewed {before} {slices} {image} h r i k =
+    let w : Since = begun (Image.restored image) (toldBy image) in
+    let g : Goes w slices = goes-restored-done before slices image h r in
+    newest-by w g (image-written i (goes-state w slices g)) k

@@ -20,8 +20,8 @@ use Rattle.module_rules.specs.Facts.{IsState}
 use Rattle.state_layout.specs.Layout.{stateLength, stateBytes, stateOf, holdsState}
 use Rattle.state_layout.proofs.Laws.{state-back, formed-wide, holds-is}
 use Rattle.history.specs.Lives.{told}
-use Rattle.image.specs.Image.{stateImage, isImage, restored, cycled, imageRoom, lacksRoom}
-use Rattle.image.proofs.Laws.{long-is, image-state, one-image, state-image, state-restored}
+use Rattle.image.specs.Image.{hasSeconds, headIn, renewed, stateImage, isImage, restored, cycled, imageRoom, lacksRoom}
+use Rattle.image.proofs.Laws.{long-is, image-state, renewed-is, one-image, state-image, state-restored}
 use Rattle.entries_image.specs.Entries.{imageNumber, ImageEntry, restoreNumber, RestoreEntry}
 use Rattle.history_resumed.proofs.Theorems.{told-cut}
 use Rattle.history_lent.specs.Lent.{Slices, Since, Holds, IsImageOf, Imaged}
@@ -94,7 +94,7 @@ lent-imaged w {last} g h e =
     let v : IsState (stateOf (last .state)) = holds-is (last .state) (h .holds) g in
     record { image = image-of w {last = last} v h (image-written e v); later-kept = image-later e v }
 
--- ---- a module from an image: its image is that one; so an image that is read and written again is the same bytes
+-- ---- a module from an image: its image is that one in the new layout; so an image of the new layout that is read and written again is the same bytes
 module _ {before image after : List ℕ} (h : Bytes image) (r : RestoreEntry before image 0 after) where
   made : IsState (restored image)
   made = image-state image h (restore-image r)
@@ -102,8 +102,8 @@ module _ {before image after : List ℕ} (h : Bytes image) (r : RestoreEntry bef
   back : stateOf after ≡ restored image
   back = ap stateOf (restore-done r) ∙ state-back (made .formed)
 
-  pub restored-image : stateImage (stateOf after) ≡ image
-  restored-image = rw back (one-image image h (restore-image r))
+  pub restored-image : hasSeconds (headIn image .offset) ≡ true → stateImage (stateOf after) ≡ image
+  restored-image n = rw back (one-image image h (restore-image r) n)
 
-  pub image-again : {old new : List ℕ} {long : ℕ} → ImageEntry after old 0 new long → take long new ≡ image
-  image-again e = image-written e (rw back made) ∙ restored-image
+  pub image-again : {old new : List ℕ} {long : ℕ} → ImageEntry after old 0 new long → take long new ≡ renewed image
+  image-again e = image-written e (rw back made) ∙ rw back (renewed-is image h (restore-image r))

@@ -9,6 +9,7 @@ use Rattle.table.specs.Table.{standing}
 use Rattle.module_state.specs.declared.Claim.the-variants.{Elevated}
 use Rattle.module_state.specs.declared.Grants.{Grants}
 use Rattle.module_state.specs.declared.State.{State}
+use Rattle.module_state.specs.Module.{bothWords, granted, unprovisioned}
 use Rattle.calls.specs.Calls.{Call, Open, Close, Drop, Select, Start, Continue, Elevate, End, Record, Kill, number, fresh}
 use Rattle.calls.specs.Run.{step, run}
 use Rattle.calls.proofs.Sequences.{P, Q, R, session, credential, class, userYes, yes′, Step, _⇒_, callsOf, Answered, after}
@@ -29,9 +30,9 @@ opened = Type 0
 -- credential 0 has the classes 0 to 4, no other is provisioned; P is saved, with next number 3
 abbrev pub image : List ℕ
 image =
-    (1 ∷ 0 ∷ 8 ∷ 0 ∷ 10 ∷ 0 ∷ 1 ∷ 0 ∷ 42 ∷ 0 ∷ [])
+    (1 ∷ 0 ∷ 8 ∷ 0 ∷ 10 ∷ 0 ∷ 1 ∷ 0 ∷ 74 ∷ 0 ∷ [])
     ++ ((31 ∷ 0 ∷ 0 ∷ 0 ∷ [])
-    ++ (replicate 28 0
+    ++ (replicate 60 0
     ++ ((0 ∷ 0 ∷ 3 ∷ 0 ∷ []) ++ P .bytes)))
 
 abbrev pub recorded : ℕ → Call

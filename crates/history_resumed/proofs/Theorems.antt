@@ -44,7 +44,7 @@ use Rattle.history.proofs.Calls.{steps}
 use Rattle.history.proofs.Since.{follow-gone}
 use Rattle.history.proofs.Theorems.{tells-from, in-turn-from, demand3-told, claim-told-from}
 use Rattle.image.specs.declared.SavedRow.{SavedRow}
-use Rattle.image.specs.Image.{Image, isSavedOne, savedOf, savedIn, imageIn, savedProcess, isImage, restored, cycled, numbersBytes, imageOf, imageBytes, stateImage}
+use Rattle.image.specs.Image.{hasSeconds, secondsBytes, Image, isSavedOne, savedOf, savedIn, imageIn, savedProcess, isImage, restored, cycled, numbersBytes, imageOf, imageBytes, stateImage}
 use Rattle.image.proofs.Rows.{select-reject}
 use Rattle.image.proofs.Laws.{each-map, stands-is, image-back, image-state, state-fit, state-image, state-restored, stands-cycled}
 use Rattle.history_resumed.specs.Resumed.{toldBy, FromImage, cut}
@@ -201,8 +201,8 @@ module _ (pairs : List Grants) (eight : Eight pairs) where
   none-saved = rw (standing-of [])
 
   fresh-bytes : Bytes (stateImage begun)
-  unfolding stateImage imageBytes imageOf join
-  fresh-bytes = rw none-saved (each-bytes (each-append (numbers-each 2 _) (each-append (numbers-each wordSize _) each-nil)))
+  unfolding stateImage imageBytes imageOf secondsBytes hasSeconds join
+  fresh-bytes = rw none-saved (each-bytes (each-append (numbers-each 2 _) (each-append (numbers-each wordSize _) (each-append (numbers-each wordSize _) each-nil))))
 
   begun-is : IsState begun
   begun-is = state-fresh pairs eight

@@ -19,11 +19,11 @@ use Rattle.module_state.specs.declared.Grants.{Grants}
 use Rattle.module_state.specs.declared.Phase.the-variants.{Chosen}
 use Rattle.module_state.specs.declared.State.{State}
 use Rattle.image.specs.declared.SavedRow.{SavedRow}
-use Rattle.image.specs.Image.{maskAt, wordCountAt, wordOffsetAt, rowCountAt, rowOffsetAt, wordsAt, secondsAt, savedAt, oldSavedAt, savedOwnerAt, savedNextAt, savedNameAt, savedSize, isNew, isRowOffset, imageLong, numbersBytes, numbersIn, maskOf, grantIn, secondIn, secondsBytes, savedBytes, imageBytes, headIn, secondsFrom, grantsSaid, grantsIn, savedFrom, savedIn, imageIn, isOwner, isKeepable, differ, keep, headFits, wordsFit, imageFits, isImage, savedProcess, restored, savedRow, savedOf, imageOf, stateImage, renewed, cycled}
+use Rattle.image.specs.Image.{maskAt, wordCountAt, wordOffsetAt, rowCountAt, rowOffsetAt, wordsAt, secondsAt, savedAt, oldSavedAt, savedOwnerAt, savedNextAt, savedNameAt, savedSize, hasSeconds, isRowOffset, imageLong, numbersBytes, numbersIn, maskOf, grantIn, secondIn, secondsBytes, savedBytes, imageBytes, headIn, secondsFrom, grantsSaid, grantsIn, savedFrom, savedIn, imageIn, isOwner, isKeepable, differ, keep, headFits, wordsFit, imageFits, isImage, savedProcess, restored, savedRow, savedOf, imageOf, stateImage, renewed, cycled}
 
 -- all that an example computes with: who says `unfolding computed` has it open
 unfoldable pub computed : Type 1
-unfolding join padded select bytesOf numberOf numberAt rows every pairwise sameBytes sameName standing tableOf wordsOf isNew isRowOffset imageLong numbersBytes numbersIn maskOf grantIn secondIn secondsBytes savedBytes imageBytes headIn secondsFrom grantsSaid grantsIn savedFrom savedIn imageIn isOwner isKeepable differ headFits wordsFit imageFits isImage savedProcess restored savedRow savedOf imageOf stateImage renewed cycled
+unfolding join padded select bytesOf numberOf numberAt rows every pairwise sameBytes sameName standing tableOf wordsOf hasSeconds isRowOffset imageLong numbersBytes numbersIn maskOf grantIn secondIn secondsBytes savedBytes imageBytes headIn secondsFrom grantsSaid grantsIn savedFrom savedIn imageIn isOwner isKeepable differ headFits wordsFit imageFits isImage savedProcess restored savedRow savedOf imageOf stateImage renewed cycled
 computed = Type 0
 
 abbrev process : ℕ → Kind → ℕ → List ℕ → Process

@@ -40,7 +40,7 @@ use Rattle.module_rules.specs.Facts.{processes, Owned, Apart, FormedGrants, For
 use Rattle.module_rules.proofs.Laws.{provisioned-low}
 use Rattle.image.specs.declared.ImageHead.{ImageHead}
 use Rattle.image.specs.declared.SavedRow.{SavedRow}
-use Rattle.image.specs.Image.{maskAt, wordCountAt, wordOffsetAt, rowCountAt, rowOffsetAt, wordsAt, wordsSize, secondsAt, savedAt, oldSavedAt, savedSize, isNew, isRowOffset, imageLong, Image, numbersBytes, numbersIn, headNumbers, maskOf, grantIn, secondIn, secondsBytes, savedBytes, imageBytes, headIn, wordsFrom, secondsFrom, grantsSaid, grantsIn, savedFrom, savedIn, imageIn, isOwner, isKeepable, differ, keep, headFits, wordsFit, imageFits, isImage, savedProcess, moduleOf, restored, savedRow, isSavedOne, savedOf, imageOf, stateImage, renewed, cycled, imageRoom, SavedLie}
+use Rattle.image.specs.Image.{maskAt, wordCountAt, wordOffsetAt, rowCountAt, rowOffsetAt, wordsAt, wordsSize, secondsAt, savedAt, oldSavedAt, savedSize, hasSeconds, isRowOffset, imageLong, Image, numbersBytes, numbersIn, headNumbers, maskOf, grantIn, secondIn, secondsBytes, savedBytes, imageBytes, headIn, wordsFrom, secondsFrom, grantsSaid, grantsIn, savedFrom, savedIn, imageIn, isOwner, isKeepable, differ, keep, headFits, wordsFit, imageFits, isImage, savedProcess, moduleOf, restored, savedRow, isSavedOne, savedOf, imageOf, stateImage, renewed, cycled, imageRoom, SavedLie}
 use Rattle.image.proofs.Rows.{every-anything, Small, number-codec, numbers-long, mask-small, grant-is, second-is, words-fit, grants-back, grants-length, mask-back, words-back, grants-formed, NoSecond, said-zero, seconds-zero, RowFits, rows-long, saved-codec, each-select, pairs-select}
 
 -- ---- lists made by a function
@@ -54,16 +54,16 @@ module _ {A B : Type 0} (f : A → B) where
   pairs-map (pairs-cons p v) = pairs-cons (each-map p) (pairs-map v)
 
 -- ---- the rows lie at 74 in the new layout, and at 42 in the old one
-pub new-at : (offset : ℕ) → isNew offset ≡ true → offset ≡ savedAt
-unfolding isNew
+pub new-at : (offset : ℕ) → hasSeconds offset ≡ true → offset ≡ savedAt
+unfolding hasSeconds
 new-at offset e = eqb-true offset savedAt e
 
-pub old-at : (offset : ℕ) → isRowOffset offset ≡ true → isNew offset ≡ false → offset ≡ oldSavedAt
+pub old-at : (offset : ℕ) → isRowOffset offset ≡ true → hasSeconds offset ≡ false → offset ≡ oldSavedAt
 unfolding isRowOffset
 old-at offset e n = eqb-true offset oldSavedAt (rw n at e)
 
 pub offset-is : (offset : ℕ) → isRowOffset offset ≡ true → (offset ≡ savedAt) ⊎ (offset ≡ oldSavedAt)
-offset-is offset e = split (isNew offset) (λ n. inl (new-at offset n)) (λ n. inr (old-at offset e n))
+offset-is offset e = split (hasSeconds offset) (λ n. inl (new-at offset n)) (λ n. inr (old-at offset e n))
 
 pub offset-low : (offset : ℕ) → isRowOffset offset ≡ true → offset ≤ savedAt
 offset-low offset e = ⊎-elim (λ n. omega arith) (λ n. omega arith) (offset-is offset e)
@@ -236,18 +236,18 @@ unfolding numbersBytes join bytesOf
 head-long mask n offset = refl
 
 module _ (offset : ℕ) (l : List Grants) where
-  seconds-new : isNew offset ≡ true → secondsBytes offset l ≡ numbersBytes wordSize (map secondIn l)
+  seconds-new : hasSeconds offset ≡ true → secondsBytes offset l ≡ numbersBytes wordSize (map secondIn l)
   unfolding secondsBytes
   seconds-new n = rw n
 
-  seconds-old : isNew offset ≡ false → secondsBytes offset l ≡ []
+  seconds-old : hasSeconds offset ≡ false → secondsBytes offset l ≡ []
   unfolding secondsBytes
   seconds-old n = rw n
 
   -- in either layout the rows begin where the words before them end
   seconds-long : isRowOffset offset ≡ true → length l ≡ credentialCount → secondsAt + length (secondsBytes offset l) ≡ offset
   seconds-long o eight =
-      split (isNew offset)
+      split (hasSeconds offset)
       (λ n. rw (seconds-new n, numbers-long, length-map) (omega (arith, new-at offset n)))
       (λ n. rw (seconds-old n) (omega (arith, old-at offset o n)))
 
@@ -268,7 +268,7 @@ image-long i o eight n =
 
 -- the image of any state that a function has
 pub long-is : {st : State} → Wide st → length (stateImage st) ≡ imageRoom st
-unfolding stateImage imageOf imageRoom savedOf standing savedRow isNew isRowOffset
+unfolding stateImage imageOf imageRoom savedOf standing savedRow hasSeconds isRowOffset
 long-is {st} w =
     image-long (imageOf st) refl (w .credentials)
     (each-map savedRow (each-imp (λ p h. h .1) (each-select isSavedOne (each-take (st .table .count) (each-imp (λ p v. v .name) (w .each))))))
@@ -282,7 +282,7 @@ stands-is b = standing-of (map savedProcess (savedIn b))
 abbrev laid : ℕ → Image → Image
 laid offset i = record { offset = offset; grants = i .grants; saved = i .saved }
 
-renewed-new : (b : List ℕ) → isNew (headIn b .offset) ≡ true → renewed b ≡ b
+renewed-new : (b : List ℕ) → hasSeconds (headIn b .offset) ≡ true → renewed b ≡ b
 unfolding renewed
 renewed-new b n = rw n
 
@@ -297,7 +297,7 @@ pub record Fit (i : Image) : Type 0 where
   pub eight : length (i .grants) ≡ credentialCount
   pub words : Each FormedGrants (i .grants)
   -- "The reader still takes the old layout, second words zero"
-  pub seconds : isNew (i .offset) ≡ false → Each NoSecond (i .grants)
+  pub seconds : hasSeconds (i .offset) ≡ false → Each NoSecond (i .grants)
   pub few : length (i .saved) ≤ places
   pub each : Each RowFits (i .saved)
 
@@ -329,7 +329,7 @@ module _ {i : Image} (f : Fit i) where
   seconds-small : Each (Small wordSize) seconds
   seconds-small = each-map secondIn (each-imp (λ g v. rw (second-is g v) (v .words .second)) (f .words))
 
-  seconds-none : isNew (i .offset) ≡ false → seconds ≡ replicate credentialCount 0
+  seconds-none : hasSeconds (i .offset) ≡ false → seconds ≡ replicate credentialCount 0
   seconds-none n = rw (f .eight) at (seconds-zero (f .seconds n))
 
   mask-low : maskOf (i .grants) < 256
@@ -385,7 +385,7 @@ module _ {i : Image} (f : Fit i) where
   seconds-are : secondsFrom (i .offset) b ≡ seconds
   unfolding secondsFrom
   seconds-are =
-      split (isNew (i .offset))
+      split (hasSeconds (i .offset))
       (λ n. rw (n, from-seconds, seconds-new (i .offset) (i .grants) n) (eight-back seconds saved seconds-many seconds-small))
       (λ n. rw n (sym (seconds-none n)))
 
@@ -408,21 +408,21 @@ module _ {i : Image} (f : Fit i) where
       rw (head-is, count-is, row-offset-is, image-back) (and-both (eq-eqb (length b) (imageLong (i .offset) (length (i .saved))) long) fits)
 
   -- ---- and in the new layout they are the bytes of the same image there
-  renewed-parts : isNew (i .offset) ≡ false → renewed b ≡ take rowOffsetAt b ++ (bytesOf 2 savedAt ++ (numbersBytes wordSize firsts ++ (replicate wordsSize 0 ++ saved)))
+  renewed-parts : hasSeconds (i .offset) ≡ false → renewed b ≡ take rowOffsetAt b ++ (bytesOf 2 savedAt ++ (numbersBytes wordSize firsts ++ (replicate wordsSize 0 ++ saved)))
   unfolding renewed
   renewed-parts n =
       let words : take wordsSize (drop wordsAt b) ≡ numbersBytes wordSize firsts = rw from-words (take-at (numbersBytes wordSize firsts) behind wordsSize firsts-long) in
       let rows : drop oldSavedAt b ≡ saved = ap (λ (o : ℕ). drop o b) (sym (old-at (i .offset) (f .offset) n)) ∙ from-saved in
       rw (row-offset-is, n, words, rows)
 
-  renewed-old : isNew (i .offset) ≡ false → renewed b ≡ imageBytes (laid savedAt i)
-  unfolding imageBytes numbersBytes secondsBytes isNew join bytesOf
+  renewed-old : hasSeconds (i .offset) ≡ false → renewed b ≡ imageBytes (laid savedAt i)
+  unfolding imageBytes numbersBytes secondsBytes hasSeconds join bytesOf
   renewed-old n = renewed-parts n ∙ rw (seconds-none n)
 
   pub renewed-bytes : renewed b ≡ imageBytes (laid savedAt i)
   renewed-bytes =
-      split (isNew (i .offset))
-      (λ n. renewed-new b (ap isNew row-offset-is ∙ n) ∙ ap (λ (o : ℕ). imageBytes (laid o i)) (new-at (i .offset) n))
+      split (hasSeconds (i .offset))
+      (λ n. renewed-new b (ap hasSeconds row-offset-is ∙ n) ∙ ap (λ (o : ℕ). imageBytes (laid o i)) (new-at (i .offset) n))
       renewed-old
 
 -- ---- bytes that are an image: they are those of what they say
@@ -436,7 +436,7 @@ words-eight at b = length-map (rows credentialCount wordSize (drop at b)) number
 
 seconds-eight : (offset : ℕ) (b : List ℕ) → length (secondsFrom offset b) ≡ credentialCount
 unfolding secondsFrom
-seconds-eight offset b = split (isNew offset) (λ n. rw n (words-eight secondsAt b)) (λ n. rw n)
+seconds-eight offset b = split (hasSeconds offset) (λ n. rw n (words-eight secondsAt b)) (λ n. rw n)
 
 as-many : (offset : ℕ) (b : List ℕ) → length (secondsFrom offset b) ≡ length (wordsFrom wordsAt b)
 as-many offset b = seconds-eight offset b ∙ sym (words-eight wordsAt b)
@@ -467,7 +467,7 @@ module _ (b : List ℕ) (g : Bytes b) (e : isImage b ≡ true) where
   unfolding imageLong
   room = omega (arith, v .long, offset-high offset (v .head .offset))
 
-  room-new : isNew offset ≡ true → savedAt ≤ length b
+  room-new : hasSeconds offset ≡ true → savedAt ≤ length b
   unfolding imageLong
   room-new n = omega (arith, v .long, new-at offset n)
 
@@ -489,7 +489,7 @@ module _ (b : List ℕ) (g : Bytes b) (e : isImage b ≡ true) where
 
   seconds-fit : Each (Small wordSize) seconds′
   unfolding secondsFrom
-  seconds-fit = split (isNew offset) (λ n. rw n (words-small secondsAt (room-new n))) (λ n. rw n (each-replicate credentialCount 0 (omega arith)))
+  seconds-fit = split (hasSeconds offset) (λ n. rw n (words-small secondsAt (room-new n))) (λ n. rw n (each-replicate credentialCount 0 (omega arith)))
 
   saved-fit : Each RowFits (savedIn b)
   unfolding savedIn
@@ -501,7 +501,7 @@ module _ (b : List ℕ) (g : Bytes b) (e : isImage b ≡ true) where
       grants-formed (headIn b .mask) words seconds′ (words-small wordsAt room) seconds-fit
       (every-by (λ x q. q) (grantsSaid (headIn b .mask) words seconds′) (sound (imageIn b) (v .fits) .words))
 
-  no-seconds : isNew offset ≡ false → Each NoSecond (grantsIn b)
+  no-seconds : hasSeconds offset ≡ false → Each NoSecond (grantsIn b)
   unfolding grantsIn secondsFrom
   no-seconds n = rw n (said-zero (headIn b .mask) words credentialCount)
 
@@ -542,7 +542,7 @@ module _ (b : List ℕ) (g : Bytes b) (e : isImage b ≡ true) where
 
   seconds-forth : secondsBytes offset (grantsIn b) ++ drop offset b ≡ drop secondsAt b
   seconds-forth =
-      split (isNew offset)
+      split (hasSeconds offset)
       (λ n.
       let said : seconds′ ≡ wordsFrom secondsAt b = (unfold secondsFrom in rw n) in
       rw (seconds-new offset (grantsIn b) n, said-back .1, said, words-forth secondsAt (room-new n)) (ap (λ (o : ℕ). take wordsSize (drop secondsAt b) ++ drop o b) (new-at offset n) ∙ part-front wordsSize secondsAt b))
@@ -653,7 +653,7 @@ module _ (b : List ℕ) (g : Bytes b) (e : isImage b ≡ true) where
   renewed-is = rw again (sym (renewed-bytes (image-fit b g e)) ∙ ap renewed (image-forth b g e))
 
   -- ---- "Words, owners and rows in order have one image.", and it "holds among those of the new layout"
-  pub one-image : isNew (headIn b .offset) ≡ true → stateImage (restored b) ≡ b
+  pub one-image : hasSeconds (headIn b .offset) ≡ true → stateImage (restored b) ≡ b
   one-image n = renewed-is ∙ renewed-new b n
 
 -- ---- a state's image
@@ -671,7 +671,7 @@ module _ {st : State} (v : IsState st) where
   row-fits p f = record { owner = omega (arith, f .credential); next = f .next; name = f .name }
 
   pub state-fit : Fit (imageOf st)
-  unfolding imageOf savedOf isNew isRowOffset
+  unfolding imageOf savedOf hasSeconds isRowOffset
   state-fit =
       record {
         offset = refl;
@@ -708,9 +708,9 @@ module _ {st : State} (v : IsState st) where
   unfolding stateImage
   state-image = image-is state-fit state-fits
 
-  pub state-new : isNew (headIn (stateImage st) .offset) ≡ true
-  unfolding stateImage imageOf isNew
-  state-new = ap isNew (row-offset-is state-fit)
+  pub state-new : hasSeconds (headIn (stateImage st) .offset) ≡ true
+  unfolding stateImage imageOf hasSeconds
+  state-new = ap hasSeconds (row-offset-is state-fit)
 
   pub state-restored : restored (stateImage st) ≡ cycled st
   unfolding stateImage restored cycled
@@ -739,7 +739,7 @@ module _ {st : State} (v : IsState st) where
 -- ---- an image renewed is one of the new layout that makes the same module; renewed again it is itself
 pub record Renewed (b : List ℕ) : Type 0 where
   pub image : isImage (renewed b) ≡ true
-  pub new : isNew (headIn (renewed b) .offset) ≡ true
+  pub new : hasSeconds (headIn (renewed b) .offset) ≡ true
   pub once : renewed (renewed b) ≡ renewed b
   pub makes : restored (renewed b) ≡ restored b
 
@@ -752,14 +752,14 @@ module _ (b : List ℕ) (g : Bytes b) (e : isImage b ≡ true) where
   renewed-image =
       let v : IsState (restored b) = image-state b g e in
       let is : stateImage (restored b) ≡ renewed b = renewed-is b g e in
-      let new : isNew (headIn (renewed b) .offset) ≡ true = rw is at (state-new v) in
+      let new : hasSeconds (headIn (renewed b) .offset) ≡ true = rw is at (state-new v) in
       record { image = rw is at (state-image v); new = new; once = renewed-new (renewed b) new; makes = ap restored (sym is) ∙ state-restored v ∙ same-module }
 
 -- ---- two images that make one module: they are equal, or one is old and the other is its new one
 pub data Alike (a b : List ℕ) : Type 0 where
   same : a ≡ b → Alike a b
-  first-old : isNew (headIn a .offset) ≡ false → b ≡ renewed a → Alike a b
-  second-old : isNew (headIn b .offset) ≡ false → a ≡ renewed b → Alike a b
+  first-old : hasSeconds (headIn a .offset) ≡ false → b ≡ renewed a → Alike a b
+  second-old : hasSeconds (headIn b .offset) ≡ false → a ≡ renewed b → Alike a b
 
 module _ (a b : List ℕ) (g : Bytes a) (h : Bytes b) (p : isImage a ≡ true) (q : isImage b ≡ true) where
   -- they do exactly where they are equal in the new layout
@@ -781,10 +781,10 @@ module _ (a b : List ℕ) (g : Bytes a) (h : Bytes b) (p : isImage a ≡ true) (
   pub image-pairs : restored a ≡ restored b → Alike a b
   image-pairs e =
       let one : renewed a ≡ renewed b = image-across .0 e in
-      split (isNew (headIn a .offset))
-      (λ m. split (isNew (headIn b .offset)) (λ n. same (sym (renewed-new a m) ∙ one ∙ renewed-new b n)) (λ n. second-old n (sym (renewed-new a m) ∙ one)))
+      split (hasSeconds (headIn a .offset))
+      (λ m. split (hasSeconds (headIn b .offset)) (λ n. same (sym (renewed-new a m) ∙ one ∙ renewed-new b n)) (λ n. second-old n (sym (renewed-new a m) ∙ one)))
       (λ m.
-      split (isNew (headIn b .offset))
+      split (hasSeconds (headIn b .offset))
       (λ n. first-old m (sym (one ∙ renewed-new b n)))
       (λ n. same (image-once (old-at (headIn a .offset) (image a p .head .offset) m ∙ sym (old-at (headIn b .offset) (image b q .head .offset) n)) e)))
 
@@ -794,7 +794,7 @@ pub record Written (b : List ℕ) : Type 0 where
   pub is : IsState state
   pub bytes : stateImage state ≡ b
 
-pub image-exactly : (b : List ℕ) → Bytes b → ((isImage b ≡ true) × (isNew (headIn b .offset) ≡ true)) ↔ Written b
+pub image-exactly : (b : List ℕ) → Bytes b → ((isImage b ≡ true) × (hasSeconds (headIn b .offset) ≡ true)) ↔ Written b
 image-exactly b g = (
   λ e. record { state = restored b; is = image-state b g (e .0); bytes = one-image b g (e .0) (e .1) },
   λ v. (rw (v .bytes) at (state-image (v .is)), rw (v .bytes) at (state-new (v .is))),

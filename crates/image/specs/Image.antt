@@ -68,12 +68,12 @@ abbrev pub savedSize : ℕ
 savedSize = savedNameAt + nameLength
 
 -- the layouts are "told apart by the rows' offset": the new one has "rows at offset 74"
-unfoldable pub isNew : ℕ → Bool
-isNew offset = eqb offset savedAt
+unfoldable pub hasSeconds : ℕ → Bool
+hasSeconds offset = eqb offset savedAt
 
 -- and the old one "offset of rows 42". There is no third
 unfoldable pub isRowOffset : ℕ → Bool
-isRowOffset offset = isNew offset || eqb offset oldSavedAt
+isRowOffset offset = hasSeconds offset || eqb offset oldSavedAt
 
 -- "Its length is 42 + 52n", or 74 + 52n
 unfoldable pub imageLong : ℕ → ℕ → ℕ
@@ -110,7 +110,7 @@ unfoldable pub secondIn : Grants → ℕ
 secondIn g = wordsOf g .second
 
 unfoldable pub secondsBytes : ℕ → List Grants → List ℕ
-secondsBytes offset grants = cond (isNew offset) (numbersBytes wordSize (map secondIn grants)) []
+secondsBytes offset grants = cond (hasSeconds offset) (numbersBytes wordSize (map secondIn grants)) []
 
 -- ---- "then n rows of 52 bytes, .. credential 2, next number 2, name 48"
 unfoldable pub savedBytes : SavedRow → List ℕ
@@ -138,7 +138,7 @@ wordsFrom at b = numbersIn credentialCount wordSize (drop at b)
 
 -- "The reader still takes the old layout, second words zero"
 unfoldable pub secondsFrom : ℕ → List ℕ → List ℕ
-secondsFrom offset b = cond (isNew offset) (wordsFrom secondsAt b) (replicate credentialCount 0)
+secondsFrom offset b = cond (hasSeconds offset) (wordsFrom secondsAt b) (replicate credentialCount 0)
 
 -- a mask, grant words and second words, and the credentials that they say
 unfoldable pub grantsSaid : ℕ → List ℕ → List ℕ → List Grants
@@ -242,7 +242,7 @@ stateImage st = imageBytes (imageOf st)
 -- ---- an image in the new layout: of one of the old layout the head with the other offset, the same words, second words that are zero, the same rows
 unfoldable pub renewed : List ℕ → List ℕ
 renewed b =
-    cond (isNew (headIn b .offset)) b
+    cond (hasSeconds (headIn b .offset)) b
     (take rowOffsetAt b ++ (bytesOf 2 savedAt ++ (take wordsSize (drop wordsAt b) ++ (replicate wordsSize 0 ++ drop oldSavedAt b))))
 
 -- ---- what a state is after a power cycle

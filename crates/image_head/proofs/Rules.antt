@@ -20,7 +20,7 @@ use Rattle.table.specs.Table.{places}
 use Rattle.module_state.specs.Module.{credentialCount, wordSize}
 use Rattle.module_state.specs.declared.Grants.{Grants}
 use Rattle.image.specs.declared.ImageHead.{ImageHead}
-use Rattle.image.specs.Image.{maskAt, wordCountAt, wordOffsetAt, rowCountAt, rowOffsetAt, wordsAt, secondsAt, savedAt, oldSavedAt, isNew, isRowOffset, numbersIn, headIn, wordsFrom, secondsFrom, grantsSaid, grantsAmong, headFits}
+use Rattle.image.specs.Image.{maskAt, wordCountAt, wordOffsetAt, rowCountAt, rowOffsetAt, wordsAt, secondsAt, savedAt, oldSavedAt, hasSeconds, isRowOffset, numbersIn, headIn, wordsFrom, secondsFrom, grantsSaid, grantsAmong, headFits}
 use Rattle.image.proofs.Rows.{grants-length}
 
 -- ---- the numbers
@@ -30,11 +30,11 @@ unfolding headIn
 head-read b e f g p q = rw (e, f, g, p, q)
 
 pub offset-old : (offset : ℕ) → offset ≡ oldSavedAt → true ≡ isRowOffset offset
-unfolding isRowOffset isNew
+unfolding isRowOffset hasSeconds
 offset-old offset e = rw e
 
 pub offset-new : (offset : ℕ) → (offset ≡ oldSavedAt → ⊥) → eqb offset savedAt ≡ isRowOffset offset
-unfolding isRowOffset isNew
+unfolding isRowOffset hasSeconds
 offset-new offset n = rw (ne-eqb offset oldSavedAt n) (sym (or-false (eqb offset savedAt)))
 
 -- each number that does not fit is enough for a refusal, whatever the others are
@@ -76,11 +76,11 @@ module _ {b words₀ words : List ℕ} {at i : ℕ} (v : FilledBy numberOf crede
 
 module _ (b : List ℕ) (offset : ℕ) where
   pub seconds-new : offset ≡ savedAt → {words : List ℕ} → words ≡ wordsFrom secondsAt b → words ≡ secondsFrom offset b
-  unfolding secondsFrom isNew
+  unfolding secondsFrom hasSeconds
   seconds-new e p = p ∙ rw e
 
   pub seconds-old : (offset ≡ savedAt → ⊥) → replicate credentialCount 0 ≡ secondsFrom offset b
-  unfolding secondsFrom isNew
+  unfolding secondsFrom hasSeconds
   seconds-old n = rw (ne-eqb offset savedAt n)
 
 -- ---- the credentials: the first i are said, and the rest is what is left of the mask with the words from i on

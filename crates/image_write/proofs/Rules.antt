@@ -31,7 +31,7 @@ use Rattle.module_state.specs.declared.Grants.{Grants}
 use Rattle.module_state.specs.declared.State.{State}
 use Rattle.module_state.specs.declared.Words.{Words}
 use Rattle.image.specs.declared.SavedRow.{SavedRow}
-use Rattle.image.specs.Image.{maskAt, wordCountAt, wordOffsetAt, rowCountAt, rowOffsetAt, wordsAt, wordsSize, secondsAt, savedAt, savedOwnerAt, savedNextAt, savedNameAt, savedSize, isNew, imageLong, numbersBytes, headNumbers, maskOf, grantIn, secondIn, secondsBytes, savedBytes, imageBytes, savedRow, isSavedOne, savedRows, savedOf, imageOf, stateImage, imageRoom, lacksRoom, ImageWritten}
+use Rattle.image.specs.Image.{maskAt, wordCountAt, wordOffsetAt, rowCountAt, rowOffsetAt, wordsAt, wordsSize, secondsAt, savedAt, savedOwnerAt, savedNextAt, savedNameAt, savedSize, hasSeconds, imageLong, numbersBytes, headNumbers, maskOf, grantIn, secondIn, secondsBytes, savedBytes, imageBytes, savedRow, isSavedOne, savedRows, savedOf, imageOf, stateImage, imageRoom, lacksRoom, ImageWritten}
 use Rattle.image_write.proofs.Rows.{Masked, masked-none, masked-low, masked-on, masked-all, taken-none, taken-on, taken-all, worded-none, worded-length, worded-on, worded-all}
 
 -- ---- the mask
@@ -183,7 +183,7 @@ module _ (st : State) (old : List ℕ) {saved : ℕ} (e : saved ≡ length (save
     pub image-put : {mask : ℕ} {a b new : List ℕ} → mask ≡ maskOf (st .credentials)
         → Put 0 wordsAt (numbersBytes 2 (headNumbers mask saved savedAt)) old a → Put wordsAt (wordsSize + wordsSize) (numbersBytes wordSize (map grantIn (st .credentials)) ++ numbersBytes wordSize (map secondIn (st .credentials))) a b
         → Put savedAt (length (savedRows (standing (st .table))) * savedSize) (join (map savedBytes (savedRows (standing (st .table))))) b new → new ≡ over 0 (imageRoom st) (stateImage st) old
-    unfolding imageRoom imageLong stateImage imageBytes secondsBytes isNew imageOf savedOf
+    unfolding imageRoom imageLong stateImage imageBytes secondsBytes hasSeconds imageOf savedOf
     image-put m p q r = put-next (put-next p q (omega arith)) r (omega arith) .is ∙ rw (m, e) (simp append-assoc)
 
 pub image-written : {st : State} {old new : List ℕ} {long : ℕ} → long ≡ cond (lacksRoom st (length old)) 0 (imageRoom st) → new ≡ over 0 (imageRoom st) (stateImage st) old → ImageWritten st old long new
