@@ -7,6 +7,7 @@ use mathlib.Core.Bool.{true, false}
 use mathlib.Core.List.{List, [], _∷_, _++_}
 use Rattle.names.specs.declared.Kind.the-variants.{User}
 use Rattle.table.specs.Table.{tableOf}
+use Rattle.module_state.specs.Module.{bothWords}
 use Rattle.module_state.specs.declared.Claim.the-variants.{Elevated}
 use Rattle.module_state.specs.declared.State.{State}
 use Rattle.calls.specs.declared.Wanted.the-variants.{Every, Only}
@@ -164,6 +165,24 @@ notGranted =
     ∷ (End (session 0) (userYes 1 7) true ⇒ 0)
     ∷ []
 
+-- 18: "when a user claim gets the third answer": credential 1 gets classes 4 and 5, the latter only under elevation; the elevation is credential 0's
+abbrev onlyElevated : List Step
+onlyElevated =
+    (SetWord (session 0) (yes′ 0 0) (credential 1) (bothWords 0x30 0x60) ⇒ 0)
+    ∷ (Record (session 0) (yes′ 1 0) (class 5) ⇒ 18)
+    ∷ (Record (session 0) (yes′ 1 1) (class 4) ⇒ 0)
+    ∷ (Record (session 0) (yes′ 1 2) (class 6) ⇒ 10)
+    ∷ (SetWord (session 0) (yes′ 0 1) (credential 0) (bothWords 0x2f 0x2f) ⇒ 0)
+    ∷ (Record (session 0) (yes′ 0 2) (class 5) ⇒ 18)
+    ∷ (ListProcesses (session 0) (yes′ 0 3) Every 0 ⇒ 18)
+    ∷ (SetWord (session 0) (yes′ 0 4) (credential 7) (plain 0) ⇒ 18)
+    ∷ (End (session 0) (userYes 0 5) true ⇒ 18)
+    ∷ (Record (session 0) Elevated (class 5) ⇒ 0)
+    ∷ (ListProcesses (session 0) Elevated Every 208 ⇒ 0)
+    ∷ (SetWord (session 0) Elevated (credential 1) (plain 0x30) ⇒ 0)
+    ∷ (Record (session 0) (yes′ 1 3) (class 5) ⇒ 0)
+    ∷ []
+
 -- 11: "12 processes stand"; begun with these
 abbrev full : List Step
 full =
@@ -244,6 +263,7 @@ pub record Conditions : Type 0 where
   pub spent-refused : Answered (cameTo 65534) spentRefused
   pub spent-closed : Answered (cameTo 65535) spentClosed
   pub number-15 : Answered four room
+  pub number-18 : Answered four onlyElevated
 
 pub conditions : Conditions
 unfolding computed
@@ -266,4 +286,5 @@ conditions =
       spent-refused = refl;
       spent-closed = refl;
       number-15 = refl;
+      number-18 = refl;
     }

@@ -13,11 +13,15 @@ use Rattle.rows.specs.Rows.{every}
 use Rattle.names.specs.declared.Session.{Session}
 use Rattle.module_state.specs.Numbers as No
 use Rattle.module_state.specs.Numbers.{_unless_, _▸_}
-use Rattle.module_state.specs.Claim.{checked, admitted, grantNumber, passedBy}
+use Rattle.module_state.specs.Claim.{phaseNumber, claimView, turnNumber, claimNumber, checkNumber, checkOf, checked, admitted, grantNumber, passedBy}
 use Rattle.module_state.specs.declared.Checked.{Checked}
 use Rattle.module_state.specs.declared.Claim.{Claim}
+use Rattle.module_state.specs.declared.Claim.the-variants.{Elevated, ByUser}
+use Rattle.module_state.specs.declared.ClaimView.{ClaimView}
 use Rattle.module_state.specs.declared.Class.{Class}
+use Rattle.module_state.specs.declared.Phase.{Phase}
 use Rattle.module_state.specs.declared.State.{State}
+use Rattle.module_state.specs.declared.UserClaim.{UserClaim}
 use Rattle.module_state.proofs.Laws.{stop, pass, three-passed, three-stop, three-stopped, three-done, by-when, by-unless, by-then, by-grant, clear-first, clear-rest, checked-number}
 use Rattle.calls.specs.Calls.{Call, Open, Close, Drop, Select, Start, Continue, Elevate, End, Record, ListProcesses, Kill, SetWord, listOthers, saveOwn, setWords, Protection, Free, Under, protection, Tests, endTests, recordTests, listTests, killTests, setWordTests, tests, asked, numberUnder, number, counted, effect, aheadNumber, protectedNumber, passes, refusedAfter, charged, left, outcome}
 use Rattle.calls.specs.declared.Outcome.{Outcome}
@@ -158,6 +162,51 @@ unfolding any every
 one-passes f n [] h e = clash h refl
 one-passes f n (x ∷ l) h e =
     split (eqb n x) (λ q. ap f (eqb-true n x q) ∙ and-left (f x) (every f l) e) (λ q. one-passes f n l (rw q at h) (and-right (f x) (every f l) e))
+
+-- ---- and those that the check of a claim gives: 1, 2 and 3, and the claim's own
+abbrev pub ofCheck : List ℕ
+ofCheck =
+    No.done
+    ∷ No.argument
+    ∷ No.session
+    ∷ No.noVersion
+    ∷ No.credential
+    ∷ No.noProcess
+    ∷ No.spent
+    ∷ No.outOfTurn
+    ∷ No.verdict
+    ∷ []
+
+abbrev IsOfCheck : ℕ → Type 0
+IsOfCheck n = any (eqb n) ofCheck ≡ true
+
+check-turn : (next : ℕ) (u : UserClaim) → IsOfCheck (turnNumber next u)
+unfolding any turnNumber
+check-turn next u =
+    by-then IsOfCheck _ _ (by-when IsOfCheck refl No.spent _ refl)
+    (by-then IsOfCheck _ _ (by-unless IsOfCheck refl No.outOfTurn _ refl) (by-unless IsOfCheck refl No.verdict _ refl))
+
+check-claim : (claim : Claim) (view : ClaimView) → IsOfCheck (claimNumber claim view)
+unfolding any claimNumber
+check-claim Elevated view = by-unless IsOfCheck refl No.noProcess _ refl
+check-claim (ByUser u) view =
+    by-then IsOfCheck _ _ (by-unless IsOfCheck refl No.credential _ refl)
+    (by-then IsOfCheck _ _ (by-unless IsOfCheck refl No.noProcess _ refl) (check-turn (view .next) u))
+
+check-phase : (s : Session) (phase : Phase) → IsOfCheck (phaseNumber s phase)
+unfolding any phaseNumber
+check-phase s phase =
+    by-then IsOfCheck _ _ (by-unless IsOfCheck refl No.argument _ refl)
+    (by-then IsOfCheck _ _ (by-when IsOfCheck refl No.session _ refl) (by-unless IsOfCheck refl No.noVersion _ refl))
+
+check-number : (st : State) (s : Session) (claim : Claim) → IsOfCheck (checked st s claim .number)
+unfolding any checked checkOf checkNumber
+check-number st s claim =
+    by-then IsOfCheck _ _ (by-unless IsOfCheck refl No.argument _ refl)
+    (by-then IsOfCheck _ _ (check-phase s (claimView st s claim .phase)) (check-claim claim (claimView st s claim)))
+
+pub check-passes : (f : ℕ → Bool) → every f ofCheck ≡ true → (st : State) (s : Session) (claim : Claim) → f (checked st s claim .number) ≡ true
+check-passes f e st s claim = one-passes f _ ofCheck (check-number st s claim) e
 
 module _ (st : State) where
   is-grant : (by : Checked) (class : Class) → IsAfter (grantNumber by class)

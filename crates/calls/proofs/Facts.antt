@@ -34,12 +34,12 @@ use Rattle.module_state.specs.declared.Phase.the-variants.{Chosen}
 use Rattle.module_state.specs.declared.SessionState.{SessionState}
 use Rattle.module_state.specs.declared.State.{State}
 use Rattle.module_state.specs.declared.UserClaim.{UserClaim}
-use Rattle.module_state.proofs.Laws.{unless-false, clear-first, clear-rest, clear-when, clear-unless, by-when, by-unless, by-then, by-grant, by-check, passed-check, passed-user}
+use Rattle.module_state.proofs.Laws.{unless-false, clear-first, clear-rest, clear-when, clear-unless, by-when, by-unless, by-then, by-grant, passed-check, passed-user}
 use Rattle.calls.specs.declared.Answer.the-variants.{Done, RefusedClaim}
 use Rattle.calls.specs.declared.Outcome.{Outcome}
 use Rattle.calls.specs.Calls.{Call, Open, Close, Select, Start, Continue, Elevate, Drop, End, Record, ListProcesses, Kill, SetWord, killOthers, isVersion, hasNamed, reach, endTests, recordTests, listTests, killTests, setWordTests, asked, number, counted, effect, protection, aheadNumber, protectedNumber, passes, charged, left, answerNumber, refusal, outcome, fresh}
 use Rattle.calls.specs.Run.{step}
-use Rattle.calls.proofs.Cut.{left-passed, left-stopped, accepted}
+use Rattle.calls.proofs.Cut.{check-passes, left-passed, left-stopped, accepted}
 use Rattle.calls.proofs.Laws.{outcome-done, outcome-refused, answer-number}
 
 -- ---- a number is one of the page's, and so a refusal's is, and not 0
@@ -64,20 +64,8 @@ unfolding entered phaseNumber
 known-entered st s = search known
 
 known-checked : (st : State) (s : Session) (claim : Claim) → No.IsKnown (checked st s claim .number)
-known-checked st s claim =
-    by-check No.IsKnown
-    (record {
-      n0 = done-known;
-      n1 = record { is = refl };
-      n2 = record { is = refl };
-      n3 = record { is = refl };
-      n5 = record { is = refl };
-      n6 = record { is = refl };
-      n8 = record { is = refl };
-      n9 = record { is = refl };
-      n13 = record { is = refl };
-    })
-    st s claim
+unfolding every
+known-checked st s claim = record { is = check-passes No.isKnown refl st s claim }
 
 known-grant : (by : Checked) (class : Class) → No.IsKnown (grantNumber by class)
 known-grant = by-grant No.IsKnown done-known (record { is = refl }) (record { is = refl })

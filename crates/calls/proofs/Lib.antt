@@ -7,4 +7,5 @@ pub mod Worked
 pub mod Orders
 pub mod Conditions
 pub mod Spending
+pub mod Elevations
 pub mod Unique

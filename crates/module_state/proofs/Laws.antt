@@ -95,41 +95,6 @@ module _ (P : ℕ → Type 0) where
   unfolding grantNumber
   by-grant none clear marked by class = by-lookup none clear marked (by .claim) (lookup (by .grants) class)
 
--- the numbers that the check of a claim gives: 1, 2 and 3, and the claim's own
-pub record OfCheck (P : ℕ → Type 0) : Type 0 where
-  pub n0 : P 0
-  pub n1 : P 1
-  pub n2 : P 2
-  pub n3 : P 3
-  pub n5 : P 5
-  pub n6 : P 6
-  pub n8 : P 8
-  pub n9 : P 9
-  pub n13 : P 13
-
-module _ (P : ℕ → Type 0) (v : OfCheck P) where
-  by-phase : (s : Session) (phase : Phase) → P (phaseNumber s phase)
-  unfolding phaseNumber
-  by-phase s phase =
-      by-then P _ _ (by-unless P (v .n0) 1 _ (v .n1)) (by-then P _ _ (by-when P (v .n0) 2 _ (v .n2)) (by-unless P (v .n0) 3 _ (v .n3)))
-
-  by-turn : (next : ℕ) (u : UserClaim) → P (turnNumber next u)
-  unfolding turnNumber
-  by-turn next u =
-      by-then P _ _ (by-when P (v .n0) 13 _ (v .n13)) (by-then P _ _ (by-unless P (v .n0) 9 _ (v .n9)) (by-unless P (v .n0) 8 _ (v .n8)))
-
-  by-claim : (claim : Claim) (view : ClaimView) → P (claimNumber claim view)
-  unfolding claimNumber
-  by-claim Elevated view = by-unless P (v .n0) 6 _ (v .n6)
-  by-claim (ByUser u) view =
-      by-then P _ _ (by-unless P (v .n0) 5 _ (v .n5)) (by-then P _ _ (by-unless P (v .n0) 6 _ (v .n6)) (by-turn (view .next) u))
-
-  -- what holds of each of them holds of the check's number
-  pub by-check : (st : State) (s : Session) (claim : Claim) → P (checked st s claim .number)
-  unfolding checked checkOf checkNumber
-  by-check st s claim =
-      by-then P _ _ (by-unless P (v .n0) 1 _ (v .n1)) (by-then P _ _ (by-phase s (claimView st s claim .phase)) (by-claim claim (claimView st s claim)))
-
 -- ---- what an accepted row of tests says: none holds
 pub clear-first : (n m : ℕ) → n ▸ m ≡ 0 → n ≡ 0
 unfolding _▸_
