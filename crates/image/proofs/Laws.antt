@@ -1,5 +1,5 @@
--- "Words, owners and rows in order have one image.": an image is the bytes of what it holds, and of the module that it makes; and a state's image makes the module
--- that the state is after a power cycle.
+-- "Words, owners and rows in order have one image.", which "holds among those of the new layout": an image is the bytes of what it holds, in its own layout; in
+-- the new one it is those of the module that it makes; and a state's image makes the module that the state is after a power cycle.
 -- Assumes nothing.
 use Prim.Native.Nat.{ℕ, _+_, _-_, _*_, _<_, _≤_}
 use mathlib.Core.Path.{_≡_, refl, sym, ap, _∙_}
@@ -279,7 +279,7 @@ unfolding restored imageIn
 stands-is b = standing-of (map savedProcess (savedIn b))
 
 -- ---- an image with its rows from another offset on
-abbrev laid : ℕ → Image → Image
+abbrev pub laid : ℕ → Image → Image
 laid offset i = record { offset = offset; grants = i .grants; saved = i .saved }
 
 renewed-new : (b : List ℕ) → hasSeconds (headIn b .offset) ≡ true → renewed b ≡ b
@@ -419,7 +419,7 @@ module _ {i : Image} (f : Fit i) where
   unfolding imageBytes numbersBytes secondsBytes hasSeconds join bytesOf
   renewed-old n = renewed-parts n ∙ rw (seconds-none n)
 
-  pub renewed-bytes : renewed b ≡ imageBytes (laid savedAt i)
+  renewed-bytes : renewed b ≡ imageBytes (laid savedAt i)
   renewed-bytes =
       split (hasSeconds (i .offset))
       (λ n. renewed-new b (ap hasSeconds row-offset-is ∙ n) ∙ ap (λ (o : ℕ). imageBytes (laid o i)) (new-at (i .offset) n))
