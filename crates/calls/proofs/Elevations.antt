@@ -1,7 +1,7 @@
 -- Order 7, "Some classes only under elevation": the three answers of the lookup by the two bits, what a claim gets by them, and worked steps.
 -- Assumes nothing.
 use Prim.Native.Nat.{ℕ, _^_}
-use mathlib.Core.Path.{_≡_, refl, sym, ap, _∙_}
+use mathlib.Core.Path.{_≡_, refl}
 use mathlib.Core.Logic.{_≢_}
 use mathlib.Core.Bool.{Bool, true, false, cond, not}
 use mathlib.Core.List.{List, [], _∷_, map}
@@ -16,7 +16,6 @@ use Rattle.names.specs.declared.Name.{Name}
 use Rattle.names.specs.declared.Session.{Session}
 use Rattle.table.specs.Table.{standing}
 use Rattle.table.specs.declared.Among.the-variants.{All, Of}
-use Rattle.module_state.specs.Numbers as No
 use Rattle.module_state.specs.Module.{hasBit, bothWords, granted, unprovisioned, lookup}
 use Rattle.module_state.specs.Claim.{checked, checkOf, lookupNumber, grantNumber}
 use Rattle.module_state.specs.declared.Checked.{Checked}

@@ -9,6 +9,7 @@ use lib.Dec.{eqb}
 use lib.ListN.{getD, set}
 use Rattle.lists.specs.Lists.{any}
 use Rattle.lists.proofs.Tests.{split, clash}
+use Rattle.rows.specs.Rows.{every}
 use Rattle.names.specs.Names.{sameName}
 use Rattle.lists.proofs.Lists.{getD-same}
 use Rattle.names.specs.declared.Credential.{Credential}
@@ -20,15 +21,13 @@ use Rattle.table.specs.declared.Among.the-variants.{All, Of}
 use Rattle.table.specs.declared.Process.{Process}
 use Rattle.module_state.specs.Numbers as No
 use Rattle.module_state.specs.Numbers.{_when_, _unless_, _▸_}
-use Rattle.module_state.specs.Module.{isSession, closedSession, phaseOf, isClosed, isChosen, grantsOf, provisioned, lookup, hasActive, activeProcess, sessionCount}
-use Rattle.module_state.specs.Claim.{phaseNumber, entered, sought, speaker, claimView, isSpent, turnNumber, claimNumber, checkNumber, checkOf, checked, admitted, lookupNumber, grantNumber}
+use Rattle.module_state.specs.Module.{isSession, closedSession, phaseOf, isClosed, isChosen, provisioned, hasActive, activeProcess, sessionCount}
+use Rattle.module_state.specs.Claim.{phaseNumber, entered, sought, speaker, claimView, isSpent, checkOf, checked, admitted, grantNumber}
 use Rattle.module_state.specs.declared.Checked.{Checked}
 use Rattle.module_state.specs.declared.Claim.{Claim}
 use Rattle.module_state.specs.declared.Claim.the-variants.{Elevated, ByUser}
-use Rattle.module_state.specs.declared.ClaimView.{ClaimView}
 use Rattle.module_state.specs.declared.Class.{Class}
 use Rattle.module_state.specs.declared.Grants.{Grants}
-use Rattle.module_state.specs.declared.Lookup.the-variants.{NotGranted}
 use Rattle.module_state.specs.declared.Phase.{Phase}
 use Rattle.module_state.specs.declared.Phase.the-variants.{Chosen}
 use Rattle.module_state.specs.declared.SessionState.{SessionState}

@@ -181,7 +181,12 @@ fn pairs_of(provisioned: &[u8], words: &[u32], seconds: &[u32]) -> [Grants; CRED
 }
 
 #[no_mangle]
-pub extern "C" fn slavotuk_fresh(state: &mut [u8], provisioned: &[u8], words: &[u32], seconds: &[u32]) -> u32
+pub extern "C" fn slavotuk_fresh(
+    state: &mut [u8],
+    provisioned: &[u8],
+    words: &[u32],
+    seconds: &[u32],
+) -> u32
     ensures { λ r. ⌜ FreshEntry (now (state .entry)) (handed (now (provisioned .entry)) (now (words .entry)) (now (seconds .entry))) r (now (state .exit)) ⌝ }
 {
     if state.len() != STATE_LENGTH {

@@ -134,7 +134,7 @@ chain-restored slice =
 
 -- ---- a host that writes an image after each call that changes it, in a buffer that is long enough for every one
 abbrev buffer : List ℕ
-buffer = replicate 666 0
+buffer = replicate 698 0
 
 module _ (st : State) (v : IsState st) where
   called-on : {call : Call} {n : ℕ} → Fits call → number st call ≡ n → Entered (lent st) (Called true call n) (lent (step st call))

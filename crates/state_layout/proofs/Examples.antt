@@ -27,13 +27,13 @@ computed = Type 0
 abbrev process : ℕ → Kind → ℕ → ℕ → List ℕ → Process
 process c k s n name = record { credential = record { 0 = c }; kind = k; session = record { 0 = s }; next = n; name = record { bytes = name } }
 
--- sessions 0 and 1 are open, 0 with version 1.0; credentials 0 (word 15) and 1 (word 16, second word 0x1234) are provisioned. P is credential 0's active user process in
+-- sessions 0 and 1 are open, 0 with version 1.0; credentials 0 (word 15) and 1 (word 16, second word 16) are provisioned. P is credential 0's active user process in
 -- session 0, its next number 3; Q is a saved one of credential 1, its next number 300; R is the elevation of credential 1 in session 0
 abbrev drawn : State
 drawn =
     record {
       sessions = record { phase = Chosen } ∷ record { phase = Opened } ∷ replicate 2 closedSession;
-      credentials = granted (bothWords 15 0) ∷ granted (bothWords 16 0x1234) ∷ replicate 6 unprovisioned;
+      credentials = granted (bothWords 15 0) ∷ granted (bothWords 16 16) ∷ replicate 6 unprovisioned;
       table = tableOf (process 0 User 0 3 P ∷ process 1 Saved 0 300 Q ∷ process 1 Elevation 0 0 R ∷ []);
     }
 
@@ -43,7 +43,7 @@ bytes =
     (2 ∷ 1 ∷ 0 ∷ 0 ∷ [])
     -- at 4: the credentials
     ++ ((1 ∷ 15 ∷ 0 ∷ 0 ∷ 0 ∷ 0 ∷ 0 ∷ 0 ∷ 0 ∷ [])
-    ++ ((1 ∷ 16 ∷ 0 ∷ 0 ∷ 0 ∷ 0x34 ∷ 0x12 ∷ 0 ∷ 0 ∷ [])
+    ++ ((1 ∷ 16 ∷ 0 ∷ 0 ∷ 0 ∷ 16 ∷ 0 ∷ 0 ∷ 0 ∷ [])
     ++ (replicate 54 0
     -- at 76: the count
     ++ (3

@@ -103,7 +103,7 @@ fn list(state: &mut [u8], number: u16, response: &mut [u8]) {
     say(long as u64);
 }
 
-// "Credentials 0 (word 15) and 1 (word 16) are provisioned."
+// "Credentials 0 (word 15) and 1 (word 16) are provisioned." No class is granted only under elevation.
 fn fresh(state: &mut [u8]) {
     let mut provisioned = [0u8; CREDENTIALS];
     let mut words = [0u32; CREDENTIALS];
@@ -111,7 +111,8 @@ fn fresh(state: &mut [u8]) {
     words[0] = 15;
     provisioned[1] = 1;
     words[1] = 16;
-    entries_unprotected::slavotuk_fresh(state, &provisioned, &words);
+    let seconds = [0u32; CREDENTIALS];
+    entries_unprotected::slavotuk_fresh(state, &provisioned, &words, &seconds);
 }
 
 fn step1(state: &mut [u8]) {
