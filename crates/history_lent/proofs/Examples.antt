@@ -16,6 +16,7 @@ use Rattle.rows.specs.Bytes.{Bytes}
 use Rattle.rows.specs.Rows.{every, over}
 use Rattle.names.specs.Names.{zeroName}
 use Rattle.names.specs.declared.Name.{Name}
+use Rattle.module_state.specs.Module.{bothWords, noWords}
 use Rattle.module_state.specs.Numbers.{_when_, _unless_, _▸_}
 use Rattle.module_state.specs.declared.Claim.the-variants.{Elevated}
 use Rattle.module_state.specs.declared.State.{State}
@@ -204,7 +205,7 @@ restore-on slice e =
 
 -- the flash's image in the end: P was continued, so it has no row
 abbrev rowless : List ℕ
-rowless = (1 ∷ 0 ∷ 8 ∷ 0 ∷ 10 ∷ 0 ∷ 0 ∷ 0 ∷ 42 ∷ 0 ∷ []) ++ ((31 ∷ 0 ∷ 0 ∷ 0 ∷ []) ++ replicate 28 0)
+rowless = (1 ∷ 0 ∷ 8 ∷ 0 ∷ 10 ∷ 0 ∷ 0 ∷ 0 ∷ 74 ∷ 0 ∷ []) ++ ((31 ∷ 0 ∷ 0 ∷ 0 ∷ []) ++ replicate 60 0)
 
 abbrev end : Slices
 end = lent (after (Image.restored image) resuming)

@@ -174,7 +174,7 @@ name-whole part = split (eqb (length part) 48) (λ e. rw e (eqb-true (length par
 
 -- ---- and the pairs of a fresh module are eight, each word being a number of 32 bits
 words-fit : (flags words seconds : List ℕ) → ((i : ℕ) → IsWord (getD words i 0)) → ((i : ℕ) → IsWord (getD seconds i 0)) → Each (λ g. AreWords (g .words)) (pairsFrom flags words seconds)
-unfolding pairsOf
+unfolding pairsFrom
 words-fit [] words seconds h k = each-nil
 words-fit (flag ∷ flags) [] seconds h k = each-nil
 words-fit (flag ∷ flags) (word ∷ words) [] h k = each-nil
