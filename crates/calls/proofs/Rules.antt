@@ -280,14 +280,9 @@ module _ (st : State) (at : ℕ) {keep : Bool} {t : Table} {r : State} where
   ended-removed k c d = d ∙ rw (c, k)
 
 -- ---- a fresh module
-module _ (pair : Grants) where
-  pub taken-whole : pair .provisioned ≡ true → pair ≡ taken pair
-  unfolding taken wordsOf
-  taken-whole e = rw e
-
-  pub taken-zero : pair .provisioned ≡ false → _≡_ {A = Grants} (unprovisioned) (taken pair)
-  unfolding taken wordsOf
-  taken-zero e = rw e
+pub taken-is : (pair : Grants) {words : Words} → words ≡ wordsOf pair → _≡_ {A = Grants} (record { provisioned = pair .provisioned; words = words }) (taken pair)
+unfolding taken
+taken-is pair e = rw e
 
 pub take-on : {l₀ l : List Grants} {i : ℕ} {g : Grants} → Mapped taken l₀ l i → length l₀ ≡ credentialCount → i < credentialCount → g ≡ taken (getD l i unprovisioned) → Mapped taken l₀ (set l i g) (i + 1)
 take-on v h k e = rw e (mapped-more v unprovisioned (omega arith))
@@ -400,4 +395,4 @@ pub effect-list : (st : State) {x : State} (s : Session) (claim : Claim) (wanted
 unfolding effect
 effect-list st s claim wanted room e = e
 
-pub ruleset rules = (claim-rules, by-refusal, by-effect, both-stop, both-pass, known-stop, known-pass, phase-outside, grants-outside, active-none, active-some, named-none, named-some, full-is, version-is, device-high, device-low, asked-when, not-asked, asked-unless, own-unless, none-ahead, wanted-every, wanted-only, among-every, among-only, own-every, own-only, length-fits, length-whole, length-is, short-room, enough-room, measured-done, refused-measured, number-measured, reach-all, reach-own, kill-none, kill-found, kill-place, kill-at, next-fits, counted-is, counted-elevated, checked-user, ended-kept, ended-removed, taken-whole, taken-zero, mapped-none, take-on, fresh-is, effect-open, effect-select, effect-close, effect-start, effect-elevate, effect-continue, effect-drop, effect-end, effect-kill, effect-set-word, effect-record, effect-list, record-number, list-number, kill-number, set-word-number, end-number, asked-clear, placed-clear, measured-clear, list-is)
+pub ruleset rules = (claim-rules, by-refusal, by-effect, both-stop, both-pass, known-stop, known-pass, phase-outside, grants-outside, active-none, active-some, named-none, named-some, full-is, version-is, device-high, device-low, asked-when, not-asked, asked-unless, own-unless, none-ahead, wanted-every, wanted-only, among-every, among-only, own-every, own-only, length-fits, length-whole, length-is, short-room, enough-room, measured-done, refused-measured, number-measured, reach-all, reach-own, kill-none, kill-found, kill-place, kill-at, next-fits, counted-is, counted-elevated, checked-user, ended-kept, ended-removed, taken-is, mapped-none, take-on, fresh-is, effect-open, effect-select, effect-close, effect-start, effect-elevate, effect-continue, effect-drop, effect-end, effect-kill, effect-set-word, effect-record, effect-list, record-number, list-number, kill-number, set-word-number, end-number, asked-clear, placed-clear, measured-clear, list-is)

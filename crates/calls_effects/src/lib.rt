@@ -10,7 +10,6 @@ use module_state::Phase;
 use module_state::SESSIONS;
 use module_state::SessionState;
 use module_state::State;
-use module_state::UNPROVISIONED;
 use names::Credential;
 use names::Kind;
 use names::Name;
@@ -171,10 +170,10 @@ pub fn ended(st: State, at: usize, keep: bool) -> State
 fn taken(pair: Grants) -> Grants
     ensures { λ r. ⌜ r ≡ taken pair ⌝ }
 {
-    if pair.provisioned {
-        pair
-    } else {
-        UNPROVISIONED
+    let words = module_state::words_of(pair);
+    Grants {
+        provisioned: pair.provisioned,
+        words: words,
     }
 }
 
