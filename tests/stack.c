@@ -11,6 +11,7 @@
 #include <ucontext.h>
 
 #include "slavotuk.h"
+#include "old_layout.h"
 
 enum { STACK = 256 * 1024, PAINT = 0xa5, BEFORE = 6 };
 
@@ -156,14 +157,10 @@ static void no_image(void)
 }
 static void imaged(void) { all_saved(); image0(); }
 
-/* The same in the old layout: without second words, the rows where they stood. */
 static void imaged_old(void)
 {
     imaged();
-    image[8] = SLAVOTUK_IMAGE_OLD_HEADER_SIZE;
-    image_length -= SLAVOTUK_IMAGE_HEADER_SIZE - SLAVOTUK_IMAGE_OLD_HEADER_SIZE;
-    memmove(image + SLAVOTUK_IMAGE_OLD_HEADER_SIZE, image + SLAVOTUK_IMAGE_HEADER_SIZE,
-            image_length - SLAVOTUK_IMAGE_OLD_HEADER_SIZE);
+    image_length = to_old_layout(image, image, image_length);
 }
 static void listed(void) { full(); list0(); write_request0(); }
 

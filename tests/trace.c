@@ -16,6 +16,7 @@
 #include <sys/mman.h>
 
 #include "slavotuk.h"
+#include "old_layout.h"
 
 /* Where the page of marks lies, and which byte of it is stored to; trace/src/marks.rs has the same. */
 #define MARKS ((volatile uint8_t *)0x30000000)
@@ -26,6 +27,7 @@ enum { PLACES = SLAVOTUK_PROCESSES, NAME = SLAVOTUK_NAME_SIZE, PAIRS = PLACES * 
 /* Where names lie in a state (docs/STATE.md) and in an image (docs/IMAGE.md): last in a place, and places last; last in a row. */
 enum { NAME_IN_PLACE = 5, PLACE_SIZE = NAME_IN_PLACE + NAME, PLACES_AT = SLAVOTUK_STATE_SIZE - PLACE_SIZE * PLACES };
 enum { ROWS_AT = SLAVOTUK_IMAGE_HEADER_SIZE, ROW_SIZE = SLAVOTUK_IMAGE_ROW_SIZE, NAME_IN_ROW = ROW_SIZE - NAME };
+enum { OLD_ROWS_AT = SLAVOTUK_IMAGE_OLD_HEADER_SIZE, OLD_IMAGE_SIZE = SLAVOTUK_IMAGE_SIZE - SECOND_WORDS_SIZE };
 
 /* Drawn names differ from their first byte on. On the board of the accident all began with 16 bytes of zero. */
 enum { DRAWN, ZEROS_IN_FRONT, SETS };
@@ -38,6 +40,7 @@ static const char *const tail_names[TAILS] = {"tail alike", "tail different"};
 static uint8_t state[SLAVOTUK_STATE_SIZE];
 static uint8_t name[NAME];
 static uint8_t image[SLAVOTUK_IMAGE_SIZE];
+static uint8_t old_image[OLD_IMAGE_SIZE];
 
 /* What a case begins with, of each set of names. */
 static uint8_t names[SETS][PLACES][NAME];
@@ -230,6 +233,7 @@ static uint32_t continue_it(void) { return slavotuk_continue(MODULE, 3, 0, NAMED
 static uint32_t elevate_it(void) { return slavotuk_elevate(MODULE, 3, 7, NAMED, 1); }
 static uint32_t holds_it(void) { return slavotuk_holds(MODULE); }
 static uint32_t restore_it(void) { return slavotuk_restore(MODULE, image, sizeof image); }
+static uint32_t restore_old_it(void) { return slavotuk_restore(MODULE, old_image, sizeof old_image); }
 
 /* ---- groups */
 
@@ -277,6 +281,12 @@ static void pair_up_rows(const struct spot *spot)
     differing(name_in_row(image, pair->other), names[spot->set][pair->one], spot, one_bit(spot));
 }
 
+static void pair_up_old_rows(const struct spot *spot)
+{
+    pair_up_rows(spot);
+    to_old_layout(old_image, image, sizeof image);
+}
+
 /* The name that a call is handed stands at the place, and all others differ from it, and from each other, at the byte. */
 static void surround(const struct spot *spot)
 {
@@ -299,6 +309,7 @@ static const struct group groups[] = {
     {"holds, 12 standing", full, pair_up, holds_it, SLAVOTUK_DONE, 1, 0, PAIRS, NAME, 0},
     {"holds, two share a digest", full, share_digest, holds_it, SLAVOTUK_DONE, 1, 0, 1, BEFORE_LAST, 0},
     {"restore, 12 rows", full, pair_up_rows, restore_it, SLAVOTUK_DONE, 1, 0, PAIRS, NAME, 1},
+    {"restore, 12 rows in the old layout", full, pair_up_old_rows, restore_old_it, SLAVOTUK_DONE, 1, 0, PAIRS, NAME, 1},
 };
 
 /* ---- cases */
@@ -447,6 +458,8 @@ static void say_buffers(void)
     printf("buffer\tstate\t%p\t%zu\tplace\t%u\t%u\n", (void *)state, sizeof state, PLACES_AT + NAME_IN_PLACE, PLACE_SIZE);
     printf("buffer\tname\t%p\t%zu\n", (void *)name, sizeof name);
     printf("buffer\timage\t%p\t%zu\trow\t%u\t%u\n", (void *)image, sizeof image, ROWS_AT + NAME_IN_ROW, ROW_SIZE);
+    printf("buffer\told image\t%p\t%zu\trow\t%u\t%u\n", (void *)old_image, sizeof old_image, OLD_ROWS_AT + NAME_IN_ROW,
+           ROW_SIZE);
 }
 
 static void make_numbers(void)

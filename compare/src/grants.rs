@@ -2,6 +2,7 @@
 //! the grant word's bit is clear, 18 to a user's claim where both are set.
 
 use crate::call::Call;
+use crate::protected::{end, kill, list, record, set_words};
 use crate::sides::Pair;
 use slavotuk::entries::RawClaim;
 use slavotuk::layout::listing::{row_at, FULL_LENGTH};
@@ -93,18 +94,15 @@ struct Counted {
 impl Counted {
     /// Makes the call; this number is right.
     fn expect(&mut self, pair: &mut Pair, call: &Call, right: u32) -> Result<(), String> {
-        let answer = pair.call(call).map_err(|what| format!("{call}: {what}"))?;
+        pair.expect(call, right)?;
         self.calls += 1;
-        match answer.number {
+        match right {
             0 => self.done += 1,
             10 => self.not_granted += 1,
             18 => self.only_elevated += 1,
             _ => {}
         }
-        match answer.number == right {
-            true => Ok(()),
-            false => Err(format!("{call}: both answer {answer}, {right} is right")),
-        }
+        Ok(())
     }
 
     /// A call on this module, and the same claim again.
@@ -133,7 +131,7 @@ impl Counted {
         call: &Call,
         next: &Asked,
     ) -> Result<(), String> {
-        let set = set_words(RawClaim::user(SETTER as u32, NEXT), CLAIMANT, PLAIN);
+        let set = set_words(RawClaim::user(SETTER as u32, NEXT), CLAIMANT as u32, PLAIN);
         self.expect(pair, &set, 0)?;
         self.expect(pair, call, 9)?;
         let (call, right) = next;
@@ -238,72 +236,26 @@ fn calls(words: Credential, way: Way, number: u16) -> Vec<Asked> {
     let claim = way.claim(number);
     let granted = |class| way.number(words, class);
     let then = |granted: u32, after: u32| if granted == 0 { after } else { granted };
-    let (claimant, other) = (CLAIMANT as u32, OTHER as u32);
+    let [claimant, other, unprovisioned] = [CLAIMANT, OTHER, UNPROVISIONED].map(|at| at as u32);
     let kill_of_another = if granted(1) == 0 { 0 } else { 6 };
     let mut calls = vec![
         (list(claim, claimant, FULL_LENGTH), 0),
         (list(claim, claimant, row_at(1)), 15),
         (list(claim, other, FULL_LENGTH), granted(0)),
-        (list(claim, UNPROVISIONED as u32, FULL_LENGTH), granted(0)),
+        (list(claim, unprovisioned, FULL_LENGTH), granted(0)),
         (list(claim, 65_535, FULL_LENGTH), granted(0)),
         (list(claim, 65_535, 0), then(granted(0), 15)),
         (kill(claim, CLAIMANT as u8), 0),
         (kill(claim, SAVED), 0),
         (kill(claim, OTHER as u8), kill_of_another),
         (kill(claim, UNKNOWN), 6),
-        (set_words(claim, CLAIMANT, words), granted(3)),
-        (set_words(claim, OTHER, words), granted(3)),
-        (set_words(claim, UNPROVISIONED, words), then(granted(3), 5)),
+        (set_words(claim, claimant, words), granted(3)),
+        (set_words(claim, other, words), granted(3)),
+        (set_words(claim, unprovisioned, words), then(granted(3), 5)),
     ];
     calls.extend((4..CLASSES).map(|class| (record(claim, class), granted(class))));
     if way != Way::Elevated {
-        calls.extend([(end(number, 0), 0), (end(number, 1), granted(2))]);
+        calls.extend([(end(claim, 0), 0), (end(claim, 1), granted(2))]);
     }
     calls
-}
-
-fn record(claim: RawClaim, class: u32) -> Call {
-    Call::Record {
-        session: 0,
-        claim,
-        class,
-    }
-}
-
-fn list(claim: RawClaim, wanted: u32, room: usize) -> Call {
-    Call::List {
-        session: 0,
-        claim,
-        wanted,
-        response: vec![0xee; room].into(),
-        length: 1,
-    }
-}
-
-fn kill(claim: RawClaim, name: u8) -> Call {
-    Call::Kill {
-        session: 0,
-        claim,
-        name: vec![name; NAME_LENGTH],
-    }
-}
-
-fn set_words(claim: RawClaim, target: usize, words: Credential) -> Call {
-    Call::SetWord {
-        session: 0,
-        claim,
-        target: target as u32,
-        word: words.word,
-        second: words.second,
-    }
-}
-
-fn end(number: u16, keep: u32) -> Call {
-    Call::End {
-        session: 0,
-        credential: CLAIMANT as u32,
-        number,
-        verdict: 1,
-        keep,
-    }
 }

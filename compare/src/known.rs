@@ -1,12 +1,13 @@
 //! Rows of calls whose numbers are known: a process spent, the relay's attack of document 02, and the same with a record that needs elevation.
 
 use crate::call::{Answer, Call};
+use crate::protected::{end, kill, list, name_of, record, set_words};
 use crate::sides::Pair;
 use slavotuk::entries::RawClaim;
 use slavotuk::layout::listing::row_at;
 use slavotuk_model::image::LONGEST;
 use slavotuk_model::layout::STATE_LENGTH;
-use slavotuk_model::module::{CREDENTIALS, NAME_LENGTH, SPENT};
+use slavotuk_model::module::{Credential, CREDENTIALS, SPENT};
 
 /// The calls of a test that knows their numbers, on both sides.
 struct Known {
@@ -42,14 +43,9 @@ impl Known {
     }
 
     fn expect(&mut self, call: Call, number: u32) -> Result<Answer, String> {
-        match self.pair.call(&call) {
-            Ok(answer) if answer.number == number => {
-                self.made += 1;
-                Ok(answer)
-            }
-            Ok(answer) => Err(format!("{call}: both answer {answer}, {number} is right")),
-            Err(difference) => Err(format!("{call}: {difference}")),
-        }
+        let answer = self.pair.expect(&call, number)?;
+        self.made += 1;
+        Ok(answer)
     }
 
     /// Saves the process of credential 1, under this number, and takes it up again after a power cycle.
@@ -85,25 +81,18 @@ impl Known {
 
 const UNPROVISIONED: u32 = 7;
 
-/// The name of a credential's process.
-fn name_of(credential: u32) -> Vec<u8> {
-    vec![credential as u8; NAME_LENGTH]
-}
-
-fn start(credential: u32) -> Call {
+/// Starts the process of a credential, which is named for it.
+fn start(credential: u8) -> Call {
     Call::Start {
         session: 0,
-        credential,
+        credential: credential.into(),
         name: name_of(credential),
     }
 }
 
-fn kill(number: u16, of: u32) -> Call {
-    Call::Kill {
-        session: 0,
-        claim: RawClaim::user(1, number),
-        name: name_of(of),
-    }
+/// A claim of credential 1.
+fn by(number: u16) -> RawClaim {
+    RawClaim::user(1, number)
 }
 
 /// One process from its first number to its last, by accepted calls and by every refusal after the claim, 65,534 by a 10 or an 18: every number passes its check in
@@ -139,70 +128,40 @@ type Numbered = (u32, fn(u16) -> Call);
 
 /// Every class is granted.
 const GRANTED: [Numbered; 6] = [
-    (0, |number| record(number, 4)),
-    (0, |number| list(number, 1, row_at(1))),
+    (0, |number| record(by(number), 4)),
+    (0, |number| list(by(number), 1, row_at(1))),
     (0, |number| set_word(number, 2)),
-    (15, |number| list(number, 1, row_at(1) - 1)),
-    (6, |number| kill(number, 9)),
+    (15, |number| list(by(number), 1, row_at(1) - 1)),
+    (6, |number| kill(by(number), 9)),
     (5, |number| set_word(number, UNPROVISIONED)),
 ];
 
 /// Class 4 alone is granted.
 const NOT_GRANTED: [Numbered; 6] = [
-    (0, |number| record(number, 4)),
-    (6, |number| kill(number, 2)),
-    (10, |number| record(number, 5)),
-    (10, |number| list(number, 2, row_at(1))),
+    (0, |number| record(by(number), 4)),
+    (6, |number| kill(by(number), 2)),
+    (10, |number| record(by(number), 5)),
+    (10, |number| list(by(number), 2, row_at(1))),
     (10, |number| set_word(number, 1)),
     (10, keep),
 ];
 
 /// Every class is granted, and all but class 4 only under elevation.
 const ONLY_ELEVATED: [Numbered; 6] = [
-    (0, |number| record(number, 4)),
-    (6, |number| kill(number, 2)),
-    (18, |number| record(number, 5)),
-    (18, |number| list(number, 2, row_at(1))),
+    (0, |number| record(by(number), 4)),
+    (6, |number| kill(by(number), 2)),
+    (18, |number| record(by(number), 5)),
+    (18, |number| list(by(number), 2, row_at(1))),
     (18, |number| set_word(number, UNPROVISIONED)),
     (18, keep),
 ];
 
-fn record(number: u16, class: u32) -> Call {
-    Call::Record {
-        session: 0,
-        claim: RawClaim::user(1, number),
-        class,
-    }
-}
-
-fn list(number: u16, wanted: u32, room: usize) -> Call {
-    Call::List {
-        session: 0,
-        claim: RawClaim::user(1, number),
-        wanted,
-        response: vec![0xee; room].into(),
-        length: 1,
-    }
-}
-
 fn set_word(number: u16, target: u32) -> Call {
-    Call::SetWord {
-        session: 0,
-        claim: RawClaim::user(1, number),
-        target,
-        word: number.into(),
-        second: 0,
-    }
+    set_words(by(number), target, Credential::with(number.into(), 0))
 }
 
 fn keep(number: u16) -> Call {
-    Call::End {
-        session: 0,
-        credential: 1,
-        number,
-        verdict: 1,
-        keep: 1,
-    }
+    end(by(number), 1)
 }
 
 /// A relay keeps a kill that got 6, and sends it again once the named process has started: at once, and after a power cycle.
@@ -210,14 +169,14 @@ pub fn run_the_relays_attack() -> Result<String, String> {
     let mut made = 0;
     for power_cycle in [false, true] {
         let mut known = Known::started(u32::MAX, 0)?;
-        known.expect(kill(0, 2), 6)?;
+        known.expect(kill(by(0), 2), 6)?;
         if power_cycle {
             known.power_cycle(1)?;
         }
         known.expect(start(2), 0)?;
-        known.expect(kill(0, 2), 9)?;
+        known.expect(kill(by(0), 2), 9)?;
         let next = if power_cycle { 2 } else { 1 };
-        known.expect(kill(next, 2), 0)?;
+        known.expect(kill(by(next), 2), 0)?;
         made += known.made;
     }
     Ok(format!(
@@ -231,22 +190,16 @@ pub fn run_the_kept_record() -> Result<String, String> {
     let mut made = 0;
     for power_cycle in [false, true] {
         let mut known = Known::started(u32::MAX, 1 << CLASS)?;
-        known.expect(record(0, CLASS), 18)?;
-        known.expect(record(0, CLASS), 9)?;
+        known.expect(record(by(0), CLASS), 18)?;
+        known.expect(record(by(0), CLASS), 9)?;
         if power_cycle {
             known.power_cycle(1)?;
         }
         let next = if power_cycle { 2 } else { 1 };
-        let plain = Call::SetWord {
-            session: 0,
-            claim: RawClaim::user(1, next),
-            target: 1,
-            word: u32::MAX,
-            second: 0,
-        };
+        let plain = set_words(by(next), 1, Credential::with(u32::MAX, 0));
         known.expect(plain, 0)?;
-        known.expect(record(0, CLASS), 9)?;
-        known.expect(record(next + 1, CLASS), 0)?;
+        known.expect(record(by(0), CLASS), 9)?;
+        known.expect(record(by(next + 1), CLASS), 0)?;
         made += known.made;
     }
     Ok(format!(

@@ -19,6 +19,7 @@ mod image_test;
 mod images;
 mod known;
 mod messages;
+mod protected;
 mod random;
 mod report;
 mod run;

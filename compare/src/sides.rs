@@ -111,6 +111,15 @@ impl Pair {
         Ok(actual)
     }
 
+    /// Makes the call on both sides; this number is right.
+    pub fn expect(&mut self, call: &Call, right: u32) -> Result<Answer, String> {
+        let answer = self.call(call).map_err(|what| format!("{call}: {what}"))?;
+        match answer.number == right {
+            true => Ok(answer),
+            false => Err(format!("{call}: both answer {answer}, {right} is right")),
+        }
+    }
+
     /// Whether the archive's bytes, read by the model, say what the model has kept.
     pub fn read_back(&self) -> Result<(), Difference> {
         match (layout::read(self.archive.state()), self.module()) {

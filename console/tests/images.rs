@@ -238,19 +238,26 @@ processes, 2 of 12
 fn an_old_image_with_a_changed_byte_is_refused() {
     let folder = Folder::new("old-damaged");
     let file = folder.file("image");
-    for (at, byte) in [
+    let changes = [
         (ROWS_OFFSET_AT, ROWS_AT as u8),
         (ROWS_OFFSET_AT, OLD_ROWS_AT as u8 - 1),
         (ROW_COUNT_AT, 1),
         (word_at(2), 1),
         (old_row_at(0) + OWNER, 2),
         (old_row_at(0) + NEXT, 0),
-    ] {
-        let mut damaged = fs::read(OLD_IMAGE).unwrap();
+    ];
+    not_restored_with_any(&file, &fs::read(OLD_IMAGE).unwrap(), &changes);
+}
+
+/// With each change of a byte the file is no image, and stays as it is.
+fn not_restored_with_any(file: &str, image: &[u8], changes: &[(usize, u8)]) {
+    for &(at, byte) in changes {
+        let mut damaged = image.to_vec();
         assert_ne!(damaged[at], byte);
         damaged[at] = byte;
-        fs::write(&file, &damaged).unwrap();
-        not_restored(&file, &no_image(old_row_at(2)));
+        fs::write(file, &damaged).unwrap();
+        not_restored(file, &no_image(image.len()));
+        assert_eq!(fs::read(file).unwrap(), damaged);
     }
 }
 
@@ -279,7 +286,7 @@ fn not_restored(file: &str, why: &str) {
 fn a_file_that_is_no_image_is_refused() {
     let folder = Folder::new("refused");
     let file = folder.file("image");
-    for (at, byte) in [
+    let changes = [
         (MASK_AT, 0),
         (MASK_AT, 2),
         (MASK_AT + 1, 1),
@@ -294,14 +301,8 @@ fn a_file_that_is_no_image_is_refused() {
         (row_at(0) + OWNER, 2),
         (row_at(0) + OWNER + 1, 1),
         (row_at(0) + NEXT, 0),
-    ] {
-        let mut damaged = image();
-        assert_ne!(damaged[at], byte);
-        damaged[at] = byte;
-        fs::write(&file, &damaged).unwrap();
-        not_restored(&file, &no_image(ONE_ROW));
-        assert_eq!(fs::read(&file).unwrap(), damaged);
-    }
+    ];
+    not_restored_with_any(&file, &image(), &changes);
     let mut twice = image();
     twice.extend_from_within(ROWS_AT..);
     twice[ROW_COUNT_AT] = 2;

@@ -16,6 +16,14 @@ fn by(credential: u32, number: u16) -> RawClaim {
     RawClaim::user(credential, number)
 }
 
+/// The same with the verdict no.
+fn denied(credential: u32, number: u16) -> RawClaim {
+    RawClaim {
+        verdict: 0,
+        ..by(credential, number)
+    }
+}
+
 fn s() -> Name {
     named(0x33, 0x33)
 }
@@ -138,11 +146,7 @@ fn step_2(lent: &mut Lent) {
     assert_eq!(lent.record(by(1, 2), 6), 10);
     assert_eq!(lent.record(by(1, 3), 7), 10);
     assert_eq!(lent.record(by(1, 4), 4), 0);
-    let no = RawClaim {
-        verdict: 0,
-        ..by(1, 5)
-    };
-    assert_eq!(lent.record(no, 5), 8);
+    assert_eq!(lent.record(denied(1, 5), 5), 8);
     assert_eq!(lent.record(by(1, 5), 3), 1);
 }
 
@@ -430,11 +434,7 @@ fn document_01s_steps(seconds: [u32; 2]) -> Lent {
     assert_eq!(lent.start(1, p()), 7);
     assert_eq!(lent.record(by(1, 0), 4), 0);
     assert_eq!(lent.record(by(1, 0), 4), 9);
-    let no = RawClaim {
-        verdict: 0,
-        ..by(1, 1)
-    };
-    assert_eq!(lent.record(no, 4), 8);
+    assert_eq!(lent.record(denied(1, 1), 4), 8);
     assert_eq!(lent.record(by(1, 1), 5), 10);
     assert_eq!(lent.record(by(1, 2), 4), 0);
     assert_eq!(lent.record(by(1, 3), 3), 1);

@@ -198,8 +198,11 @@ fn what_was_written_is_restored_and_written_again() {
     }
 }
 
-/// Changes of the drawn image, each of which makes bytes that are no image: the offset, the new byte, and why.
-const DAMAGE: [(usize, u8, &str); 21] = [
+/// A change of an image: the offset, the new byte, and why that makes no image.
+type Change = (usize, u8, &'static str);
+
+/// Changes of the drawn image, each of which makes bytes that are no image.
+const DAMAGE: [Change; 21] = [
     (MASK_AT, 2, "credential 0 has a word and a row"),
     (MASK_AT, 1, "credential 1 has a word and a row"),
     (MASK_AT + 1, 1, "a bit of the mask over 7"),
@@ -234,14 +237,20 @@ fn is_no_image(bytes: &[u8]) {
     }
 }
 
-#[test]
-fn damaged_images_are_refused() {
-    for (at, byte, why) in DAMAGE {
-        let mut bytes = drawn();
+/// Each change of a byte makes bytes that are no image.
+#[track_caller]
+fn is_no_image_with_any(image: &[u8], changes: &[Change]) {
+    for &(at, byte, why) in changes {
+        let mut bytes = image.to_vec();
         assert_ne!(bytes[at], byte, "{why}");
         bytes[at] = byte;
         is_no_image(&bytes);
     }
+}
+
+#[test]
+fn damaged_images_are_refused() {
+    is_no_image_with_any(&drawn(), &DAMAGE);
     // equal names, of one credential and of two
     for owner in [0, 1] {
         let mut bytes = drawn();
@@ -363,7 +372,7 @@ fn the_layouts_make_one_module_where_no_class_is_marked() {
 }
 
 /// Changes of the old image, each of which makes bytes that are no image.
-const OLD_DAMAGE: [(usize, u8, &str); 10] = [
+const OLD_DAMAGE: [Change; 10] = [
     (MASK_AT, 1, "credential 1 has a word and a row"),
     (WORD_COUNT_AT, 16, "the count of words"),
     (ROW_COUNT_AT, 1, "a row less than there are"),
@@ -378,12 +387,7 @@ const OLD_DAMAGE: [(usize, u8, &str); 10] = [
 
 #[test]
 fn damaged_old_images_are_refused() {
-    for (at, byte, why) in OLD_DAMAGE {
-        let mut bytes = drawn_old();
-        assert_ne!(bytes[at], byte, "{why}");
-        bytes[at] = byte;
-        is_no_image(&bytes);
-    }
+    is_no_image_with_any(&drawn_old(), &OLD_DAMAGE);
     let mut bytes = drawn_old();
     bytes.truncate(old_row_at(1));
     bytes.extend(row(1, 1, p()));
