@@ -14,7 +14,7 @@ use Rattle.names.specs.declared.Credential.{Credential}
 use Rattle.names.specs.declared.Kind.the-variants.{Saved}
 use Rattle.table.specs.Table.{standing, tableOf, isSaved, places}
 use Rattle.table.specs.declared.Process.{Process}
-use Rattle.module_state.specs.Module.{unprovisioned, wordsOf, credentialCount, closedModule, wordSize}
+use Rattle.module_state.specs.Module.{bothWords, unprovisioned, wordsOf, credentialCount, closedModule, wordSize}
 use Rattle.module_state.specs.declared.Grants.{Grants}
 use Rattle.module_state.specs.declared.State.{State}
 use Rattle.image.specs.declared.ImageHead.{ImageHead}
@@ -145,7 +145,7 @@ unfoldable pub grantsSaid : ℕ → List ℕ → List ℕ → List Grants
 grantsSaid mask [] seconds = []
 grantsSaid mask (word ∷ words) [] = []
 grantsSaid mask (word ∷ words) (second ∷ seconds) =
-    record { provisioned = eqb (mask % 2) 1; words = record { grant = word; second = second } } ∷ grantsSaid (mask / 2) words seconds
+    record { provisioned = eqb (mask % 2) 1; words = bothWords word second } ∷ grantsSaid (mask / 2) words seconds
 
 -- the credentials of bytes whose head has this mask, and rows from this offset on
 abbrev pub grantsAmong : ℕ → ℕ → List ℕ → List Grants
