@@ -58,7 +58,7 @@ impl AsRef<[u8]> for Guarded {
 /// What a call was answered, and how it stands afterwards: what it hands out is a part of it.
 #[derive(Clone, Debug, PartialEq, Eq)]
 pub struct Answer {
-    /// One of document 01's numbers.
+    /// One of the numbers of documents 01 and 02.
     pub number: u32,
     /// The call with what it has handed out.
     pub made: Call,
