@@ -5,7 +5,7 @@ use crate::{Credential, Session, NAME_LENGTH};
 /// How many processes can stand.
 pub const PLACES: usize = 12;
 
-/// A state, as docs/STATE.md draws it: the phase of each session, the credentials, the count of processes, and their places.
+/// A state, as docs/STATE.md draws it: the phase of each session, port 0's first, the credentials, the count of processes, and their places.
 pub mod state {
     use super::*;
 
@@ -27,7 +27,7 @@ pub mod state {
     pub const OWNER: usize = 0;
     /// The type, in a place.
     pub const TYPE: usize = 1;
-    /// The session, in a place.
+    /// The slot of the session, in a place: 4 * port + handle.
     pub const SESSION: usize = 2;
     /// The next number, in a place.
     pub const NEXT: usize = 3;

@@ -27,30 +27,30 @@ macro_rules! calls {
             }
             sessions {
                 /// Opens a session.
-                slavotuk_open open Open [state: &mut [u8]] (session: u32);
+                slavotuk_open open Open [state: &mut [u8]] (port: u32) (session: u32);
                 /// Closes a session: its active processes are removed.
-                slavotuk_close close Close [state: &mut [u8]] (session: u32);
+                slavotuk_close close Close [state: &mut [u8]] (port: u32) (session: u32);
                 /// Removes a session's elevation.
-                slavotuk_drop drop Drop [state: &mut [u8]] (session: u32);
+                slavotuk_drop drop Drop [state: &mut [u8]] (port: u32) (session: u32);
                 /// Chooses a session's version.
-                slavotuk_select select Select [state: &mut [u8]] (session: u32) (version: u32);
+                slavotuk_select select Select [state: &mut [u8]] (port: u32) (session: u32) (version: u32);
                 /// Starts a user process.
-                slavotuk_start start Start [state: &mut [u8]] (session: u32) (credential: u32) (name: &[u8]);
+                slavotuk_start start Start [state: &mut [u8]] (port: u32) (session: u32) (credential: u32) (name: &[u8]);
                 /// Takes a saved process up again.
-                slavotuk_continue continue_saved Continue [state: &mut [u8]] (session: u32) (credential: u32) (name: &[u8]);
+                slavotuk_continue continue_saved Continue [state: &mut [u8]] (port: u32) (session: u32) (credential: u32) (name: &[u8]);
                 /// Starts an elevation.
-                slavotuk_elevate elevate Elevate [state: &mut [u8]] (session: u32) (credential: u32) (name: &[u8]) (verdict: u32);
+                slavotuk_elevate elevate Elevate [state: &mut [u8]] (port: u32) (session: u32) (credential: u32) (name: &[u8]) (verdict: u32);
                 /// Ends a user process under its own claim: it is saved where `keep` is 1, and removed where it is 0.
-                slavotuk_end end End [state: &mut [u8]] (session: u32) (credential: u32) (number: u16) (verdict: u32) (keep: u32);
+                slavotuk_end end End [state: &mut [u8]] (port: u32) (session: u32) (credential: u32) (number: u16) (verdict: u32) (keep: u32);
                 /// One record of a device operation.
-                slavotuk_record record Record [state: &mut [u8]] (session: u32) (claim: RawClaim) (class: u32);
+                slavotuk_record record Record [state: &mut [u8]] (port: u32) (session: u32) (claim: RawClaim) (class: u32);
                 /// Writes the listing of the wanted credential's processes (65535 for all) to the front of the response. `length` becomes the message's length, 0 on a
                 /// refusal.
-                slavotuk_list list List [state: &mut [u8]] (session: u32) (claim: RawClaim) (wanted: u32) (response: &mut [u8]) (length: &mut usize);
+                slavotuk_list list List [state: &mut [u8]] (port: u32) (session: u32) (claim: RawClaim) (wanted: u32) (response: &mut [u8]) (length: &mut usize);
                 /// Removes the process of that name.
-                slavotuk_kill kill Kill [state: &mut [u8]] (session: u32) (claim: RawClaim) (name: &[u8]);
+                slavotuk_kill kill Kill [state: &mut [u8]] (port: u32) (session: u32) (claim: RawClaim) (name: &[u8]);
                 /// Sets both words of a credential.
-                slavotuk_set_word set_word SetWord [state: &mut [u8]] (session: u32) (claim: RawClaim) (target: u32) (word: u32) (second: u32);
+                slavotuk_set_word set_word SetWord [state: &mut [u8]] (port: u32) (session: u32) (claim: RawClaim) (target: u32) (word: u32) (second: u32);
             }
             power {
                 /// Writes the image of the module to the front of the buffer. `length` becomes the image's length, 0 on a refusal.
