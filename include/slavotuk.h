@@ -23,14 +23,14 @@
  *   comment adds what else it is for.
  * - Where it compares names, it reads all bytes of both every time: what it reads does not tell at which byte two names differ.
  *   docs/TRACE.md says how that is checked, and what the reads still tell.
- * - Ports, sessions, credentials, classes, versions and flags are 32 bits wide, so that a wrong value arrives as one: no session
- *   over 3 of port 0 is one of port 1. A claim's number has 16 bits: C narrows a wider value before the call.
+ * - Ports, sessions, credentials, classes, versions and flags are 32 bits wide, so that a wrong value arrives as one. A claim's
+ *   number has 16 bits: C narrows a wider value before the call.
  *
  * Two ports, 0 and 1, lead two networks to one module. Each has SLAVOTUK_SESSIONS sessions of its own, 0 to 3. Every call on a
  * session names both, the port before the session, and wherever this header says session it is that session of that port:
- * session 0 of port 0 and session 0 of port 1 are two. Each selects its own version, and what is active in one serves no claim
- * in the other. A credential has at most one active user process for each port and session, and there is at most one elevation
- * for each port and session. Credentials, words, the table and its names are shared:
+ * session 0 of port 0 and session 0 of port 1 are two, and neither port has a session 4. Each selects its own version, and what
+ * is active in one serves no claim in the other. A credential has at most one active user process for each port and session,
+ * and there is at most one elevation for each port and session. Credentials, words, the table and its names are shared:
  *
  * - SLAVOTUK_PROCESSES processes stand on both ports together, and no two of them have one name: so one port can meet FULL or
  *   NAME_TAKEN because of the other.
