@@ -78,18 +78,18 @@ macro_rules! call {
         /// let mut call: Call = Call::Fresh { provisioned, words: vec![16; 8], seconds: vec![0; 8] };
         /// assert_eq!(call.make(&mut state), 0);
         ///
-        /// let mut call: Call = Call::Open { session: 4 };
-        /// assert_eq!(call.to_string(), "open session 4");
+        /// let mut call: Call = Call::Open { port: 1, session: 4 };
+        /// assert_eq!(call.to_string(), "open port 1 session 4");
         /// assert_eq!(call.make(&mut state), Refusal::Argument.number());
         ///
         /// let claim = RawClaim { kind: 0, credential: 1, number: 0, verdict: 1 };
-        /// let mut call = Call::List { session: 0, claim, wanted: 65535, response: vec![0xaa; 4], length: 9 };
+        /// let mut call = Call::List { port: 0, session: 0, claim, wanted: 65535, response: vec![0xaa; 4], length: 9 };
         /// assert_eq!(call.make(&mut state), Refusal::Session.number());
-        /// assert_eq!(call, Call::List { session: 0, claim, wanted: 65535, response: vec![0xaa; 4], length: 0 });
+        /// assert_eq!(call, Call::List { port: 0, session: 0, claim, wanted: 65535, response: vec![0xaa; 4], length: 0 });
         /// assert_eq!(call.handed_out(), " response (4 bytes aa*4) length 0x0");
         ///
-        /// let call: Call = Call::SetWord { session: 0, claim: RawClaim::ELEVATED, target: 1, word: 0x30, second: 0x20 };
-        /// assert_eq!(call.to_string(), "set_word session 0 elevated target 1 word 0x30 second 0x20");
+        /// let call: Call = Call::SetWord { port: 1, session: 0, claim: RawClaim::ELEVATED, target: 1, word: 0x30, second: 0x20 };
+        /// assert_eq!(call.to_string(), "set_word port 1 session 0 elevated target 1 word 0x30 second 0x20");
         /// ```
         // the fields have the parameters' names
         #[allow(missing_docs)]

@@ -23,7 +23,7 @@ pub const FULL_IMAGE_LENGTH: usize = layout::image::FULL_LENGTH;
 /// ```
 /// use slavotuk::{layout, Credential, Grants, Module, Name, Phase, Refusal, Session, Standing, UserClaim, VERSION_1_0};
 ///
-/// let (session, credential, name) = (Session::try_from(0)?, Credential::try_from(0)?, Name([0x11; 48]));
+/// let (session, credential, name) = (Session::try_from((0, 0))?, Credential::try_from(0)?, Name([0x11; 48]));
 /// let mut module = Module::fresh(&[Grants::of_word(15); 8])?;
 /// module.open(session)?;
 /// module.select(session, VERSION_1_0)?;

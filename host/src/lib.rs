@@ -1,9 +1,9 @@
 //! The management login module of machines that banks rent, for programs in Rust.
 //!
-//! [`Module`] has document 01's calls with types: a session can't stand for a credential or a class, and a value out of its range can't be made. Every call
-//! returns a [`Refusal`] where it is refused, which leaves the state and the lent buffer as they were, but for the number that a [`UserClaim`] has spent.
-//! Whoever has values that may be wrong turns them into typed ones (`Session::try_from(number)?` refuses as the module would), or hands them to [`entries`],
-//! where the module itself answers them with 1.
+//! [`Module`] has document 01's calls with types: a session, which is a port and a handle, can't stand for a credential or a class, and a value out of its range
+//! can't be made. Every call returns a [`Refusal`] where it is refused, which leaves the state and the lent buffer as they were, but for the number that a
+//! [`UserClaim`] has spent. Whoever has values that may be wrong turns them into typed ones (`Session::try_from((port, handle))?` refuses as the module would),
+//! or hands them to [`entries`], where the module itself answers them with 1.
 //!
 //! # An example
 //!
@@ -19,7 +19,7 @@
 //! grants[1] = Grants::of_words(0x50, 0x40);
 //! let mut module = Module::fresh(&grants)?;
 //!
-//! let session = Session::try_from(0)?;
+//! let session = Session::try_from((0, 0))?;
 //! let (manager, operator) = (Credential::try_from(0)?, Credential::try_from(1)?);
 //! module.open(session)?;
 //! module.select(session, VERSION_1_0)?;
@@ -61,12 +61,41 @@
 //! # Ok::<(), Refusal>(())
 //! ```
 //!
+//! # Two ports
+//!
+//! Two networks reach one module, each by a [`Port`] with four sessions of its own. Credentials, words, the table and the names are shared: one port can meet
+//! [`Refusal::Full`] or [`Refusal::NameTaken`] because of the other, a listing has the processes of both, a kill reaches both, and a saved process may be
+//! continued on either. Two networks are most likely two threads, and a state takes one call at a time, so they share the module by a lock:
+//!
+//! ```
+//! use slavotuk::{Credential, Grants, Module, Name, Refusal, Session, VERSION_1_0};
+//! use std::sync::Mutex;
+//! use std::thread;
+//!
+//! let module = Mutex::new(Module::fresh(&[Grants::of_word(15); 8])?);
+//! let network = |session: Session| -> Result<(), Refusal> {
+//!     module.lock().unwrap().open(session)?;
+//!     module.lock().unwrap().select(session, VERSION_1_0)?;
+//!     module.lock().unwrap().start(session, Credential::try_from(0)?, &Name([0x11; 48]))
+//! };
+//! let sessions = [Session::try_from((0, 0))?, Session::try_from((1, 0))?];
+//! let mut answers = thread::scope(|scope| {
+//!     let threads = sessions.map(|session| scope.spawn(move || network(session)));
+//!     threads.map(|thread| thread.join().unwrap())
+//! });
+//!
+//! // both sessions are open, and whoever comes second finds the name taken
+//! answers.sort_by_key(|answer| answer.is_err());
+//! assert_eq!(answers, [Ok(()), Err(Refusal::NameTaken)]);
+//! # Ok::<(), Refusal>(())
+//! ```
+//!
 //! # Where things are
 //!
 //! | Item | What it is |
 //! |---|---|
 //! | [`Module`] | the calls, and what the state holds: [`Phase`], [`Grants`] with their [`Lookup`], [`Process`] |
-//! | [`Session`], [`Credential`], [`Class`], [`Name`], [`Claim`], [`Wanted`], [`Words`] | what a call is handed |
+//! | [`Port`], [`Session`], [`Credential`], [`Class`], [`Name`], [`Claim`], [`Wanted`], [`Words`] | what a call is handed |
 //! | [`Refusal`], [`answered`] | the numbers 1 to 15 of document 01 and 18 of document 02, and those of later archives |
 //! | [`Image`] | what a module keeps while it is without power, what it loses, and what the flash has to do |
 //! | [`Listing`], [`read_request`], [`write_request`] | the listing messages, for consoles too |
@@ -105,7 +134,7 @@ pub use module::{Module, STATE_LENGTH, VERSION_1_0};
 pub use numbers::{answered, Refusal, UnknownNumber};
 pub use signatures::{Signature, SIGNATURES};
 pub use values::{
-    Claim, Class, Credential, Grants, Kind, Lookup, Name, Session, UserClaim, Wanted, Words,
+    Claim, Class, Credential, Grants, Kind, Lookup, Name, Port, Session, UserClaim, Wanted, Words,
     NAME_LENGTH,
 };
 pub use view::{Phase, Process, Processes, Standing};

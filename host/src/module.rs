@@ -24,7 +24,7 @@ pub const VERSION_1_0: u8 = 0x10;
 /// grants[0] = Grants::of_word(15);
 /// let mut module = Module::fresh(&grants)?;
 ///
-/// let session = Session::new(0).unwrap();
+/// let session = Session::try_from((0, 0))?;
 /// let credential = Credential::new(0).unwrap();
 /// let name = Name([7; 48]);
 /// assert_eq!(module.start(session, credential, &name), Err(Refusal::Session));
@@ -98,7 +98,7 @@ impl<'a> Module<&'a [u8]> {
     ///
     /// static FLASH: [u8; STATE_LENGTH] = [0; STATE_LENGTH];
     /// let module = Module::read_only(&FLASH)?;
-    /// assert_eq!(module.phase(Session::new(0).unwrap()), Phase::Closed);
+    /// assert_eq!(module.phase(Session::try_from((0, 0))?), Phase::Closed);
     ///
     /// assert_eq!(Module::read_only(&FLASH[1..]).unwrap_err(), Refusal::Argument);
     /// # Ok::<(), Refusal>(())
@@ -117,8 +117,8 @@ impl<'a> Module<&'a mut [u8]> {
     ///
     /// let mut flash = Module::fresh(&[Grants::UNPROVISIONED; 8])?.into_bytes();
     /// let mut module = Module::lent(&mut flash)?;
-    /// module.open(Session::new(3).unwrap())?;
-    /// assert_eq!(flash[3], 1);
+    /// module.open(Session::try_from((1, 3))?)?;
+    /// assert_eq!(flash[7], 1);
     ///
     /// assert_eq!(Module::lent(&mut flash[1..]).unwrap_err(), Refusal::Argument);
     /// # Ok::<(), Refusal>(())
@@ -217,21 +217,35 @@ impl<S: AsRef<[u8]>> Module<S> {
 impl<S: AsMut<[u8]>> Module<S> {
     /// Opens a closed session, without a version. Refusals: session.
     pub fn open(&mut self, session: Session) -> Result<(), Refusal> {
-        answered(entries::open(self.state.as_mut(), session.into()))
+        answered(entries::open(
+            self.state.as_mut(),
+            session.port().into(),
+            session.handle().into(),
+        ))
     }
 
-    /// Closes a session: its active processes are removed, saved ones stay. Refusals: session.
+    /// Closes a session: its active processes are removed. Saved ones stay, and so do those of every other session, on either port. Refusals: session.
     pub fn close(&mut self, session: Session) -> Result<(), Refusal> {
-        answered(entries::close(self.state.as_mut(), session.into()))
+        answered(entries::close(
+            self.state.as_mut(),
+            session.port().into(),
+            session.handle().into(),
+        ))
     }
 
     /// Chooses an open session's version; choosing it again changes nothing. Refusals: session, version.
     pub fn select(&mut self, session: Session, version: u8) -> Result<(), Refusal> {
         let state = self.state.as_mut();
-        answered(entries::select(state, session.into(), version.into()))
+        answered(entries::select(
+            state,
+            session.port().into(),
+            session.handle().into(),
+            version.into(),
+        ))
     }
 
-    /// Starts a user process with next number 0. Refusals: session, no version, credential, already active, name taken, full.
+    /// Starts a user process with next number 0. Refusals: session, no version, credential, already active, name taken, full. The last two are of all processes, also
+    /// those on the other port.
     pub fn start(
         &mut self,
         session: Session,
@@ -241,13 +255,34 @@ impl<S: AsMut<[u8]>> Module<S> {
         let state = self.state.as_mut();
         answered(entries::start(
             state,
-            session.into(),
+            session.port().into(),
+            session.handle().into(),
             credential.into(),
             &name.0,
         ))
     }
 
-    /// Takes a saved process up again in this session, with its old next number. Refusals: session, no version, credential, no process, already active.
+    /// Takes a saved process up again in this session, with its old next number, on whichever port it was saved. Refusals: session, no version, credential, no process,
+    /// already active.
+    ///
+    /// ```
+    /// use slavotuk::{Credential, Grants, Module, Name, Refusal, Session, UserClaim, VERSION_1_0};
+    ///
+    /// let (credential, name) = (Credential::try_from(0)?, Name([0x11; 48]));
+    /// let (one, another) = (Session::try_from((0, 2))?, Session::try_from((1, 0))?);
+    /// let mut module = Module::fresh(&[Grants::of_word(15); 8])?;
+    /// for session in [one, another] {
+    ///     module.open(session)?;
+    ///     module.select(session, VERSION_1_0)?;
+    /// }
+    /// module.start(one, credential, &name)?;
+    /// module.end(one, UserClaim { credential, number: 0, verdict: true }, true)?;
+    ///
+    /// module.continue_saved(another, credential, &name)?;
+    /// let process = module.processes().next().unwrap();
+    /// assert_eq!((process.session(), process.next_number()), (Some(another), Some(1)));
+    /// # Ok::<(), Refusal>(())
+    /// ```
     pub fn continue_saved(
         &mut self,
         session: Session,
@@ -257,13 +292,15 @@ impl<S: AsMut<[u8]>> Module<S> {
         let state = self.state.as_mut();
         answered(entries::continue_saved(
             state,
-            session.into(),
+            session.port().into(),
+            session.handle().into(),
             credential.into(),
             &name.0,
         ))
     }
 
-    /// Starts the session's elevation. Refusals: session, no version, credential, verdict, already active, name taken, full.
+    /// Starts the session's elevation. Refusals: session, no version, credential, verdict, already active, name taken, full. The last two are of all processes, also
+    /// those on the other port.
     pub fn elevate(
         &mut self,
         session: Session,
@@ -274,7 +311,8 @@ impl<S: AsMut<[u8]>> Module<S> {
         let state = self.state.as_mut();
         answered(entries::elevate(
             state,
-            session.into(),
+            session.port().into(),
+            session.handle().into(),
             credential.into(),
             &name.0,
             verdict.into(),
@@ -283,7 +321,11 @@ impl<S: AsMut<[u8]>> Module<S> {
 
     /// Removes the session's elevation; the session stays open. Refusals: session, no version, no process.
     pub fn drop_elevation(&mut self, session: Session) -> Result<(), Refusal> {
-        answered(entries::drop(self.state.as_mut(), session.into()))
+        answered(entries::drop(
+            self.state.as_mut(),
+            session.port().into(),
+            session.handle().into(),
+        ))
     }
 
     /// Ends the claim's own process: it is saved where `keep` is set, else removed. Refusals: session, no version, the claim's, not granted, only elevated. The last
@@ -291,7 +333,8 @@ impl<S: AsMut<[u8]>> Module<S> {
     pub fn end(&mut self, session: Session, claim: UserClaim, keep: bool) -> Result<(), Refusal> {
         answered(entries::end(
             self.state.as_mut(),
-            session.into(),
+            session.port().into(),
+            session.handle().into(),
             claim.credential.into(),
             claim.number,
             claim.verdict.into(),
@@ -312,14 +355,15 @@ impl<S: AsMut<[u8]>> Module<S> {
         let state = self.state.as_mut();
         answered(entries::record(
             state,
-            session.into(),
+            session.port().into(),
+            session.handle().into(),
             raw(claim),
             class.into(),
         ))
     }
 
-    /// Writes the listing of the wanted processes to the front of the buffer; later bytes stay as they were. Refusals: session, no version, the claim's,
-    /// not granted, only elevated, room. The last three spend the number.
+    /// Writes the listing of the wanted processes, those of both ports, to the front of the buffer; later bytes stay as they were. Refusals: session, no version,
+    /// the claim's, not granted, only elevated, room. The last three spend the number.
     ///
     /// A buffer of [`FULL_LISTING_LENGTH`](crate::FULL_LISTING_LENGTH) bytes is long enough for every listing. Whoever tries again with a longer one needs a claim
     /// with the next number:
@@ -328,7 +372,7 @@ impl<S: AsMut<[u8]>> Module<S> {
     /// use slavotuk::layout::listing::row_at;
     /// use slavotuk::{Credential, Grants, Module, Name, Refusal, Session, UserClaim, Wanted, FULL_LISTING_LENGTH, VERSION_1_0};
     ///
-    /// let (session, credential) = (Session::try_from(0)?, Credential::try_from(0)?);
+    /// let (session, credential) = (Session::try_from((0, 0))?, Credential::try_from(0)?);
     /// let mut module = Module::fresh(&[Grants::of_word(15); 8])?;
     /// module.open(session)?;
     /// module.select(session, VERSION_1_0)?;
@@ -353,7 +397,8 @@ impl<S: AsMut<[u8]>> Module<S> {
         let mut length = 0;
         answered(entries::list(
             self.state.as_mut(),
-            session.into(),
+            session.port().into(),
+            session.handle().into(),
             raw(claim),
             WireCredential::from(wanted).0.into(),
             buffer,
@@ -362,9 +407,9 @@ impl<S: AsMut<[u8]>> Module<S> {
         Listing::read(buffer.get(..length).unwrap_or_default())
     }
 
-    /// Removes the process of that name. A process that the claim may not kill is answered as one that isn't there, also where a user's claim could kill it only
-    /// under elevation. Refusals: session, no version, the claim's, no process. The last spends the number, so that a kill that was refused is not good once a
-    /// process of that name has started.
+    /// Removes the process of that name, on whichever port. A process that the claim may not kill is answered as one that isn't there, also where a user's claim
+    /// could kill it only under elevation. Refusals: session, no version, the claim's, no process. The last spends the number, so that a kill that was refused is not
+    /// good once a process of that name has started.
     pub fn kill(
         &mut self,
         session: Session,
@@ -372,7 +417,13 @@ impl<S: AsMut<[u8]>> Module<S> {
         name: &Name,
     ) -> Result<(), Refusal> {
         let state = self.state.as_mut();
-        answered(entries::kill(state, session.into(), raw(claim), &name.0))
+        answered(entries::kill(
+            state,
+            session.port().into(),
+            session.handle().into(),
+            raw(claim),
+            &name.0,
+        ))
     }
 
     /// Sets both words of a credential. Refusals: session, no version, the claim's, not granted, only elevated, credential. The last three spend the number.
@@ -386,7 +437,8 @@ impl<S: AsMut<[u8]>> Module<S> {
         let state = self.state.as_mut();
         answered(entries::set_word(
             state,
-            session.into(),
+            session.port().into(),
+            session.handle().into(),
             raw(claim),
             target.into(),
             words.word,

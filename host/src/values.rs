@@ -1,4 +1,4 @@
-//! What a call is handed: sessions, credentials, classes, names, claims, words and grants.
+//! What a call is handed: ports, sessions, credentials, classes, names, claims, words and grants.
 
 use crate::Refusal;
 use std::cmp::Ordering;
@@ -64,29 +64,143 @@ macro_rules! small_number {
 }
 
 small_number!(
-    /// A session's handle, 0 to 3.
+    /// A management port, 0 or 1. Each has its own four sessions.
     ///
     /// ```
-    /// use slavotuk::{Refusal, Session};
+    /// use slavotuk::{Port, Refusal};
     ///
-    /// assert_eq!(Session::new(3).unwrap().number(), 3);
-    /// assert_eq!(Session::new(4), None);
-    /// assert_eq!(Session::try_from(4u32), Err(Refusal::Argument));
-    /// assert_eq!(Session::all().count(), 4);
+    /// assert_eq!(Port::new(1).unwrap().number(), 1);
+    /// assert_eq!(Port::new(2), None);
+    /// assert_eq!(Port::try_from(2), Err(Refusal::Argument));
+    /// assert_eq!(Port::all().count(), 2);
     /// ```
-    ///
-    /// A credential never stands for a session:
-    ///
-    /// ```compile_fail,E0308
-    /// use slavotuk::{Credential, Grants, Module};
-    ///
-    /// let mut module = Module::fresh(&[Grants::UNPROVISIONED; 8]).unwrap();
-    /// let credential = Credential::new(0).unwrap();
-    /// let _ = module.open(credential);
-    /// ```
-    Session,
-    4
+    Port,
+    2
 );
+
+/// A session: its port, and its handle there, 0 to 3. It is printed as both, `1.0`.
+///
+/// ```
+/// use slavotuk::{Port, Refusal, Session};
+///
+/// let port = Port::new(1).unwrap();
+/// let session = Session::new(port, 0).unwrap();
+/// assert_eq!((session.port(), session.handle()), (port, 0));
+/// assert_eq!(session.to_string(), "1.0");
+/// assert_eq!(Session::try_from((1, 0)), Ok(session));
+/// assert_eq!(Session::all().count(), 8);
+/// ```
+///
+/// A handle over 3 is none on either port: no handle of port 0 reaches a session of port 1.
+///
+/// ```
+/// use slavotuk::{Port, Refusal, Session};
+///
+/// assert_eq!(Session::new(Port::new(0).unwrap(), 4), None);
+/// assert_eq!(Session::try_from((0, 4)), Err(Refusal::Argument));
+/// assert_eq!(Session::try_from((2, 0)), Err(Refusal::Argument));
+/// ```
+///
+/// Neither a credential nor a port stands for a session:
+///
+/// ```compile_fail,E0308
+/// use slavotuk::{Credential, Grants, Module};
+///
+/// let mut module = Module::fresh(&[Grants::UNPROVISIONED; 8]).unwrap();
+/// let credential = Credential::new(0).unwrap();
+/// let _ = module.open(credential);
+/// ```
+///
+/// ```compile_fail,E0308
+/// use slavotuk::{Grants, Module, Port};
+///
+/// let mut module = Module::fresh(&[Grants::UNPROVISIONED; 8]).unwrap();
+/// let _ = module.open(Port::new(0).unwrap());
+/// ```
+///
+/// Nor does a handle alone, there being no port that it would be of, nor a handle for a port or a port for a handle:
+///
+/// ```compile_fail,E0277
+/// let _ = slavotuk::Session::try_from(0u32);
+/// ```
+///
+/// ```compile_fail,E0308
+/// let _ = slavotuk::Session::new(1u8, 0);
+/// ```
+///
+/// ```compile_fail,E0308
+/// let port = slavotuk::Port::new(1).unwrap();
+/// let _ = slavotuk::Session::new(port, port);
+/// ```
+#[derive(Clone, Copy, Debug, PartialEq, Eq, PartialOrd, Ord, Hash)]
+pub struct Session {
+    port: Port,
+    handle: u8,
+}
+
+impl Session {
+    /// How many there are, on both ports.
+    pub const COUNT: usize = Port::COUNT * Session::PER_PORT;
+
+    /// How many each port has.
+    pub const PER_PORT: usize = 4;
+
+    /// The session of this port with this handle, or `None` where there is none.
+    pub const fn new(port: Port, handle: u8) -> Option<Session> {
+        if (handle as usize) < Session::PER_PORT {
+            Some(Session { port, handle })
+        } else {
+            None
+        }
+    }
+
+    /// Its port.
+    pub const fn port(self) -> Port {
+        self.port
+    }
+
+    /// Its handle on its port.
+    pub const fn handle(self) -> u8 {
+        self.handle
+    }
+
+    /// All of them, those of port 0 first.
+    pub fn all() -> impl DoubleEndedIterator<Item = Session> + ExactSizeIterator {
+        (0..Session::COUNT as u8).map(Session::of_slot)
+    }
+
+    /// Its place among all sessions, by which a state knows it.
+    pub(crate) const fn slot(self) -> usize {
+        Session::PER_PORT * self.port.0 as usize + self.handle as usize
+    }
+
+    /// The session at this place; the slot is in its range.
+    pub(crate) const fn of_slot(slot: u8) -> Session {
+        Session {
+            port: Port(slot / Session::PER_PORT as u8),
+            handle: slot % Session::PER_PORT as u8,
+        }
+    }
+}
+
+impl TryFrom<(u32, u32)> for Session {
+    type Error = Refusal;
+
+    /// The session of this port with this handle; [`Refusal::Argument`] where there is none, as the module answers.
+    fn try_from((port, handle): (u32, u32)) -> Result<Session, Refusal> {
+        let port = Port::try_from(port)?;
+        u8::try_from(handle)
+            .ok()
+            .and_then(|handle| Session::new(port, handle))
+            .ok_or(Refusal::Argument)
+    }
+}
+
+impl fmt::Display for Session {
+    fn fmt(&self, f: &mut fmt::Formatter<'_>) -> fmt::Result {
+        write!(f, "{}.{}", self.port, self.handle)
+    }
+}
 
 small_number!(
     /// A credential, 0 to 7. In a message any number of 16 bits can stand for one: see [`WireCredential`](crate::WireCredential).
@@ -267,7 +381,7 @@ pub struct UserClaim {
 /// ```
 /// use slavotuk::{Claim, Grants, Module, Refusal, Session};
 ///
-/// let session = Session::new(0).unwrap();
+/// let session = Session::try_from((0, 0))?;
 /// let mut module = Module::fresh(&[Grants::UNPROVISIONED; 8])?;
 /// module.open(session)?;
 /// module.select(session, slavotuk::VERSION_1_0)?;
@@ -282,7 +396,7 @@ pub struct UserClaim {
 /// ```
 /// use slavotuk::{Claim, Class, Credential, Grants, Module, Name, Refusal, Session, UserClaim, VERSION_1_0};
 ///
-/// let (session, credential, class) = (Session::try_from(0)?, Credential::try_from(1)?, Class::try_from(5)?);
+/// let (session, credential, class) = (Session::try_from((0, 0))?, Credential::try_from(1)?, Class::try_from(5)?);
 /// let mut grants = [Grants::UNPROVISIONED; 8];
 /// grants[1] = Grants::of_words(0x30, 0x20); // classes 4 and 5, of which 5 only under elevation
 /// let mut module = Module::fresh(&grants)?;
@@ -378,7 +492,7 @@ impl fmt::Display for Kind {
 /// ```
 /// use slavotuk::{Credential, Grants, Module, Name, Refusal, Session, UserClaim, Words, VERSION_1_0};
 ///
-/// let (session, credential) = (Session::try_from(0)?, Credential::try_from(0)?);
+/// let (session, credential) = (Session::try_from((0, 0))?, Credential::try_from(0)?);
 /// let mut module = Module::fresh(&[Grants::of_words(15, 4); 8])?;
 /// module.open(session)?;
 /// module.select(session, VERSION_1_0)?;

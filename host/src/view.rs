@@ -9,7 +9,7 @@ use std::fmt;
 /// ```
 /// use slavotuk::{Grants, Module, Phase, Session};
 ///
-/// let session = Session::new(2).unwrap();
+/// let session = Session::try_from((1, 2))?;
 /// let mut module = Module::fresh(&[Grants::UNPROVISIONED; 8])?;
 /// assert_eq!(module.phase(session), Phase::Closed);
 /// module.open(session)?;
@@ -63,7 +63,7 @@ pub enum Standing {
 /// ```
 /// use slavotuk::{Credential, Grants, Kind, Module, Name, Session, VERSION_1_0};
 ///
-/// let session = Session::new(1).unwrap();
+/// let session = Session::try_from((1, 1))?;
 /// let mut module = Module::fresh(&[Grants::of_word(0); 8])?;
 /// module.open(session)?;
 /// module.select(session, VERSION_1_0)?;
@@ -121,7 +121,7 @@ pub struct Processes<'a>(std::slice::ChunksExact<'a, u8>);
 // The bytes of a module hold a state, so each field below is in its range.
 
 fn process_of(place: &[u8]) -> Process {
-    let session = Session(place[SESSION]);
+    let session = Session::of_slot(place[SESSION]);
     let next_number = u16::from_le_bytes([place[NEXT], place[NEXT + 1]]);
     let mut name = [0; NAME_LENGTH];
     name.copy_from_slice(&place[NAME..]);
@@ -162,7 +162,7 @@ impl ExactSizeIterator for Processes<'_> {}
 impl<S: AsRef<[u8]>> Module<S> {
     /// A session's phase.
     pub fn phase(&self, session: Session) -> Phase {
-        match self.bytes()[usize::from(session.0)] {
+        match self.bytes()[session.slot()] {
             0 => Phase::Closed,
             1 => Phase::NoVersion,
             _ => Phase::Version1_0,
