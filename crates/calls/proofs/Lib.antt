@@ -8,4 +8,6 @@ pub mod Orders
 pub mod Conditions
 pub mod Spending
 pub mod Elevations
+pub mod Ports
+pub mod PortSteps
 pub mod Unique

@@ -1,3 +1,4 @@
 pub mod Listing
 pub mod Calls
 pub mod Run
+pub mod Ports

@@ -10,9 +10,9 @@ use native.Mathlib.Omega.{arith}
 use lib.Dec.{eqb}
 use lib.ListN.{length, getD, set, length-map}
 use borrow.Author.Tests.{not-true, eqb-true, eqb-false}
-use Rattle.lists.specs.Lists.{firstIndex, select, reject, removeAt}
+use Rattle.lists.specs.Lists.{firstIndex, select, removeAt}
 use Rattle.lists.proofs.Tests.{split, clash, and-left, and-right, and-both}
-use Rattle.lists.proofs.Lists.{select-snoc}
+use Rattle.lists.proofs.Lists.{select-snoc, select-set, select-remove, select-rejected}
 use Rattle.lists.proofs.Each.{Stands, found, each-fails, each-at, pairs-at}
 use Rattle.names.specs.Names.{sameName}
 use Rattle.names.proofs.Laws.{same-iff}
@@ -46,28 +46,8 @@ use Rattle.image.specs.declared.SavedRow.{SavedRow}
 use Rattle.image.specs.Image.{savedAt, isSavedOne, savedRow, savedOf, imageBytes, imageOf, stateImage}
 use Rattle.history_resumed.specs.Changes.{hasSaved, touchesImage, changesImage, RowsChange, newest}
 
--- ---- the elements that pass a test are the same where one that fails it is replaced by such a one or removed, or all of some that fail it are
+-- ---- how many elements pass a test where one is replaced or removed
 module _ {A : Type 0} (f : A → Bool) where
-  select-set : (l : List A) (i : ℕ) (d y : A) → f (getD l i d) ≡ false → f y ≡ false → select f (set l i y) ≡ select f l
-  unfolding select
-  select-set [] i d y e k = refl
-  select-set (x ∷ l) zero d y e k = rw (e, k)
-  select-set (x ∷ l) (suc i) d y e k = rw (select-set l i d y e k)
-
-  select-remove : (l : List A) (i : ℕ) (d : A) → f (getD l i d) ≡ false → select f (removeAt i l) ≡ select f l
-  unfolding select removeAt
-  select-remove [] zero d e = refl
-  select-remove [] (suc i) d e = refl
-  select-remove (x ∷ l) zero d e = rw e
-  select-remove (x ∷ l) (suc i) d e = rw (select-remove l i d e)
-
-  select-rejected : (g : A → Bool) → ((x : A) → g x ≡ true → f x ≡ false) → (l : List A) → select f (reject g l) ≡ select f l
-  unfolding select reject
-  select-rejected g k [] = refl
-  select-rejected g k (x ∷ l) =
-      split (g x) (λ e. rw (e, k x e) (select-rejected g k l)) (λ e. rw (e, select-rejected g k l))
-
-  -- and how many they are where any is replaced or removed
   count-set : (l : List A) (i : ℕ) (d y : A) → i < length l → length (select f (set l i y)) + cond (f (getD l i d)) 1 0 ≡ length (select f l) + cond (f y) 1 0
   unfolding select
   count-set [] i d y h = absurd (not-suc-le-zero h)
@@ -124,12 +104,12 @@ module _ (st : State) where
   same-replaced : (i : ℕ) (y : Process) → isSavedOne (getD (processes st) i freePlace) ≡ false → isSavedOne y ≡ false → Same st (withTable st (replaced (st .table) i y))
   unfolding savedOf
   same-replaced i y e k =
-      record { credentials = refl; saved = rw (standing-replaced (st .table) i y) (ap (map savedRow) (select-set isSavedOne (processes st) i freePlace y e k)) }
+      record { credentials = refl; saved = rw (standing-replaced (st .table) i y) (ap (map savedRow) (select-set isSavedOne (processes st) i freePlace y (λ h. e) (λ h. k))) }
 
   same-removed : (i : ℕ) → isSavedOne (getD (processes st) i freePlace) ≡ false → Same st (withTable st (removed (st .table) i))
   unfolding savedOf
   same-removed i e =
-      record { credentials = refl; saved = rw (standing-removed (st .table) i) (ap (map savedRow) (select-remove isSavedOne (processes st) i freePlace e)) }
+      record { credentials = refl; saved = rw (standing-removed (st .table) i) (ap (map savedRow) (select-remove isSavedOne (processes st) i freePlace (λ h. e))) }
 
   -- order 3's one number is an active process's
   same-counted : (s : Session) (claim : Claim) → ClaimPassed st s claim → Same st (counted st s claim)

@@ -2,10 +2,10 @@
 -- Assumes nothing.
 use Prim.Native.Nat.{ℕ, zero, suc, _<_, _≤_}
 use mathlib.Core.Path.{_≡_, refl, sym, _∙_}
-use mathlib.Core.Bool.{Bool, true, false, cond}
+use mathlib.Core.Bool.{Bool, true, false, cond, _&&_}
 use mathlib.Core.List.{List, [], _∷_, _++_, map, append-nil}
 use native.Mathlib.Omega.{arith}
-use lib.ListN.{length, getD, replicate, take, length-take, length-drop, drop-of-length-le, length-map, length-append, length-replicate}
+use lib.ListN.{length, getD, replicate, set, take, length-take, length-drop, drop-of-length-le, length-map, length-append, length-replicate}
 use lib.Seq.{take-all, take-at}
 use Rattle.lists.specs.Lists.{any, firstIndex, reject, select, removeAt, padded}
 use Rattle.lists.proofs.Tests.{split, below, clash}
@@ -92,6 +92,33 @@ module _ {A : Type 0} where
       (f y)
       (λ e. rw (e, select-snoc f ys x) (split (f x) (λ g. rw g) (λ g. rw g)))
       (λ e. rw e (select-snoc f ys x))
+
+  -- the elements that pass one test and then another pass both
+  pub select-both : (f g : A → Bool) (l : List A) → select g (select f l) ≡ select (λ x. f x && g x) l
+  unfolding select
+  select-both f g [] = refl
+  select-both f g (x ∷ xs) = split (f x) (λ e. rw (e, select-both f g xs)) (λ e. rw (e, select-both f g xs))
+
+  -- they are the same where one that fails the test is replaced by such a one or removed, or all of some that fail it are; past the end there is none
+  pub select-set : (f : A → Bool) (l : List A) (i : ℕ) (d y : A) → (i < length l → f (getD l i d) ≡ false) → (i < length l → f y ≡ false)
+      → select f (set l i y) ≡ select f l
+  unfolding select
+  select-set f [] i d y e k = refl
+  select-set f (x ∷ xs) zero d y e k = rw (e (omega arith), k (omega arith))
+  select-set f (x ∷ xs) (suc i) d y e k = rw (select-set f xs i d y (λ h. e (omega arith)) (λ h. k (omega arith)))
+
+  pub select-remove : (f : A → Bool) (l : List A) (i : ℕ) (d : A) → (i < length l → f (getD l i d) ≡ false) → select f (removeAt i l) ≡ select f l
+  unfolding select removeAt
+  select-remove f [] zero d e = refl
+  select-remove f [] (suc i) d e = refl
+  select-remove f (x ∷ xs) zero d e = rw (e (omega arith))
+  select-remove f (x ∷ xs) (suc i) d e = rw (select-remove f xs i d (λ h. e (omega arith)))
+
+  pub select-rejected : (f g : A → Bool) → ((x : A) → g x ≡ true → f x ≡ false) → (l : List A) → select f (reject g l) ≡ select f l
+  unfolding select reject
+  select-rejected f g k [] = refl
+  select-rejected f g k (x ∷ xs) =
+      split (g x) (λ e. rw (e, k x e) (select-rejected f g k xs)) (λ e. rw (e, select-rejected f g k xs))
 
   -- ---- padded
   pub length-padded : (n : ℕ) (z : A) (l : List A) → length l ≤ n → length (padded n z l) ≡ n

@@ -2,7 +2,7 @@
 -- Assumes nothing.
 use Prim.Native.Nat.{ℕ, _<_, _≤_}
 use mathlib.Core.Path.{_≡_, refl, sym, ap, _∙_}
-use mathlib.Core.Bool.{Bool, true, false, _&&_}
+use mathlib.Core.Bool.{Bool, true, false, _&&_, _||_}
 use mathlib.Core.List.{List}
 use native.Mathlib.Omega.{arith}
 use borrow.Author.Tests.{lt-ltb, le-ltb, eqb-true, eq-eqb}
@@ -22,7 +22,7 @@ use Rattle.table.specs.declared.Among.{Among}
 use Rattle.table.specs.declared.Among.the-variants.{SavedOf}
 use Rattle.table.specs.declared.Found.the-variants.{At, Nothing}
 use Rattle.table.specs.declared.Process.{Process}
-use Rattle.table.specs.Table.{isUser, isElevation, isSaved, isIn, isOf, isActive, isAmong, isNamed, foundPlace, firstPlace}
+use Rattle.table.specs.Table.{isUser, isElevation, isSaved, isIn, isOf, isActive, isActiveIn, isAmong, isNamed, foundPlace, firstPlace}
 
 -- the place found is the first that passes the test, and one does
 pub record FoundAt (f : Process → Bool) (l : List Process) (k : ℕ) : Type 0 where
@@ -137,6 +137,10 @@ module _ (p : Process) where
   pub in-elevation : (s : Session) → IsElevationIn s → isActive (ElevationIn s) p ≡ true
   unfolding isActive
   in-elevation s v = rw (v .kind, in-is s (v .session))
+
+  pub active-session : (s : Session) → isActiveIn s p ≡ true → p .session ≡ s
+  unfolding isActiveIn
+  active-session s e = is-in s (and-right (isUser (p .kind) || isElevation (p .kind)) (isIn s p) e)
 
   -- a name that is found among some is the process's, whole
   pub named-name : (name : Name) (among : Among) → isNamed name among p ≡ true → p .name ≡ name
