@@ -14,7 +14,7 @@ use Rattle.names.specs.declared.Name.{Name}
 use Rattle.names.specs.declared.Session.{Session}
 use Rattle.table.specs.Table.{standing, size, tableOf, processAt, firstPlace, isActive, isActiveIn, isAmong, isNamed, appended, replaced, removed, withoutSession}
 use Rattle.module_state.specs.Numbers.{_when_, _unless_, _▸_}
-use Rattle.module_state.specs.Module.{isSession, phaseOf, isClosed, isChosen, isCredential, grantsOf, bothWords, granted, unprovisioned, wordsOf, provisioned, hasBit, lookup, hasActive, activePlace, activeProcess}
+use Rattle.module_state.specs.Module.{isPort, isHandle, isSession, slotOf, phaseOf, isClosed, isChosen, isCredential, grantsOf, bothWords, granted, unprovisioned, wordsOf, provisioned, hasBit, lookup, hasActive, activePlace, activeProcess}
 use Rattle.module_state.specs.Claim.{phaseNumber, entered, sought, speaker, claimView, isInRange, isSpent, turnNumber, claimNumber, checkNumber, placed, checkOf, checked, admitted, lookupNumber, grantNumber}
 use Rattle.module_state.specs.declared.Claim.{Claim}
 use Rattle.module_state.specs.declared.Claim.the-variants.{ByUser}
@@ -49,8 +49,12 @@ pairs = granted (plain 15) ∷ granted (plain 16) ∷ replicate 6 unprovisioned
 abbrev pub name : ℕ → Name
 name n = record { bytes = replicate 47 0 ++ (n ∷ []) }
 
+-- a session of a port, by its handle. Document 01's are those of port 0
+abbrev pub of : ℕ → ℕ → Session
+of port handle = slotOf (record { 0 = port }) (record { 0 = handle })
+
 abbrev pub session : ℕ → Session
-session n = record { 0 = n }
+session handle = of 0 handle
 
 abbrev pub credential : ℕ → Credential
 credential n = record { 0 = n }
@@ -96,5 +100,5 @@ after st steps = run st (callsOf steps)
 
 -- all that a worked sequence computes with: who says `unfolding computed` has it open
 unfoldable pub computed : Type 1
-unfolding any firstIndex reject select join removeAt padded bytesOf sameBytes sameName standing size tableOf processAt firstPlace isActive isActiveIn isAmong isNamed appended replaced removed withoutSession _when_ _unless_ _▸_ isSession phaseOf isClosed isChosen isCredential grantsOf provisioned wordsOf hasBit lookup hasActive activePlace activeProcess phaseNumber entered sought speaker claimView isInRange isSpent turnNumber claimNumber checkNumber placed checkOf checked admitted lookupNumber grantNumber rowsOf messageLength listing isDevice isVersion isWanted isFull hasNamed namedPlace isOwn isShort reach endTests recordTests listTests killTests setWordTests tests asked numberUnder number counted ended effect protection aheadNumber protectedNumber passes refusedAfter charged left refusal outcome taken fresh step run numbers
+unfolding any firstIndex reject select join removeAt padded bytesOf sameBytes sameName standing size tableOf processAt firstPlace isActive isActiveIn isAmong isNamed appended replaced removed withoutSession _when_ _unless_ _▸_ isPort isHandle isSession slotOf phaseOf isClosed isChosen isCredential grantsOf provisioned wordsOf hasBit lookup hasActive activePlace activeProcess phaseNumber entered sought speaker claimView isInRange isSpent turnNumber claimNumber checkNumber placed checkOf checked admitted lookupNumber grantNumber rowsOf messageLength listing isDevice isVersion isWanted isFull hasNamed namedPlace isOwn isShort reach endTests recordTests listTests killTests setWordTests tests asked numberUnder number counted ended effect protection aheadNumber protectedNumber passes refusedAfter charged left refusal outcome taken fresh step run numbers
 computed = Type 0

@@ -8,7 +8,8 @@ use borrow.Author.Tests.{ne-eqb, le-leb, lt-leb, leb-true, lt-ltb, ltb-false, eq
 use lib.Dec.{eqb, ltb, leb}
 use Rattle.lists.proofs.Tests.{split, or-false}
 use Rattle.rows.specs.Bytes.{byteOf}
-use Rattle.module_state.specs.Module.{lastSession, isSession, lastCredential, isCredential}
+use Rattle.module_state.specs.Module.{lastPort, isPort, lastHandle, isHandle, isSession, lastCredential, isCredential}
+use Rattle.module_state.proofs.Slots.{slot-range}
 use Rattle.calls.specs.Calls.{isDevice, isVersion, isWanted}
 use Rattle.entries_arguments.specs.Arguments.{sessionOf, classOf, everyNumber, credentialOf, wantedOf, wantedNumber, isFlag, claimOf, claimKind}
 
@@ -28,10 +29,11 @@ capped-equal n m k h =
     split (ltb n (suc m)) (λ e. rw e)
     (λ e. let q : suc m ≤ n = ltb-false n (suc m) e in rw (e, ne-eqb m k (λ z. omega arith)) (sym (ne-eqb n k (λ z. omega arith))))
 
--- "handle over 3, credential over 7 .., class of a record under 4 or over 31"; "a version byte other than 0x10"
-pub session-range : (n : ℕ) → isSession (sessionOf n) ≡ leb n lastSession
-unfolding isSession sessionOf byteOf
-session-range n = capped-below n 255 lastSession (omega arith)
+-- "handle over 3, credential over 7 .., class of a record under 4 or over 31"; "a version byte other than 0x10"; "a port over 1 is 1"
+pub session-range : (port handle : ℕ) → isSession (sessionOf port handle) ≡ (leb port lastPort && leb handle lastHandle)
+unfolding sessionOf isPort isHandle byteOf
+session-range port handle =
+    rw (slot-range, capped-below port 255 lastPort (omega arith), capped-below handle 255 lastHandle (omega arith))
 
 pub credential-range : (n : ℕ) → isCredential (credentialOf n) ≡ leb n lastCredential
 unfolding isCredential credentialOf

@@ -16,18 +16,18 @@ use Rattle.rows.specs.Rows.{every}
 use Rattle.names.specs.declared.Credential.{Credential}
 use Rattle.names.specs.declared.NameRead.{NameRead}
 use Rattle.names.specs.declared.Session.{Session}
-use Rattle.module_state.specs.Module.{credentialCount}
+use Rattle.module_state.specs.Module.{slotOf, credentialCount}
 use Rattle.module_state.specs.declared.Claim.the-variants.{Elevated, ByUser}
 use Rattle.module_state.specs.declared.Class.{Class}
 use Rattle.module_state.specs.declared.UserClaim.{UserClaim}
 use Rattle.calls.specs.declared.Wanted.the-variants.{Every, Only}
 use Rattle.entries_arguments.specs.Arguments.{sessionOf, classOf, everyNumber, credentialOf, wantedOf, isFlag, userClaimOf, claimOf, areClaimFlags, handed, arePairs}
 
-module _ (n : ℕ) where
-  pub session-is : {b : ℕ} → b ≡ byteOf n → _≡_ {A = Session} (record { 0 = b }) (sessionOf n)
-  unfolding sessionOf
-  session-is e = rw e
+pub session-is : (port handle : ℕ) {p h : ℕ} {s : Session} → p ≡ byteOf port → h ≡ byteOf handle → s ≡ slotOf (record { 0 = p }) (record { 0 = h }) → s ≡ sessionOf port handle
+unfolding sessionOf
+session-is port handle e f q = q ∙ rw (e, f)
 
+module _ (n : ℕ) where
   pub class-is : {b : ℕ} → b ≡ byteOf n → _≡_ {A = Class} (record { 0 = b }) (classOf n)
   unfolding classOf
   class-is e = rw e

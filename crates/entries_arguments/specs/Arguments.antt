@@ -8,7 +8,7 @@ use Rattle.rows.specs.Bytes.{byteOf}
 use Rattle.rows.specs.Rows.{every}
 use Rattle.names.specs.declared.Credential.{Credential}
 use Rattle.names.specs.declared.Session.{Session}
-use Rattle.module_state.specs.Module.{credentialCount, bothWords}
+use Rattle.module_state.specs.Module.{slotOf, credentialCount, bothWords}
 use Rattle.module_state.specs.declared.Claim.{Claim}
 use Rattle.module_state.specs.declared.Claim.the-variants.{Elevated, ByUser}
 use Rattle.module_state.specs.declared.Class.{Class}
@@ -18,8 +18,8 @@ use Rattle.calls.specs.declared.Wanted.{Wanted}
 use Rattle.calls.specs.declared.Wanted.the-variants.{Every, Only}
 
 -- A number too large for its type is handed on as the largest, which is out of every range
-unfoldable pub sessionOf : ℕ → Session
-sessionOf n = record { 0 = byteOf n }
+unfoldable pub sessionOf : ℕ → ℕ → Session
+sessionOf port handle = slotOf (record { 0 = byteOf port }) (record { 0 = byteOf handle })
 
 unfoldable pub classOf : ℕ → Class
 classOf n = record { 0 = byteOf n }

@@ -7,6 +7,8 @@ use calls::Wanted;
 use module_state::CREDENTIALS;
 use module_state::Claim;
 use module_state::Class;
+use module_state::Handle;
+use module_state::Port;
 use module_state::UserClaim;
 use names::Credential;
 use names::Session;
@@ -16,10 +18,13 @@ const EVERY: u32 = 65535;
 
 const LARGEST: u16 = EVERY as u16;
 
-pub fn session_of(n: u32) -> Session
-    ensures { λ r. ⌜ r ≡ sessionOf n ⌝ }
+pub fn session_of(port: u32, handle: u32) -> Session
+    ensures { λ r. ⌜ r ≡ sessionOf port handle ⌝ }
 {
-    Session(rows::byte_of(n as usize))
+    module_state::slot_of(
+        Port(rows::byte_of(port as usize)),
+        Handle(rows::byte_of(handle as usize)),
+    )
 }
 
 pub fn class_of(n: u32) -> Class

@@ -46,8 +46,8 @@ list-once κs a x y s t p q = p .entry .number-is ∙ sym (q .entry .number-is)
 pub list-bytes : OneContent 3 list-kinds.ps list-kinds.r list-reads.Post (λ κs s. now (s .0))
 list-bytes κs a x y s t p q = p .entry .bytes-are ∙ sym (q .entry .bytes-are)
 
-pub list-response : OneContent 3 list-kinds.ps list-kinds.r list-reads.Post (λ κs s. now (s .1 .1 .1 .1 .1 .1 .1 .0))
+pub list-response : OneContent 3 list-kinds.ps list-kinds.r list-reads.Post (λ κs s. now (s .1 .1 .1 .1 .1 .1 .1 .1 .0))
 list-response κs a x y s t p q = p .response-is ∙ sym (q .response-is)
 
-pub list-length : OneContent 3 list-kinds.ps list-kinds.r list-reads.Post (λ κs s. now (s .1 .1 .1 .1 .1 .1 .1 .1 .0) ∷ [])
+pub list-length : OneContent 3 list-kinds.ps list-kinds.r list-reads.Post (λ κs s. now (s .1 .1 .1 .1 .1 .1 .1 .1 .1 .0) ∷ [])
 list-length κs a x y s t p q = ap (λ (n : ℕ). n ∷ []) (p .length-is ∙ sym (q .length-is))

@@ -12,13 +12,14 @@ use module_state::Words;
 #[no_mangle]
 pub extern "C" fn slavotuk_end(
     state: &mut [u8],
+    port: u32,
     session: u32,
     credential: u32,
     number: u16,
     verdict: u32,
     keep: u32,
 ) -> u32
-    ensures { λ r. ⌜ CallEntry (isFlag verdict && isFlag keep) (now (state .entry)) (End (sessionOf session) (userClaimOf credential number verdict) (flagOf keep)) r (now (state .exit)) ⌝ }
+    ensures { λ r. ⌜ CallEntry (isFlag verdict && isFlag keep) (now (state .entry)) (End (sessionOf port session) (userClaimOf credential number verdict) (flagOf keep)) r (now (state .exit)) ⌝ }
 {
     if !entries_call::is_ready(entries_arguments::are_flags(verdict, keep), state) {
         return ARGUMENT as u32;
@@ -28,7 +29,7 @@ pub extern "C" fn slavotuk_end(
         state,
         calls_ending::end(
             st,
-            entries_arguments::session_of(session),
+            entries_arguments::session_of(port, session),
             entries_arguments::user_claim_of(credential, number, verdict),
             keep == 1,
         ),
@@ -38,6 +39,7 @@ pub extern "C" fn slavotuk_end(
 #[no_mangle]
 pub extern "C" fn slavotuk_record(
     state: &mut [u8],
+    port: u32,
     session: u32,
     kind: u32,
     credential: u32,
@@ -45,14 +47,14 @@ pub extern "C" fn slavotuk_record(
     verdict: u32,
     class: u32,
 ) -> u32
-    ensures { λ r. ⌜ CallEntry (areClaimFlags kind verdict) (now (state .entry)) (Record (sessionOf session) (claimOf kind credential number verdict) (classOf class)) r (now (state .exit)) ⌝ }
+    ensures { λ r. ⌜ CallEntry (areClaimFlags kind verdict) (now (state .entry)) (Record (sessionOf port session) (claimOf kind credential number verdict) (classOf class)) r (now (state .exit)) ⌝ }
 {
     if !entries_arguments::are_claim_flags(kind, verdict) {
         return ARGUMENT as u32;
     }
     entries_record::record(
         state,
-        entries_arguments::session_of(session),
+        entries_arguments::session_of(port, session),
         entries_arguments::claim_of(kind, credential, number, verdict),
         entries_arguments::class_of(class),
     ) as u32
@@ -61,6 +63,7 @@ pub extern "C" fn slavotuk_record(
 #[no_mangle]
 pub extern "C" fn slavotuk_list(
     state: &mut [u8],
+    port: u32,
     session: u32,
     kind: u32,
     credential: u32,
@@ -70,7 +73,7 @@ pub extern "C" fn slavotuk_list(
     response: &mut [u8],
     long: &mut usize,
 ) -> u32
-    ensures { λ r. ⌜ ListEntry (areClaimFlags kind verdict) (now (state .entry)) (sessionOf session) (claimOf kind credential number verdict) (wantedOf wanted) (now (response .entry)) r (now (state .exit)) (now (response .exit)) (now (long .exit)) ⌝ }
+    ensures { λ r. ⌜ ListEntry (areClaimFlags kind verdict) (now (state .entry)) (sessionOf port session) (claimOf kind credential number verdict) (wantedOf wanted) (now (response .entry)) r (now (state .exit)) (now (response .exit)) (now (long .exit)) ⌝ }
 {
     if !entries_call::is_ready(entries_arguments::are_claim_flags(kind, verdict), state) {
         *long = 0;
@@ -79,7 +82,7 @@ pub extern "C" fn slavotuk_list(
     let st = state_read::read(state);
     let listed = listing_call::list(
         st,
-        entries_arguments::session_of(session),
+        entries_arguments::session_of(port, session),
         entries_arguments::claim_of(kind, credential, number, verdict),
         entries_arguments::wanted_of(wanted),
         response,
@@ -92,6 +95,7 @@ pub extern "C" fn slavotuk_list(
 #[no_mangle]
 pub extern "C" fn slavotuk_kill(
     state: &mut [u8],
+    port: u32,
     session: u32,
     kind: u32,
     credential: u32,
@@ -99,7 +103,7 @@ pub extern "C" fn slavotuk_kill(
     verdict: u32,
     name: &[u8],
 ) -> u32
-    ensures { λ r. ⌜ CallEntry (readName (now (name .entry)) .fits && areClaimFlags kind verdict) (now (state .entry)) (Kill (sessionOf session) (claimOf kind credential number verdict) (readName (now (name .entry)) .name)) r (now (state .exit)) ⌝ }
+    ensures { λ r. ⌜ CallEntry (readName (now (name .entry)) .fits && areClaimFlags kind verdict) (now (state .entry)) (Kill (sessionOf port session) (claimOf kind credential number verdict) (readName (now (name .entry)) .name)) r (now (state .exit)) ⌝ }
 {
     let read = names::read_name(name);
     if !entries_call::is_ready(
@@ -113,7 +117,7 @@ pub extern "C" fn slavotuk_kill(
         state,
         calls_ending::kill(
             st,
-            entries_arguments::session_of(session),
+            entries_arguments::session_of(port, session),
             entries_arguments::claim_of(kind, credential, number, verdict),
             read.name,
         ),
@@ -123,6 +127,7 @@ pub extern "C" fn slavotuk_kill(
 #[no_mangle]
 pub extern "C" fn slavotuk_set_word(
     state: &mut [u8],
+    port: u32,
     session: u32,
     kind: u32,
     credential: u32,
@@ -132,7 +137,7 @@ pub extern "C" fn slavotuk_set_word(
     word: u32,
     second: u32,
 ) -> u32
-    ensures { λ r. ⌜ CallEntry (areClaimFlags kind verdict) (now (state .entry)) (SetWord (sessionOf session) (claimOf kind credential number verdict) (credentialOf target) (bothWords word second)) r (now (state .exit)) ⌝ }
+    ensures { λ r. ⌜ CallEntry (areClaimFlags kind verdict) (now (state .entry)) (SetWord (sessionOf port session) (claimOf kind credential number verdict) (credentialOf target) (bothWords word second)) r (now (state .exit)) ⌝ }
 {
     if !entries_call::is_ready(entries_arguments::are_claim_flags(kind, verdict), state) {
         return ARGUMENT as u32;
@@ -146,7 +151,7 @@ pub extern "C" fn slavotuk_set_word(
         state,
         calls_standing::set_word(
             st,
-            entries_arguments::session_of(session),
+            entries_arguments::session_of(port, session),
             entries_arguments::claim_of(kind, credential, number, verdict),
             entries_arguments::credential_of(target),
             words,

@@ -20,8 +20,8 @@ use state_layout::STATE_LENGTH;
 // ---- the calls
 
 #[no_mangle]
-pub extern "C" fn slavotuk_open(state: &mut [u8], session: u32) -> u32
-    ensures { λ r. ⌜ CallEntry true (now (state .entry)) (Open (sessionOf session)) r (now (state .exit)) ⌝ }
+pub extern "C" fn slavotuk_open(state: &mut [u8], port: u32, session: u32) -> u32
+    ensures { λ r. ⌜ CallEntry true (now (state .entry)) (Open (sessionOf port session)) r (now (state .exit)) ⌝ }
 {
     if !entries_call::is_ready(true, state) {
         return ARGUMENT as u32;
@@ -29,13 +29,13 @@ pub extern "C" fn slavotuk_open(state: &mut [u8], session: u32) -> u32
     let st = state_read::read(state);
     entries_call::put_back(
         state,
-        calls_session::open_session(st, entries_arguments::session_of(session)),
+        calls_session::open_session(st, entries_arguments::session_of(port, session)),
     )
 }
 
 #[no_mangle]
-pub extern "C" fn slavotuk_close(state: &mut [u8], session: u32) -> u32
-    ensures { λ r. ⌜ CallEntry true (now (state .entry)) (Close (sessionOf session)) r (now (state .exit)) ⌝ }
+pub extern "C" fn slavotuk_close(state: &mut [u8], port: u32, session: u32) -> u32
+    ensures { λ r. ⌜ CallEntry true (now (state .entry)) (Close (sessionOf port session)) r (now (state .exit)) ⌝ }
 {
     if !entries_call::is_ready(true, state) {
         return ARGUMENT as u32;
@@ -43,13 +43,13 @@ pub extern "C" fn slavotuk_close(state: &mut [u8], session: u32) -> u32
     let st = state_read::read(state);
     entries_call::put_back(
         state,
-        calls_session::close_session(st, entries_arguments::session_of(session)),
+        calls_session::close_session(st, entries_arguments::session_of(port, session)),
     )
 }
 
 #[no_mangle]
-pub extern "C" fn slavotuk_select(state: &mut [u8], session: u32, version: u32) -> u32
-    ensures { λ r. ⌜ CallEntry true (now (state .entry)) (Select (sessionOf session) (byteOf version)) r (now (state .exit)) ⌝ }
+pub extern "C" fn slavotuk_select(state: &mut [u8], port: u32, session: u32, version: u32) -> u32
+    ensures { λ r. ⌜ CallEntry true (now (state .entry)) (Select (sessionOf port session) (byteOf version)) r (now (state .exit)) ⌝ }
 {
     if !entries_call::is_ready(true, state) {
         return ARGUMENT as u32;
@@ -59,7 +59,7 @@ pub extern "C" fn slavotuk_select(state: &mut [u8], session: u32, version: u32) 
         state,
         calls_session::select_version(
             st,
-            entries_arguments::session_of(session),
+            entries_arguments::session_of(port, session),
             rows::byte_of(version as usize),
         ),
     )
@@ -68,11 +68,12 @@ pub extern "C" fn slavotuk_select(state: &mut [u8], session: u32, version: u32) 
 #[no_mangle]
 pub extern "C" fn slavotuk_start(
     state: &mut [u8],
+    port: u32,
     session: u32,
     credential: u32,
     name: &[u8],
 ) -> u32
-    ensures { λ r. ⌜ CallEntry (readName (now (name .entry)) .fits) (now (state .entry)) (Start (sessionOf session) (credentialOf credential) (readName (now (name .entry)) .name)) r (now (state .exit)) ⌝ }
+    ensures { λ r. ⌜ CallEntry (readName (now (name .entry)) .fits) (now (state .entry)) (Start (sessionOf port session) (credentialOf credential) (readName (now (name .entry)) .name)) r (now (state .exit)) ⌝ }
 {
     let read = names::read_name(name);
     if !entries_call::is_ready(read.fits, state) {
@@ -83,7 +84,7 @@ pub extern "C" fn slavotuk_start(
         state,
         calls_unprotected::start(
             st,
-            entries_arguments::session_of(session),
+            entries_arguments::session_of(port, session),
             entries_arguments::credential_of(credential),
             read.name,
         ),
@@ -93,11 +94,12 @@ pub extern "C" fn slavotuk_start(
 #[no_mangle]
 pub extern "C" fn slavotuk_continue(
     state: &mut [u8],
+    port: u32,
     session: u32,
     credential: u32,
     name: &[u8],
 ) -> u32
-    ensures { λ r. ⌜ CallEntry (readName (now (name .entry)) .fits) (now (state .entry)) (Continue (sessionOf session) (credentialOf credential) (readName (now (name .entry)) .name)) r (now (state .exit)) ⌝ }
+    ensures { λ r. ⌜ CallEntry (readName (now (name .entry)) .fits) (now (state .entry)) (Continue (sessionOf port session) (credentialOf credential) (readName (now (name .entry)) .name)) r (now (state .exit)) ⌝ }
 {
     let read = names::read_name(name);
     if !entries_call::is_ready(read.fits, state) {
@@ -108,7 +110,7 @@ pub extern "C" fn slavotuk_continue(
         state,
         calls_unprotected::continue_saved(
             st,
-            entries_arguments::session_of(session),
+            entries_arguments::session_of(port, session),
             entries_arguments::credential_of(credential),
             read.name,
         ),
@@ -118,12 +120,13 @@ pub extern "C" fn slavotuk_continue(
 #[no_mangle]
 pub extern "C" fn slavotuk_elevate(
     state: &mut [u8],
+    port: u32,
     session: u32,
     credential: u32,
     name: &[u8],
     verdict: u32,
 ) -> u32
-    ensures { λ r. ⌜ CallEntry (readName (now (name .entry)) .fits && isFlag verdict) (now (state .entry)) (Elevate (sessionOf session) (credentialOf credential) (readName (now (name .entry)) .name) (flagOf verdict)) r (now (state .exit)) ⌝ }
+    ensures { λ r. ⌜ CallEntry (readName (now (name .entry)) .fits && isFlag verdict) (now (state .entry)) (Elevate (sessionOf port session) (credentialOf credential) (readName (now (name .entry)) .name) (flagOf verdict)) r (now (state .exit)) ⌝ }
 {
     let read = names::read_name(name);
     if !entries_call::is_ready(
@@ -137,7 +140,7 @@ pub extern "C" fn slavotuk_elevate(
         state,
         calls_unprotected::elevate(
             st,
-            entries_arguments::session_of(session),
+            entries_arguments::session_of(port, session),
             entries_arguments::credential_of(credential),
             read.name,
             verdict == 1,
@@ -146,8 +149,8 @@ pub extern "C" fn slavotuk_elevate(
 }
 
 #[no_mangle]
-pub extern "C" fn slavotuk_drop(state: &mut [u8], session: u32) -> u32
-    ensures { λ r. ⌜ CallEntry true (now (state .entry)) (Drop (sessionOf session)) r (now (state .exit)) ⌝ }
+pub extern "C" fn slavotuk_drop(state: &mut [u8], port: u32, session: u32) -> u32
+    ensures { λ r. ⌜ CallEntry true (now (state .entry)) (Drop (sessionOf port session)) r (now (state .exit)) ⌝ }
 {
     if !entries_call::is_ready(true, state) {
         return ARGUMENT as u32;
@@ -155,7 +158,7 @@ pub extern "C" fn slavotuk_drop(state: &mut [u8], session: u32) -> u32
     let st = state_read::read(state);
     entries_call::put_back(
         state,
-        calls_unprotected::drop_elevation(st, entries_arguments::session_of(session)),
+        calls_unprotected::drop_elevation(st, entries_arguments::session_of(port, session)),
     )
 }
 
@@ -213,7 +216,7 @@ pub extern "C" fn slavotuk_holds(state: &[u8]) -> u32
 }
 
 // major * 65536 + minor * 256 + patch: include/slavotuk.h and host/Cargo.toml have the same version
-const LIBRARY_VERSION: u32 = 0x030000;
+const LIBRARY_VERSION: u32 = 0x040000;
 
 #[no_mangle]
 pub extern "C" fn slavotuk_version() -> u32

@@ -1,6 +1,6 @@
 -- The laws that close the needs of this crate's functions, and of those above, by `search rules`.
 -- Assumes nothing.
-use Prim.Native.Nat.{ℕ, _/_, _%_, _^_, _<_, _≤_}
+use Prim.Native.Nat.{ℕ, _/_, _%_, _^_, _+_, _*_, _<_, _≤_}
 use mathlib.Core.Path.{_≡_, refl, sym, ap, _∙_}
 use mathlib.Core.Bool.{Bool, true, false, not}
 use native.Mathlib.Omega.{arith}
@@ -14,9 +14,11 @@ use Rattle.module_state.specs.declared.Claim.{Claim}
 use Rattle.module_state.specs.declared.Claim.the-variants.{Elevated, ByUser}
 use Rattle.module_state.specs.declared.Class.{Class}
 use Rattle.module_state.specs.declared.Grants.{Grants}
+use Rattle.module_state.specs.declared.Handle.{Handle}
 use Rattle.module_state.specs.declared.Lookup.{Lookup}
 use Rattle.module_state.specs.declared.Lookup.the-variants.{NotGranted, Granted, OnlyElevated}
 use Rattle.module_state.specs.declared.Placed.{Placed}
+use Rattle.module_state.specs.declared.Port.{Port}
 use Rattle.module_state.specs.declared.SessionState.{SessionState}
 use Rattle.module_state.specs.declared.State.{State}
 use Rattle.module_state.specs.declared.UserClaim.{UserClaim}
@@ -25,7 +27,7 @@ use Rattle.module_state.specs.declared.Phase.the-variants.{Closed, Opene
 use Rattle.names.specs.declared.Credential.{Credential}
 use Rattle.names.specs.declared.Session.{Session}
 use Rattle.module_state.specs.Numbers.{_when_, _unless_, _▸_}
-use Rattle.module_state.specs.Module.{lastSession, sessionCount, isSession, closedSession, phaseOf, isClosed, isChosen, lastCredential, credentialCount, isCredential, noWords, unprovisioned, wordsOf, grantsOf, provisioned, hasBit, lookup}
+use Rattle.module_state.specs.Module.{lastPort, isPort, lastHandle, isHandle, slot, noSlot, slotOf, lastSession, sessionCount, isSession, closedSession, phaseOf, isClosed, isChosen, lastCredential, credentialCount, isCredential, noWords, unprovisioned, wordsOf, grantsOf, provisioned, hasBit, lookup}
 use Rattle.module_state.specs.Claim.{phaseNumber, entered, placed, lookupNumber, grantNumber}
 use Rattle.module_state.proofs.Laws.{stop, pass, when-true, when-false, unless-true, unless-false}
 
@@ -71,6 +73,20 @@ module _ {n a : ℕ} (m : ℕ) (e : n ≡ a) where
 pub session-is : (s : Session) → leb (s .0) lastSession ≡ isSession s
 unfolding isSession
 session-is s = refl
+
+module _ (port : Port) (handle : Handle) where
+  pub slot-no-port : lastPort < port .0 → _≡_ {A = Session} (record { 0 = noSlot }) (slotOf port handle)
+  unfolding slotOf isPort
+  slot-no-port h = rw (lt-leb (port .0) lastPort h)
+
+  module _ (h : port .0 ≤ lastPort) where
+    pub slot-no-handle : lastHandle < handle .0 → _≡_ {A = Session} (record { 0 = noSlot }) (slotOf port handle)
+    unfolding slotOf isPort isHandle
+    slot-no-handle k = rw (le-leb (port .0) lastPort h, lt-leb (handle .0) lastHandle k)
+
+    pub slot-is : handle .0 ≤ lastHandle → _≡_ {A = Session} (record { 0 = slot (port .0) (handle .0) }) (slotOf port handle)
+    unfolding slotOf isPort isHandle
+    slot-is k = rw (le-leb (port .0) lastPort h, le-leb (handle .0) lastHandle k)
 
 pub credential-is : (c : Credential) → leb (c .0) lastCredential ≡ isCredential c
 unfolding isCredential
@@ -209,4 +225,4 @@ pub entered-is : (st : State) (s : Session) {phase : Phase} {n : ℕ} → phase 
 unfolding entered
 entered-is st s e q = q ∙ rw e
 
-pub ruleset rules = (needs, length-mapped, when-hit, when-miss, unless-hit, unless-miss, when-stop, when-pass, unless-stop, unless-pass, part-stop, part-pass, session-is, credential-is, phase-in, phase-out, closed-closed, closed-opened, closed-chosen, phase-argument, phase-closed, phase-opened, phase-chosen, entered-is, grants-in, grants-out, provisioned-of, words-provisioned, words-none, bit-over, bit-is, lookup-not, lookup-granted, lookup-elevated, number-granted, number-not, number-elevated, number-user, grant-is, placed-found, refused-placed, number-placed, placed-on)
+pub ruleset rules = (needs, length-mapped, when-hit, when-miss, unless-hit, unless-miss, when-stop, when-pass, unless-stop, unless-pass, part-stop, part-pass, session-is, slot-no-port, slot-no-handle, slot-is, credential-is, phase-in, phase-out, closed-closed, closed-opened, closed-chosen, phase-argument, phase-closed, phase-opened, phase-chosen, entered-is, grants-in, grants-out, provisioned-of, words-provisioned, words-none, bit-over, bit-is, lookup-not, lookup-granted, lookup-elevated, number-granted, number-not, number-elevated, number-user, grant-is, placed-found, refused-placed, number-placed, placed-on)

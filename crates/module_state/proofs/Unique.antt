@@ -4,6 +4,8 @@ use mathlib.Core.Path.{sym, _∙_}
 use Rattle.lists.proofs.Once.{OneAnswer}
 use Rattle.module_state.proofs.is_session.Kinds as is-session-kinds
 use Rattle.module_state.proofs.is_session.Reads as is-session
+use Rattle.module_state.proofs.slot_of.Kinds as slot-of-kinds
+use Rattle.module_state.proofs.slot_of.Reads as slot-of
 use Rattle.module_state.proofs.is_credential.Kinds as is-credential-kinds
 use Rattle.module_state.proofs.is_credential.Reads as is-credential
 use Rattle.module_state.proofs.phase_of.Kinds as phase-of-kinds
@@ -27,6 +29,9 @@ use Rattle.module_state.proofs.entered.Reads as entered
 
 pub is-session-once : OneAnswer 0 is-session-kinds.ps is-session-kinds.r is-session.Post
 is-session-once κs a x y s t p q = p ∙ sym q
+
+pub slot-of-once : OneAnswer 0 slot-of-kinds.ps slot-of-kinds.r slot-of.Post
+slot-of-once κs a x y s t p q = p ∙ sym q
 
 pub is-credential-once : OneAnswer 0 is-credential-kinds.ps is-credential-kinds.r is-credential.Post
 is-credential-once κs a x y s t p q = p ∙ sym q

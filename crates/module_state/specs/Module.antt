@@ -1,5 +1,5 @@
 -- "What the module holds"
-use Prim.Native.Nat.{ℕ, _/_, _%_, _^_, _+_}
+use Prim.Native.Nat.{ℕ, _/_, _%_, _^_, _+_, _*_}
 use mathlib.Core.Bool.{Bool, true, false, cond, _&&_}
 use mathlib.Core.List.{List}
 use lib.Dec.{eqb, leb}
@@ -13,23 +13,61 @@ use Rattle.table.specs.declared.Process.{Process}
 use Rattle.table.specs.declared.Table.{Table}
 use Rattle.module_state.specs.declared.Class.{Class}
 use Rattle.module_state.specs.declared.Grants.{Grants}
+use Rattle.module_state.specs.declared.Handle.{Handle}
 use Rattle.module_state.specs.declared.Lookup.{Lookup}
 use Rattle.module_state.specs.declared.Lookup.the-variants.{NotGranted, Granted, OnlyElevated}
 use Rattle.module_state.specs.declared.Phase.{Phase}
 use Rattle.module_state.specs.declared.Phase.the-variants.{Closed, Opened, Chosen}
+use Rattle.module_state.specs.declared.Port.{Port}
 use Rattle.module_state.specs.declared.SessionState.{SessionState}
 use Rattle.module_state.specs.declared.State.{State}
 use Rattle.module_state.specs.declared.Words.{Words}
 
--- ---- "Four sessions, handles 0 to 3. Each is closed, or open without a version, or open with version 1.0."
+-- ---- "Four sessions, handles 0 to 3. Each is closed, or open without a version, or open with version 1.0." Order 10: "Each port has its own four sessions";
+-- "Each call names its port, 0 or 1."
+abbrev pub lastPort : ℕ
+lastPort = 1
+
+abbrev pub lastHandle : ℕ
+lastHandle = 3
+
+abbrev pub handleCount : ℕ
+handleCount = lastHandle + 1
+
+-- "handle over 3"; "a port over 1 is 1"
+unfoldable pub isPort : Port → Bool
+isPort port = leb (port .0) lastPort
+
+unfoldable pub isHandle : Handle → Bool
+isHandle handle = leb (handle .0) lastHandle
+
+-- "Demands 2 and 3 are read with port and session together": wherever document 01 says session, it is the session of a port. Its slot, 4 × port + handle, stands
+-- for the two: those of port 0 are 0 to 3, those of port 1 are 4 to 7
+abbrev pub slot : ℕ → ℕ → ℕ
+slot port handle = port * handleCount + handle
+
 abbrev pub lastSession : ℕ
-lastSession = 3
+lastSession = slot lastPort lastHandle
 
 abbrev pub sessionCount : ℕ
 sessionCount = lastSession + 1
 
 unfoldable pub isSession : Session → Bool
 isSession s = leb (s .0) lastSession
+
+-- what is no port, or no handle of a port, has none
+abbrev pub noSlot : ℕ
+noSlot = 255
+
+unfoldable pub slotOf : Port → Handle → Session
+slotOf port handle = record { 0 = cond (isPort port && isHandle handle) (slot (port .0) (handle .0)) noSlot }
+
+-- and back: the port and the handle of a session
+unfoldable pub portOf : Session → Port
+portOf s = record { 0 = s .0 / handleCount }
+
+unfoldable pub handleOf : Session → Handle
+handleOf s = record { 0 = s .0 % handleCount }
 
 abbrev pub closedSession : SessionState
 closedSession = record { phase = Closed }

@@ -1,6 +1,6 @@
 // What the module holds, and whom it grants what; the types of a claim and of its check.
 ghost use mathlib.Core.Path.{_≡_};
-ghost use Rattle.module_state.specs.Module.{isSession, isCredential, phaseOf, isClosed, wordsOf, grantsOf, closedModule, hasBit, lookup};
+ghost use Rattle.module_state.specs.Module.{isSession, slotOf, isCredential, phaseOf, isClosed, wordsOf, grantsOf, closedModule, hasBit, lookup};
 ghost use Rattle.module_state.specs.Claim.{phaseNumber, entered, lookupNumber, grantNumber};
 use names::Credential;
 use names::Session;
@@ -42,7 +42,12 @@ pub const ROOM: u8 = 15;
 
 pub const ONLY_ELEVATED: u8 = 18;
 
-// A class of operations. A session handle or a credential cannot stand for it.
+// A management port, and a session handle, which is one of a port's. Neither can stand for the other, nor for a session.
+pub struct Port(pub u8);
+
+pub struct Handle(pub u8);
+
+// A class of operations. A session or a credential cannot stand for it.
 pub struct Class(pub u8);
 
 // The classes that calls of this module ask for.
@@ -54,8 +59,15 @@ pub const SAVE_OWN: u8 = 2;
 
 pub const SET_WORDS: u8 = 3;
 
-// Sessions are 0 to 3, credentials 0 to 7.
-pub const LAST_SESSION: u8 = 3;
+// Ports are 0 and 1, the handles of each 0 to 3, credentials 0 to 7.
+const LAST_PORT: u8 = 1;
+
+const LAST_HANDLE: u8 = 3;
+
+const HANDLES: u8 = LAST_HANDLE + 1;
+
+// Sessions have the slots 0 to 7: the last is that of the last handle of the last port.
+pub const LAST_SESSION: u8 = LAST_PORT * HANDLES + LAST_HANDLE;
 
 pub const SESSIONS: usize = LAST_SESSION as usize + 1;
 
@@ -153,13 +165,29 @@ pub fn is_session(s: Session) -> bool
     s.0 <= LAST_SESSION
 }
 
+// What is no session's slot.
+const NO_SLOT: u8 = 255;
+
+// The session of a port and a handle. Both are tested before they become one number: handle 4 of port 0 is not handle 0 of port 1.
+pub fn slot_of(port: Port, handle: Handle) -> Session
+    ensures { λ r. ⌜ r ≡ slotOf port handle ⌝ }
+{
+    if LAST_PORT < port.0 {
+        return Session(NO_SLOT);
+    }
+    if LAST_HANDLE < handle.0 {
+        return Session(NO_SLOT);
+    }
+    Session(port.0 * HANDLES + handle.0)
+}
+
 pub fn is_credential(c: Credential) -> bool
     ensures { λ r. ⌜ r ≡ isCredential c ⌝ }
 {
     c.0 <= LAST_CREDENTIAL
 }
 
-// The phase of a session; a handle that there is none of is closed.
+// The phase of a session; a slot that is no session's is closed.
 pub fn phase_of(st: State, s: Session) -> Phase
     ensures { λ r. ⌜ r ≡ phaseOf st s ⌝ }
 {

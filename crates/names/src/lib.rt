@@ -5,7 +5,7 @@ ghost use Rattle.rows.specs.Bytes.{isZero};
 ghost use Rattle.names.specs.Names.{nameLength, sameBytes, sameName, readName, nameIn, typeNumber, typeNumbered, typeOf, kindOf};
 ghost use Rattle.names.specs.Words.{stride, Word, stirred, digestOf};
 
-// A session handle. A credential cannot stand for it, nor it for a credential.
+// A session, by its slot: which port's it is, and which of that port's. A credential cannot stand for it, nor it for a credential.
 pub struct Session(pub u8);
 
 pub struct Credential(pub u16);

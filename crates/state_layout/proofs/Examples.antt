@@ -27,37 +27,38 @@ computed = Type 0
 abbrev process : ℕ → Kind → ℕ → ℕ → List ℕ → Process
 process c k s n name = record { credential = record { 0 = c }; kind = k; session = record { 0 = s }; next = n; name = record { bytes = name } }
 
--- sessions 0 and 1 are open, 0 with version 1.0; credentials 0 (word 15) and 1 (word 16, second word 16) are provisioned. P is credential 0's active user process in
--- session 0, its next number 3; Q is a saved one of credential 1, its next number 300; R is the elevation of credential 1 in session 0
+-- sessions 0 and 1 of port 0 are open, 0 with version 1.0, and so is session 0 of port 1; credentials 0 (word 15) and 1 (word 16, second word 16) are provisioned.
+-- P is credential 0's active user process in session 0 of port 0, its next number 3; Q is a saved one of credential 1, its next number 300; R is the elevation of
+-- credential 1 in session 0 of port 1, whose slot is 4
 abbrev drawn : State
 drawn =
     record {
-      sessions = record { phase = Chosen } ∷ record { phase = Opened } ∷ replicate 2 closedSession;
+      sessions = record { phase = Chosen } ∷ record { phase = Opened } ∷ closedSession ∷ closedSession ∷ record { phase = Chosen } ∷ replicate 3 closedSession;
       credentials = granted (bothWords 15 0) ∷ granted (bothWords 16 16) ∷ replicate 6 unprovisioned;
-      table = tableOf (process 0 User 0 3 P ∷ process 1 Saved 0 300 Q ∷ process 1 Elevation 0 0 R ∷ []);
+      table = tableOf (process 0 User 0 3 P ∷ process 1 Saved 0 300 Q ∷ process 1 Elevation 4 0 R ∷ []);
     }
 
 abbrev bytes : List ℕ
 bytes =
-    -- at 0: the sessions
-    (2 ∷ 1 ∷ 0 ∷ 0 ∷ [])
-    -- at 4: the credentials
+    -- at 0: the sessions of port 0, and at 4 those of port 1
+    (2 ∷ 1 ∷ 0 ∷ 0 ∷ 2 ∷ 0 ∷ 0 ∷ 0 ∷ [])
+    -- at 8: the credentials
     ++ ((1 ∷ 15 ∷ 0 ∷ 0 ∷ 0 ∷ 0 ∷ 0 ∷ 0 ∷ 0 ∷ [])
     ++ ((1 ∷ 16 ∷ 0 ∷ 0 ∷ 0 ∷ 16 ∷ 0 ∷ 0 ∷ 0 ∷ [])
     ++ (replicate 54 0
-    -- at 76: the count
+    -- at 80: the count
     ++ (3
-    -- at 77, 130 and 183: the places that stand
+    -- at 81, 134 and 187: the places that stand
     ∷ ((0 ∷ 0 ∷ 0 ∷ 0x03 ∷ 0x00 ∷ P)
     ++ ((1 ∷ 2 ∷ 0 ∷ 0x2c ∷ 0x01 ∷ Q)
-    ++ ((1 ∷ 1 ∷ 0 ∷ 0x00 ∷ 0x00 ∷ R)
-    -- from 236 to 712: the free places
+    ++ ((1 ∷ 1 ∷ 4 ∷ 0x00 ∷ 0x00 ∷ R)
+    -- from 240 to 716: the free places
     ++ replicate 477 0)))))))
 
 pub record Drawn : Type 0 where
   pub written : stateBytes drawn ≡ bytes
   pub read : stateOf bytes ≡ drawn
-  pub long : length bytes ≡ 713
+  pub long : length bytes ≡ 717
   pub held : holdsState bytes ≡ true
   pub nothing-held : holdsState (replicate stateLength 0) ≡ true
   pub nothing-written : stateBytes nothingHeld ≡ replicate stateLength 0
@@ -80,6 +81,10 @@ nameEnd = nameAt + 47
 abbrev changed : ℕ → ℕ → Bool
 changed at byte = holdsState (set bytes at byte)
 
+-- the second place made the elevation of credential 1 in session 0 of port 0
+abbrev elevated : List ℕ → List ℕ
+elevated l = set (set (set l (place 1 + kindAt) 1) (place 1 + nextAt) 0) (place 1 + nextAt + 1) 0
+
 pub record Refused : Type 0 where
   -- "its length is another"
   pub short : holdsState (take (stateLength - 1) bytes) ≡ false
@@ -90,7 +95,7 @@ pub record Refused : Type 0 where
   pub count-13 : changed countAt 13 ≡ false
   pub credential-8 : changed (place 0 + ownerAt) 8 ≡ false
   pub type-3 : changed (place 0 + kindAt) 3 ≡ false
-  pub session-4 : changed (place 0 + sessionAt) 4 ≡ false
+  pub slot-8 : changed (place 0 + sessionAt) 8 ≡ false
   -- "a field kept zero isn't zero (an unprovisioned credential's word too)"
   pub word-unprovisioned : changed (credential 2 + wordAt + 3) 1 ≡ false
   pub second-unprovisioned : changed (credential 2 + secondAt + 3) 1 ≡ false
@@ -104,20 +109,25 @@ pub record Refused : Type 0 where
   pub owner : changed (place 0 + ownerAt) 2 ≡ false
   pub session-without-version : changed (place 0 + sessionAt) 1 ≡ false
   pub session-closed : changed (place 0 + sessionAt) 2 ≡ false
+  pub session-of-port-1-closed : changed (place 0 + sessionAt) 5 ≡ false
   pub name-twice : changed (place 2 + nameEnd) 0x11 ≡ false
   pub user-twice : holdsState (set (set bytes (place 1 + ownerAt) 0) (place 1 + kindAt) 0) ≡ false
   pub count-too-high : changed countAt 4 ≡ false
-  pub elevation-twice : holdsState (set (set (set bytes (place 1 + kindAt) 1) (place 1 + nextAt) 0) (place 1 + nextAt + 1) 0) ≡ false
+  pub elevation-twice : holdsState (set (elevated bytes) (place 1 + sessionAt) 4) ≡ false
 
--- what breaks none: another credential's user process in that session; a fourth process, of a name of its own
+-- what breaks none: another credential's user process in that session; a user process on either port; a credential's user processes on both, and elevations on both; a
+-- fourth process, of a name of its own
 pub record Held : Type 0 where
   pub user-of-another : changed (place 1 + kindAt) 0 ≡ true
+  pub user-on-port-1 : changed (place 0 + sessionAt) 4 ≡ true
+  pub users-on-both : holdsState (set (set (set bytes (place 1 + ownerAt) 0) (place 1 + kindAt) 0) (place 1 + sessionAt) 4) ≡ true
+  pub elevations-on-both : holdsState (elevated bytes) ≡ true
   pub fourth-named : holdsState (set (set (set (set bytes countAt 4) (place 3 + kindAt) 2) (place 3 + nextAt) 1) (place 3 + nameEnd) 7) ≡ true
 
 pub refused : Refused
 unfolding computed
-refused = record { short = refl; long = refl; phase-3 = refl; flag-2 = refl; count-13 = refl; credential-8 = refl; type-3 = refl; session-4 = refl; word-unprovisioned = refl; second-unprovisioned = refl; saved-session = refl; elevation-next = refl; free-place = refl; count-too-low = refl; saved-uncounted = refl; owner = refl; session-without-version = refl; session-closed = refl; name-twice = refl; user-twice = refl; count-too-high = refl; elevation-twice = refl }
+refused = record { short = refl; long = refl; phase-3 = refl; flag-2 = refl; count-13 = refl; credential-8 = refl; type-3 = refl; slot-8 = refl; word-unprovisioned = refl; second-unprovisioned = refl; saved-session = refl; elevation-next = refl; free-place = refl; count-too-low = refl; saved-uncounted = refl; owner = refl; session-without-version = refl; session-closed = refl; session-of-port-1-closed = refl; name-twice = refl; user-twice = refl; count-too-high = refl; elevation-twice = refl }
 
 pub held : Held
 unfolding computed
-held = record { user-of-another = refl; fourth-named = refl }
+held = record { user-of-another = refl; user-on-port-1 = refl; users-on-both = refl; elevations-on-both = refl; fourth-named = refl }

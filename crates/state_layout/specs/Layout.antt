@@ -1,4 +1,4 @@
--- "It lends the state as a slice too, in one fixed layout": sessions, credentials, a count and places, 713 bytes.
+-- "It lends the state as a slice too, in one fixed layout": sessions, credentials, a count and places, 717 bytes.
 -- docs/STATE.md draws it.
 use Prim.Native.Nat.{ℕ, zero, suc, _+_, _*_}
 use mathlib.Core.Bool.{Bool, true, false, cond, not, _&&_, _||_}
@@ -78,7 +78,7 @@ placesAt = countAt + countSize
 abbrev pub stateLength : ℕ
 stateLength = placesAt + places * placeSize
 
--- ---- a session: "Each is closed, or open without a version, or open with version 1.0."
+-- ---- a session: "Each is closed, or open without a version, or open with version 1.0." Those of port 0 stand first, each at its slot
 abbrev pub closedByte : ℕ
 closedByte = 0
 
@@ -136,7 +136,7 @@ unfoldable pub grantsFit : List ℕ → Bool
 grantsFit part = leb (getD part flagAt 0) setFlag && (eqb (getD part flagAt 0) setFlag || every isZero (drop wordAt part))
 
 -- ---- a place: "Each has a credential, a type .., the session when active, a next number, and a name of 48 bytes". The type is its number in 004
--- Table 46, the next number is little endian
+-- Table 46, the session its slot, the next number is little endian
 unfoldable pub processBytes : Process → List ℕ
 processBytes p =
     byteOf (p .credential .0) ∷ kindNumber (p .kind) ∷ p .session .0 ∷ (bytesOf nextSize (p .next) ++ p .name .bytes)

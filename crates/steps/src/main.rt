@@ -32,7 +32,10 @@ fn r() -> [u8; NAME_LENGTH] {
     name(0x11, 0x12)
 }
 
-// What the entries take: the kind of a claim, its verdict, whether a process is kept, the wanted credential of a listing of all.
+// What the entries take: the port, of which document 01's sessions are those of the first; the kind of a claim, its verdict, whether a process is kept, the
+// wanted credential of a listing of all.
+const PORT: u32 = 0;
+
 const USER: u32 = 0;
 
 const YES: u32 = 1;
@@ -63,27 +66,27 @@ fn told(n: u32) {
 }
 
 fn open(state: &mut [u8], s: u32) {
-    told(entries_unprotected::slavotuk_open(state, s));
+    told(entries_unprotected::slavotuk_open(state, PORT, s));
 }
 
 fn select(state: &mut [u8], s: u32, version: u32) {
-    told(entries_unprotected::slavotuk_select(state, s, version));
+    told(entries_unprotected::slavotuk_select(state, PORT, s, version));
 }
 
 fn start(state: &mut [u8], s: u32, c: u32, name: &[u8]) {
-    told(entries_unprotected::slavotuk_start(state, s, c, name));
+    told(entries_unprotected::slavotuk_start(state, PORT, s, c, name));
 }
 
 fn continue_saved(state: &mut [u8], s: u32, c: u32, name: &[u8]) {
-    told(entries_unprotected::slavotuk_continue(state, s, c, name));
+    told(entries_unprotected::slavotuk_continue(state, PORT, s, c, name));
 }
 
 fn record(state: &mut [u8], c: u32, number: u16, class: u32) {
-    told(entries_protected::slavotuk_record(state, 0, USER, c, number, YES, class));
+    told(entries_protected::slavotuk_record(state, PORT, 0, USER, c, number, YES, class));
 }
 
 fn kill(state: &mut [u8], s: u32, c: u32, number: u16, name: &[u8]) {
-    told(entries_protected::slavotuk_kill(state, s, USER, c, number, YES, name));
+    told(entries_protected::slavotuk_kill(state, PORT, s, USER, c, number, YES, name));
 }
 
 // The number of a listing of all, and the length of its message.
@@ -91,6 +94,7 @@ fn list(state: &mut [u8], number: u16, response: &mut [u8]) {
     let mut long: usize = 0;
     told(entries_protected::slavotuk_list(
         state,
+        PORT,
         0,
         USER,
         0,
@@ -156,7 +160,7 @@ fn step5(state: &mut [u8]) {
 
 fn step6(state: &mut [u8]) {
     begin(6);
-    told(entries_protected::slavotuk_record(state, 0, USER, 1, 1, NO, 4));
+    told(entries_protected::slavotuk_record(state, PORT, 0, USER, 1, 1, NO, 4));
     record(state, 1, 1, 5);
     record(state, 1, 2, 4);
     end_line();
@@ -208,7 +212,7 @@ fn standing(state: &[u8]) -> u64 {
 // The numbers, and the next number of the one process.
 fn step11(state: &mut [u8]) {
     begin(11);
-    told(entries_protected::slavotuk_end(state, 0, 0, 3, YES, KEPT));
+    told(entries_protected::slavotuk_end(state, PORT, 0, 0, 3, YES, KEPT));
     open(state, 1);
     select(state, 1, 0x10);
     continue_saved(state, 1, 0, &q());
@@ -221,8 +225,8 @@ fn step11(state: &mut [u8]) {
 fn fill(state: &mut [u8]) {
     let mut i: u8 = 0;
     while i < 11 {
-        entries_unprotected::slavotuk_start(state, 0, 0, &name(0x33, i));
-        entries_protected::slavotuk_end(state, 0, 0, 0, YES, KEPT);
+        entries_unprotected::slavotuk_start(state, PORT, 0, 0, &name(0x33, i));
+        entries_protected::slavotuk_end(state, PORT, 0, 0, 0, YES, KEPT);
         i += 1;
     }
 }
@@ -242,7 +246,7 @@ fn spend(state: &mut [u8], class: u32, number: u32) {
     let mut got: u64 = 0;
     let mut i: u16 = 0;
     while i < 65535 {
-        if entries_protected::slavotuk_record(state, 0, USER, 1, i, YES, class) == number {
+        if entries_protected::slavotuk_record(state, PORT, 0, USER, 1, i, YES, class) == number {
             got += 1;
         }
         i += 1;
@@ -255,7 +259,7 @@ fn spent(state: &mut [u8]) {
     let mut refused: u64 = 0;
     let mut i: u16 = 0;
     loop {
-        if entries_protected::slavotuk_record(state, 0, USER, 1, i, YES, 4) == SPENT as u32 {
+        if entries_protected::slavotuk_record(state, PORT, 0, USER, 1, i, YES, 4) == SPENT as u32 {
             refused += 1;
         }
         if i == 65535 {
