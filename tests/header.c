@@ -17,6 +17,11 @@
 #define VALUES values, SLAVOTUK_MESSAGE_VALUES
 #define WORDS words, SLAVOTUK_CREDENTIALS
 
+/* A port and a session of it: session 0 of either, and the last session that there is. */
+#define HERE 0, 0
+#define ACROSS 1, 0
+#define LAST SLAVOTUK_PORTS - 1, SLAVOTUK_SESSIONS - 1
+
 /* Where docs/STATE.md has the next number of the process at a place: the places are last, and a name is last in each. */
 #define PLACE_SIZE (5 + SLAVOTUK_NAME_SIZE)
 #define NEXT_NUMBER(place) (SLAVOTUK_STATE_SIZE - PLACE_SIZE * (SLAVOTUK_PROCESSES - (place)) + 3)
@@ -162,24 +167,24 @@ static void check_nulls(void)
     EXPECT(slavotuk_fresh(MODULE, flags, sizeof flags, NULL, 0, WORDS), SLAVOTUK_REFUSED_ARGUMENT);
     EXPECT(slavotuk_fresh(MODULE, flags, sizeof flags, WORDS, NULL, 0), SLAVOTUK_REFUSED_ARGUMENT);
     EXPECT(slavotuk_holds(NULL, 0), SLAVOTUK_REFUSED_ARGUMENT);
-    EXPECT(slavotuk_open(NULL, 0, 0), SLAVOTUK_REFUSED_ARGUMENT);
-    EXPECT(slavotuk_close(NULL, 0, 0), SLAVOTUK_REFUSED_ARGUMENT);
-    EXPECT(slavotuk_select(NULL, 0, 0, SLAVOTUK_VERSION_1_0), SLAVOTUK_REFUSED_ARGUMENT);
-    EXPECT(slavotuk_drop(NULL, 0, 0), SLAVOTUK_REFUSED_ARGUMENT);
-    EXPECT(slavotuk_start(NULL, 0, 0, 0, NAMED(0)), SLAVOTUK_REFUSED_ARGUMENT);
-    EXPECT(slavotuk_start(MODULE, 0, 0, NULL, 0), SLAVOTUK_REFUSED_ARGUMENT);
-    EXPECT(slavotuk_continue(NULL, 0, 0, 0, NAMED(0)), SLAVOTUK_REFUSED_ARGUMENT);
-    EXPECT(slavotuk_continue(MODULE, 0, 0, NULL, 0), SLAVOTUK_REFUSED_ARGUMENT);
-    EXPECT(slavotuk_elevate(NULL, 0, 0, 0, NAMED(0), 1), SLAVOTUK_REFUSED_ARGUMENT);
-    EXPECT(slavotuk_elevate(MODULE, 0, 0, NULL, 0, 1), SLAVOTUK_REFUSED_ARGUMENT);
-    EXPECT(slavotuk_end(NULL, 0, 0, 0, 0, 1, 0), SLAVOTUK_REFUSED_ARGUMENT);
-    EXPECT(slavotuk_record(NULL, 0, 0, USER(0, 0), SLAVOTUK_CLASS_DEVICE_FIRST), SLAVOTUK_REFUSED_ARGUMENT);
-    EXPECT(slavotuk_list(NULL, 0, 0, USER(0, 0), 0, listing, SLAVOTUK_LISTING_SIZE, &length), SLAVOTUK_REFUSED_ARGUMENT);
-    SPENDS(0, slavotuk_list(MODULE, 0, USER(0, 0), 0, NULL, 0, &length), SLAVOTUK_REFUSED_ROOM);
+    EXPECT(slavotuk_open(NULL, 0, HERE), SLAVOTUK_REFUSED_ARGUMENT);
+    EXPECT(slavotuk_close(NULL, 0, HERE), SLAVOTUK_REFUSED_ARGUMENT);
+    EXPECT(slavotuk_select(NULL, 0, HERE, SLAVOTUK_VERSION_1_0), SLAVOTUK_REFUSED_ARGUMENT);
+    EXPECT(slavotuk_drop(NULL, 0, HERE), SLAVOTUK_REFUSED_ARGUMENT);
+    EXPECT(slavotuk_start(NULL, 0, HERE, 0, NAMED(0)), SLAVOTUK_REFUSED_ARGUMENT);
+    EXPECT(slavotuk_start(MODULE, HERE, 0, NULL, 0), SLAVOTUK_REFUSED_ARGUMENT);
+    EXPECT(slavotuk_continue(NULL, 0, HERE, 0, NAMED(0)), SLAVOTUK_REFUSED_ARGUMENT);
+    EXPECT(slavotuk_continue(MODULE, HERE, 0, NULL, 0), SLAVOTUK_REFUSED_ARGUMENT);
+    EXPECT(slavotuk_elevate(NULL, 0, HERE, 0, NAMED(0), 1), SLAVOTUK_REFUSED_ARGUMENT);
+    EXPECT(slavotuk_elevate(MODULE, HERE, 0, NULL, 0, 1), SLAVOTUK_REFUSED_ARGUMENT);
+    EXPECT(slavotuk_end(NULL, 0, HERE, 0, 0, 1, 0), SLAVOTUK_REFUSED_ARGUMENT);
+    EXPECT(slavotuk_record(NULL, 0, HERE, USER(0, 0), SLAVOTUK_CLASS_DEVICE_FIRST), SLAVOTUK_REFUSED_ARGUMENT);
+    EXPECT(slavotuk_list(NULL, 0, HERE, USER(0, 0), 0, listing, SLAVOTUK_LISTING_SIZE, &length), SLAVOTUK_REFUSED_ARGUMENT);
+    SPENDS(0, slavotuk_list(MODULE, HERE, USER(0, 0), 0, NULL, 0, &length), SLAVOTUK_REFUSED_ROOM);
     EXPECT(length, 0);
-    EXPECT(slavotuk_kill(NULL, 0, 0, USER(0, 0), NAMED(0)), SLAVOTUK_REFUSED_ARGUMENT);
-    EXPECT(slavotuk_kill(MODULE, 0, USER(0, 0), NULL, 0), SLAVOTUK_REFUSED_ARGUMENT);
-    EXPECT(slavotuk_set_word(NULL, 0, 0, USER(0, 0), 0, 0, 0), SLAVOTUK_REFUSED_ARGUMENT);
+    EXPECT(slavotuk_kill(NULL, 0, HERE, USER(0, 0), NAMED(0)), SLAVOTUK_REFUSED_ARGUMENT);
+    EXPECT(slavotuk_kill(MODULE, HERE, USER(0, 0), NULL, 0), SLAVOTUK_REFUSED_ARGUMENT);
+    EXPECT(slavotuk_set_word(NULL, 0, HERE, USER(0, 0), 0, 0, 0), SLAVOTUK_REFUSED_ARGUMENT);
     length = 1;
     EXPECT(slavotuk_image(NULL, 0, listing, SLAVOTUK_LISTING_SIZE, &length), SLAVOTUK_REFUSED_ARGUMENT);
     EXPECT(length, 0);
@@ -221,49 +226,86 @@ static void check_message_nulls(void)
     EXPECT(message[0], SLAVOTUK_OWNERSHIP_TAKEN);
 }
 
+/* Both ports have as many sessions. Session 0 of each is left open, with a version. */
 static void check_sessions(void)
 {
-    EXPECT(slavotuk_open(MODULE, SLAVOTUK_SESSIONS), SLAVOTUK_REFUSED_ARGUMENT);
-    EXPECT(slavotuk_open(MODULE, SLAVOTUK_SESSIONS - 1), SLAVOTUK_DONE);
-    EXPECT(slavotuk_close(MODULE, SLAVOTUK_SESSIONS - 1), SLAVOTUK_DONE);
-    EXPECT(slavotuk_close(MODULE, SLAVOTUK_SESSIONS - 1), SLAVOTUK_REFUSED_SESSION);
-    for (uint32_t session = 0; session < 2; session++) {
-        EXPECT(slavotuk_open(MODULE, session), SLAVOTUK_DONE);
-        EXPECT(slavotuk_drop(MODULE, session), SLAVOTUK_REFUSED_NO_VERSION);
-        EXPECT(slavotuk_select(MODULE, session, SLAVOTUK_VERSION_1_0 + 1), SLAVOTUK_REFUSED_VERSION);
-        EXPECT(slavotuk_select(MODULE, session, SLAVOTUK_VERSION_1_0), SLAVOTUK_DONE);
+    EXPECT(slavotuk_open(MODULE, SLAVOTUK_PORTS, 0), SLAVOTUK_REFUSED_ARGUMENT);
+    for (uint32_t port = 0; port < SLAVOTUK_PORTS; port++) {
+        EXPECT(slavotuk_open(MODULE, port, SLAVOTUK_SESSIONS), SLAVOTUK_REFUSED_ARGUMENT);
+        EXPECT(slavotuk_open(MODULE, port, SLAVOTUK_SESSIONS - 1), SLAVOTUK_DONE);
+        EXPECT(slavotuk_close(MODULE, port, SLAVOTUK_SESSIONS - 1), SLAVOTUK_DONE);
+        EXPECT(slavotuk_close(MODULE, port, SLAVOTUK_SESSIONS - 1), SLAVOTUK_REFUSED_SESSION);
+        EXPECT(slavotuk_open(MODULE, port, 0), SLAVOTUK_DONE);
+        EXPECT(slavotuk_drop(MODULE, port, 0), SLAVOTUK_REFUSED_NO_VERSION);
+        EXPECT(slavotuk_select(MODULE, port, 0, SLAVOTUK_VERSION_1_0 + 1), SLAVOTUK_REFUSED_VERSION);
+        EXPECT(slavotuk_select(MODULE, port, 0, SLAVOTUK_VERSION_1_0), SLAVOTUK_DONE);
     }
 }
 
-/* Session 0 gets a user process for each credential that is provisioned. */
+/* Every call on a session, with a port or a session that is none: it is refused first, and nothing is touched. */
+static void check_no_session(uint32_t port, uint32_t session)
+{
+    size_t length = 1;
+    memcpy(kept, state, SLAVOTUK_STATE_SIZE);
+    EXPECT(slavotuk_open(MODULE, port, session), SLAVOTUK_REFUSED_ARGUMENT);
+    EXPECT(slavotuk_close(MODULE, port, session), SLAVOTUK_REFUSED_ARGUMENT);
+    EXPECT(slavotuk_select(MODULE, port, session, SLAVOTUK_VERSION_1_0), SLAVOTUK_REFUSED_ARGUMENT);
+    EXPECT(slavotuk_start(MODULE, port, session, 0, NAMED(50)), SLAVOTUK_REFUSED_ARGUMENT);
+    EXPECT(slavotuk_continue(MODULE, port, session, 0, NAMED(50)), SLAVOTUK_REFUSED_ARGUMENT);
+    EXPECT(slavotuk_elevate(MODULE, port, session, 0, NAMED(50), 1), SLAVOTUK_REFUSED_ARGUMENT);
+    EXPECT(slavotuk_drop(MODULE, port, session), SLAVOTUK_REFUSED_ARGUMENT);
+    EXPECT(slavotuk_end(MODULE, port, session, 0, 0, 1, 0), SLAVOTUK_REFUSED_ARGUMENT);
+    EXPECT(slavotuk_record(MODULE, port, session, USER(0, 0), SLAVOTUK_CLASS_DEVICE_FIRST), SLAVOTUK_REFUSED_ARGUMENT);
+    EXPECT(slavotuk_list(MODULE, port, session, USER(0, 0), 0, listing, SLAVOTUK_LISTING_SIZE, &length),
+           SLAVOTUK_REFUSED_ARGUMENT);
+    EXPECT(length, 0);
+    EXPECT(slavotuk_kill(MODULE, port, session, USER(0, 0), NAMED(0)), SLAVOTUK_REFUSED_ARGUMENT);
+    EXPECT(slavotuk_set_word(MODULE, port, session, USER(0, 0), 0, 0, 0), SLAVOTUK_REFUSED_ARGUMENT);
+    EXPECT(memcmp(kept, state, SLAVOTUK_STATE_SIZE), 0);
+}
+
+/* No session of port 0 is one of port 1, also where that one is open. */
+static void check_no_sessions(void)
+{
+    check_no_session(SLAVOTUK_PORTS, 0);
+    check_no_session(UINT32_MAX, 0);
+    for (uint32_t port = 0; port < SLAVOTUK_PORTS; port++) {
+        for (uint32_t session = SLAVOTUK_SESSIONS; session <= SLAVOTUK_PORTS * SLAVOTUK_SESSIONS; session++) {
+            check_no_session(port, session);
+        }
+        check_no_session(port, UINT32_MAX);
+    }
+}
+
+/* Session 0 of port 0 gets a user process for each credential that is provisioned. A name of port 0 is taken on port 1. */
 static void check_starts(void)
 {
-    EXPECT(slavotuk_start(MODULE, 0, SLAVOTUK_CREDENTIALS, NAMED(0)), SLAVOTUK_REFUSED_ARGUMENT);
-    EXPECT(slavotuk_start(MODULE, 0, SLAVOTUK_CREDENTIALS - 1, NAMED(0)), SLAVOTUK_REFUSED_CREDENTIAL);
-    EXPECT(slavotuk_start(MODULE, 0, 0, named(0), SLAVOTUK_NAME_SIZE - 1), SLAVOTUK_REFUSED_ARGUMENT);
+    EXPECT(slavotuk_start(MODULE, HERE, SLAVOTUK_CREDENTIALS, NAMED(0)), SLAVOTUK_REFUSED_ARGUMENT);
+    EXPECT(slavotuk_start(MODULE, HERE, SLAVOTUK_CREDENTIALS - 1, NAMED(0)), SLAVOTUK_REFUSED_CREDENTIAL);
+    EXPECT(slavotuk_start(MODULE, HERE, 0, named(0), SLAVOTUK_NAME_SIZE - 1), SLAVOTUK_REFUSED_ARGUMENT);
     for (uint32_t credential = 0; credential < SLAVOTUK_CREDENTIALS - 1; credential++) {
-        EXPECT(slavotuk_start(MODULE, 0, credential, NAMED(credential)), SLAVOTUK_DONE);
+        EXPECT(slavotuk_start(MODULE, HERE, credential, NAMED(credential)), SLAVOTUK_DONE);
     }
-    EXPECT(slavotuk_start(MODULE, 0, 0, NAMED(90)), SLAVOTUK_REFUSED_ALREADY_ACTIVE);
-    EXPECT(slavotuk_start(MODULE, 1, 0, NAMED(1)), SLAVOTUK_REFUSED_NAME_TAKEN);
+    EXPECT(slavotuk_start(MODULE, HERE, 0, NAMED(90)), SLAVOTUK_REFUSED_ALREADY_ACTIVE);
+    EXPECT(slavotuk_start(MODULE, ACROSS, 0, NAMED(1)), SLAVOTUK_REFUSED_NAME_TAKEN);
 }
 
 /* The device classes: credential 4 has the first, credential 5 the last. */
 static void check_records(void)
 {
-    EXPECT(slavotuk_record(MODULE, 0, USER(4, 0), SLAVOTUK_CLASS_DEVICE_FIRST - 1), SLAVOTUK_REFUSED_ARGUMENT);
-    EXPECT(slavotuk_record(MODULE, 0, USER(4, 0), SLAVOTUK_CLASS_DEVICE_FIRST), SLAVOTUK_DONE);
-    EXPECT(slavotuk_record(MODULE, 0, USER(4, 0), SLAVOTUK_CLASS_DEVICE_FIRST), SLAVOTUK_REFUSED_OUT_OF_TURN);
-    SPENDS(4, slavotuk_record(MODULE, 0, USER(4, 1), SLAVOTUK_CLASS_DEVICE_LAST), SLAVOTUK_REFUSED_NOT_GRANTED);
-    EXPECT(slavotuk_record(MODULE, 0, SLAVOTUK_CLAIM_USER, 4, 2, 0, SLAVOTUK_CLASS_DEVICE_FIRST), SLAVOTUK_REFUSED_VERDICT);
-    EXPECT(slavotuk_record(MODULE, 0, USER(4, 2), SLAVOTUK_CLASS_DEVICE_FIRST), SLAVOTUK_DONE);
-    EXPECT(slavotuk_record(MODULE, 0, USER(5, 0), SLAVOTUK_CLASS_DEVICE_LAST), SLAVOTUK_DONE);
-    EXPECT(slavotuk_record(MODULE, 0, USER(5, 1), SLAVOTUK_CLASS_DEVICE_LAST + 1), SLAVOTUK_REFUSED_ARGUMENT);
-    EXPECT(slavotuk_record(MODULE, 0, ELEVATED, SLAVOTUK_CLASS_DEVICE_FIRST), SLAVOTUK_REFUSED_NO_PROCESS);
-    EXPECT(slavotuk_elevate(MODULE, 0, 4, NAMED(7), 0), SLAVOTUK_REFUSED_VERDICT);
-    EXPECT(slavotuk_elevate(MODULE, 0, 4, NAMED(7), 1), SLAVOTUK_DONE);
-    EXPECT(slavotuk_record(MODULE, 0, ELEVATED, SLAVOTUK_CLASS_DEVICE_FIRST), SLAVOTUK_DONE);
-    EXPECT(slavotuk_record(MODULE, 0, SLAVOTUK_CLAIM_ELEVATED + 1, 4, 1, 1, SLAVOTUK_CLASS_DEVICE_FIRST),
+    EXPECT(slavotuk_record(MODULE, HERE, USER(4, 0), SLAVOTUK_CLASS_DEVICE_FIRST - 1), SLAVOTUK_REFUSED_ARGUMENT);
+    EXPECT(slavotuk_record(MODULE, HERE, USER(4, 0), SLAVOTUK_CLASS_DEVICE_FIRST), SLAVOTUK_DONE);
+    EXPECT(slavotuk_record(MODULE, HERE, USER(4, 0), SLAVOTUK_CLASS_DEVICE_FIRST), SLAVOTUK_REFUSED_OUT_OF_TURN);
+    SPENDS(4, slavotuk_record(MODULE, HERE, USER(4, 1), SLAVOTUK_CLASS_DEVICE_LAST), SLAVOTUK_REFUSED_NOT_GRANTED);
+    EXPECT(slavotuk_record(MODULE, HERE, SLAVOTUK_CLAIM_USER, 4, 2, 0, SLAVOTUK_CLASS_DEVICE_FIRST), SLAVOTUK_REFUSED_VERDICT);
+    EXPECT(slavotuk_record(MODULE, HERE, USER(4, 2), SLAVOTUK_CLASS_DEVICE_FIRST), SLAVOTUK_DONE);
+    EXPECT(slavotuk_record(MODULE, HERE, USER(5, 0), SLAVOTUK_CLASS_DEVICE_LAST), SLAVOTUK_DONE);
+    EXPECT(slavotuk_record(MODULE, HERE, USER(5, 1), SLAVOTUK_CLASS_DEVICE_LAST + 1), SLAVOTUK_REFUSED_ARGUMENT);
+    EXPECT(slavotuk_record(MODULE, HERE, ELEVATED, SLAVOTUK_CLASS_DEVICE_FIRST), SLAVOTUK_REFUSED_NO_PROCESS);
+    EXPECT(slavotuk_elevate(MODULE, HERE, 4, NAMED(7), 0), SLAVOTUK_REFUSED_VERDICT);
+    EXPECT(slavotuk_elevate(MODULE, HERE, 4, NAMED(7), 1), SLAVOTUK_DONE);
+    EXPECT(slavotuk_record(MODULE, HERE, ELEVATED, SLAVOTUK_CLASS_DEVICE_FIRST), SLAVOTUK_DONE);
+    EXPECT(slavotuk_record(MODULE, HERE, SLAVOTUK_CLAIM_ELEVATED + 1, 4, 1, 1, SLAVOTUK_CLASS_DEVICE_FIRST),
            SLAVOTUK_REFUSED_ARGUMENT);
 }
 
@@ -271,20 +313,21 @@ static void check_records(void)
 static void check_own_classes(void)
 {
     size_t length = 0;
-    SPENDS(3, slavotuk_list(MODULE, 0, USER(3, 0), 0, listing, SLAVOTUK_LISTING_SIZE, &length), SLAVOTUK_REFUSED_NOT_GRANTED);
-    EXPECT(slavotuk_list(MODULE, 0, USER(0, 1), 3, listing, SLAVOTUK_LISTING_SIZE, &length), SLAVOTUK_DONE);
-    SPENDS(3, slavotuk_kill(MODULE, 0, USER(3, 1), NAMED(6)), SLAVOTUK_REFUSED_NO_PROCESS);
-    EXPECT(slavotuk_kill(MODULE, 0, USER(1, 0), NAMED(6)), SLAVOTUK_DONE);
-    SPENDS(3, slavotuk_end(MODULE, 0, 3, 2, 1, 1), SLAVOTUK_REFUSED_NOT_GRANTED);
-    EXPECT(slavotuk_end(MODULE, 0, 2, 0, 1, 1), SLAVOTUK_DONE);
-    SPENDS(0, slavotuk_set_word(MODULE, 0, USER(0, 2), 6, 0, 0), SLAVOTUK_REFUSED_NOT_GRANTED);
-    SPENDS(3, slavotuk_set_word(MODULE, 0, USER(3, 3), SLAVOTUK_CREDENTIALS - 1, 0, 0), SLAVOTUK_REFUSED_CREDENTIAL);
-    EXPECT(slavotuk_set_word(MODULE, 0, USER(3, 4), 6, 0, 0), SLAVOTUK_DONE);
+    SPENDS(3, slavotuk_list(MODULE, HERE, USER(3, 0), 0, listing, SLAVOTUK_LISTING_SIZE, &length),
+           SLAVOTUK_REFUSED_NOT_GRANTED);
+    EXPECT(slavotuk_list(MODULE, HERE, USER(0, 1), 3, listing, SLAVOTUK_LISTING_SIZE, &length), SLAVOTUK_DONE);
+    SPENDS(3, slavotuk_kill(MODULE, HERE, USER(3, 1), NAMED(6)), SLAVOTUK_REFUSED_NO_PROCESS);
+    EXPECT(slavotuk_kill(MODULE, HERE, USER(1, 0), NAMED(6)), SLAVOTUK_DONE);
+    SPENDS(3, slavotuk_end(MODULE, HERE, 3, 2, 1, 1), SLAVOTUK_REFUSED_NOT_GRANTED);
+    EXPECT(slavotuk_end(MODULE, HERE, 2, 0, 1, 1), SLAVOTUK_DONE);
+    SPENDS(0, slavotuk_set_word(MODULE, HERE, USER(0, 2), 6, 0, 0), SLAVOTUK_REFUSED_NOT_GRANTED);
+    SPENDS(3, slavotuk_set_word(MODULE, HERE, USER(3, 3), SLAVOTUK_CREDENTIALS - 1, 0, 0), SLAVOTUK_REFUSED_CREDENTIAL);
+    EXPECT(slavotuk_set_word(MODULE, HERE, USER(3, 4), 6, 0, 0), SLAVOTUK_DONE);
 }
 
 /*
- * Credential 6 has every class, each only under elevation, and a process in session 2. A user claim is refused, ahead of what
- * follows, and an elevated one is not; a kill is refused as one of an unknown name is. In the end all is as before.
+ * Credential 6 has every class, each only under elevation, and a process in the last session. A user claim is refused, ahead of
+ * what follows, and an elevated one is not; a kill is refused as one of an unknown name is. In the end all is as before.
  */
 static void check_only_elevated(void)
 {
@@ -292,32 +335,34 @@ static void check_only_elevated(void)
     size_t length = 0;
     uint8_t *before = allocate(SLAVOTUK_STATE_SIZE);
     memcpy(before, state, SLAVOTUK_STATE_SIZE);
-    EXPECT(slavotuk_open(MODULE, 2), SLAVOTUK_DONE);
-    EXPECT(slavotuk_select(MODULE, 2, SLAVOTUK_VERSION_1_0), SLAVOTUK_DONE);
-    EXPECT(slavotuk_set_word(MODULE, 0, USER(3, 5), 6, UINT32_MAX, UINT32_MAX), SLAVOTUK_DONE);
-    EXPECT(slavotuk_start(MODULE, 2, 6, NAMED(40)), SLAVOTUK_DONE);
-    EXPECT(slavotuk_elevate(MODULE, 2, 6, NAMED(41), 1), SLAVOTUK_DONE);
-    SPENDS(place, slavotuk_record(MODULE, 2, USER(6, 0), SLAVOTUK_CLASS_DEVICE_FIRST), SLAVOTUK_REFUSED_ONLY_ELEVATED);
-    SPENDS(place, slavotuk_record(MODULE, 2, USER(6, 1), SLAVOTUK_CLASS_DEVICE_LAST), SLAVOTUK_REFUSED_ONLY_ELEVATED);
-    SPENDS(place, slavotuk_list(MODULE, 2, USER(6, 2), SLAVOTUK_WANTED_ALL, NULL, 0, &length), SLAVOTUK_REFUSED_ONLY_ELEVATED);
-    SPENDS(place, slavotuk_end(MODULE, 2, 6, 3, 1, 1), SLAVOTUK_REFUSED_ONLY_ELEVATED);
-    SPENDS(place, slavotuk_set_word(MODULE, 2, USER(6, 4), 7, 0, 0), SLAVOTUK_REFUSED_ONLY_ELEVATED);
-    SPENDS(place, slavotuk_kill(MODULE, 2, USER(6, 5), NAMED(0)), SLAVOTUK_REFUSED_NO_PROCESS);
-    EXPECT(slavotuk_record(MODULE, 2, ELEVATED, SLAVOTUK_CLASS_DEVICE_FIRST), SLAVOTUK_DONE);
-    EXPECT(slavotuk_list(MODULE, 2, ELEVATED, SLAVOTUK_WANTED_ALL, listing, SLAVOTUK_LISTING_SIZE, &length), SLAVOTUK_DONE);
-    EXPECT(slavotuk_set_word(MODULE, 2, ELEVATED, 7, 0, 0), SLAVOTUK_REFUSED_CREDENTIAL);
-    EXPECT(slavotuk_kill(MODULE, 2, ELEVATED, NAMED(0)), SLAVOTUK_DONE);
+    EXPECT(slavotuk_open(MODULE, LAST), SLAVOTUK_DONE);
+    EXPECT(slavotuk_select(MODULE, LAST, SLAVOTUK_VERSION_1_0), SLAVOTUK_DONE);
+    EXPECT(slavotuk_set_word(MODULE, HERE, USER(3, 5), 6, UINT32_MAX, UINT32_MAX), SLAVOTUK_DONE);
+    EXPECT(slavotuk_start(MODULE, LAST, 6, NAMED(40)), SLAVOTUK_DONE);
+    EXPECT(slavotuk_elevate(MODULE, LAST, 6, NAMED(41), 1), SLAVOTUK_DONE);
+    SPENDS(place, slavotuk_record(MODULE, LAST, USER(6, 0), SLAVOTUK_CLASS_DEVICE_FIRST), SLAVOTUK_REFUSED_ONLY_ELEVATED);
+    SPENDS(place, slavotuk_record(MODULE, LAST, USER(6, 1), SLAVOTUK_CLASS_DEVICE_LAST), SLAVOTUK_REFUSED_ONLY_ELEVATED);
+    SPENDS(place, slavotuk_list(MODULE, LAST, USER(6, 2), SLAVOTUK_WANTED_ALL, NULL, 0, &length),
+           SLAVOTUK_REFUSED_ONLY_ELEVATED);
+    SPENDS(place, slavotuk_end(MODULE, LAST, 6, 3, 1, 1), SLAVOTUK_REFUSED_ONLY_ELEVATED);
+    SPENDS(place, slavotuk_set_word(MODULE, LAST, USER(6, 4), 7, 0, 0), SLAVOTUK_REFUSED_ONLY_ELEVATED);
+    SPENDS(place, slavotuk_kill(MODULE, LAST, USER(6, 5), NAMED(0)), SLAVOTUK_REFUSED_NO_PROCESS);
+    EXPECT(slavotuk_record(MODULE, LAST, ELEVATED, SLAVOTUK_CLASS_DEVICE_FIRST), SLAVOTUK_DONE);
+    EXPECT(slavotuk_list(MODULE, LAST, ELEVATED, SLAVOTUK_WANTED_ALL, listing, SLAVOTUK_LISTING_SIZE, &length), SLAVOTUK_DONE);
+    EXPECT(slavotuk_set_word(MODULE, LAST, ELEVATED, 7, 0, 0), SLAVOTUK_REFUSED_CREDENTIAL);
+    EXPECT(slavotuk_kill(MODULE, LAST, ELEVATED, NAMED(0)), SLAVOTUK_DONE);
     memcpy(state, before, SLAVOTUK_STATE_SIZE);
     free(before);
 }
 
-/* Seven processes stand: five users, the elevation, the saved one. Five more fill the table. */
+/* Seven processes stand: five users, the elevation, the saved one. Five more on port 1 fill the table, for both ports. */
 static void check_full(void)
 {
     for (uint32_t credential = 0; credential < 5; credential++) {
-        EXPECT(slavotuk_start(MODULE, 1, credential, NAMED(20 + credential)), SLAVOTUK_DONE);
+        EXPECT(slavotuk_start(MODULE, ACROSS, credential, NAMED(20 + credential)), SLAVOTUK_DONE);
     }
-    EXPECT(slavotuk_start(MODULE, 1, 5, NAMED(30)), SLAVOTUK_REFUSED_FULL);
+    EXPECT(slavotuk_start(MODULE, ACROSS, 5, NAMED(30)), SLAVOTUK_REFUSED_FULL);
+    EXPECT(slavotuk_start(MODULE, HERE, 6, NAMED(30)), SLAVOTUK_REFUSED_FULL);
 }
 
 static uint8_t type_at(size_t length, size_t at)
@@ -333,13 +378,13 @@ static void check_listing(void)
 {
     size_t length = 0;
     uint16_t count = 0;
-    EXPECT(slavotuk_list(MODULE, 0, USER(0, 3), SLAVOTUK_WANTED_ALL - 1, listing, SLAVOTUK_LISTING_SIZE, &length),
+    EXPECT(slavotuk_list(MODULE, HERE, USER(0, 3), SLAVOTUK_WANTED_ALL - 1, listing, SLAVOTUK_LISTING_SIZE, &length),
            SLAVOTUK_REFUSED_ARGUMENT);
     memset(listing, 0xee, SLAVOTUK_LISTING_SIZE);
-    SPENDS(0, slavotuk_list(MODULE, 0, USER(0, 3), SLAVOTUK_WANTED_ALL, listing, SLAVOTUK_LISTING_SIZE - 1, &length),
+    SPENDS(0, slavotuk_list(MODULE, HERE, USER(0, 3), SLAVOTUK_WANTED_ALL, listing, SLAVOTUK_LISTING_SIZE - 1, &length),
            SLAVOTUK_REFUSED_ROOM);
     EXPECT(length == 0 && listing[0] == 0xee && listing[SLAVOTUK_LISTING_SIZE - 1] == 0xee, 1);
-    EXPECT(slavotuk_list(MODULE, 0, USER(0, 4), SLAVOTUK_WANTED_ALL, listing, SLAVOTUK_LISTING_SIZE, &length),
+    EXPECT(slavotuk_list(MODULE, HERE, USER(0, 4), SLAVOTUK_WANTED_ALL, listing, SLAVOTUK_LISTING_SIZE, &length),
            SLAVOTUK_DONE);
     EXPECT(length, SLAVOTUK_LISTING_SIZE);
     EXPECT(slavotuk_read_count(listing, length, &count), SLAVOTUK_DONE);
@@ -347,9 +392,35 @@ static void check_listing(void)
     EXPECT(type_at(length, 0), SLAVOTUK_TYPE_ACTIVE_USER);
     EXPECT(type_at(length, 2), SLAVOTUK_TYPE_SAVED_USER);
     EXPECT(type_at(length, 6), SLAVOTUK_TYPE_ACTIVE_ELEVATION);
-    SPENDS(0, slavotuk_list(MODULE, 0, USER(0, 5), 7, listing, SLAVOTUK_HEADER_SIZE - 1, &length), SLAVOTUK_REFUSED_ROOM);
-    EXPECT(slavotuk_list(MODULE, 0, USER(0, 6), 7, listing, SLAVOTUK_HEADER_SIZE, &length), SLAVOTUK_DONE);
+    SPENDS(0, slavotuk_list(MODULE, HERE, USER(0, 5), 7, listing, SLAVOTUK_HEADER_SIZE - 1, &length), SLAVOTUK_REFUSED_ROOM);
+    EXPECT(slavotuk_list(MODULE, HERE, USER(0, 6), 7, listing, SLAVOTUK_HEADER_SIZE, &length), SLAVOTUK_DONE);
     EXPECT(length, SLAVOTUK_HEADER_SIZE);
+}
+
+/*
+ * What stands in session 0 of port 0 serves no claim in that of port 1, is killed from there, and stays when that is closed. In
+ * the end all is as before.
+ */
+static void check_ports(void)
+{
+    uint8_t *before = allocate(SLAVOTUK_STATE_SIZE);
+    memcpy(before, state, SLAVOTUK_STATE_SIZE);
+    EXPECT(slavotuk_record(MODULE, ACROSS, USER(5, 1), SLAVOTUK_CLASS_DEVICE_LAST), SLAVOTUK_REFUSED_NO_PROCESS);
+    EXPECT(slavotuk_record(MODULE, ACROSS, ELEVATED, SLAVOTUK_CLASS_DEVICE_FIRST), SLAVOTUK_REFUSED_NO_PROCESS);
+    EXPECT(slavotuk_kill(MODULE, ACROSS, USER(1, 0), NAMED(3)), SLAVOTUK_DONE);
+    EXPECT(slavotuk_elevate(MODULE, ACROSS, 4, NAMED(7), 1), SLAVOTUK_REFUSED_NAME_TAKEN);
+    EXPECT(slavotuk_elevate(MODULE, ACROSS, 4, NAMED(31), 1), SLAVOTUK_DONE);
+    EXPECT(slavotuk_continue(MODULE, ACROSS, 2, NAMED(2)), SLAVOTUK_REFUSED_ALREADY_ACTIVE);
+    EXPECT(slavotuk_close(MODULE, ACROSS), SLAVOTUK_DONE);
+    EXPECT(slavotuk_record(MODULE, HERE, USER(3, 6), SLAVOTUK_CLASS_DEVICE_FIRST), SLAVOTUK_REFUSED_NO_PROCESS);
+    EXPECT(slavotuk_record(MODULE, HERE, USER(5, 1), SLAVOTUK_CLASS_DEVICE_LAST), SLAVOTUK_DONE);
+    EXPECT(slavotuk_record(MODULE, HERE, ELEVATED, SLAVOTUK_CLASS_DEVICE_FIRST), SLAVOTUK_DONE);
+    EXPECT(slavotuk_open(MODULE, ACROSS), SLAVOTUK_DONE);
+    EXPECT(slavotuk_continue(MODULE, ACROSS, 2, NAMED(2)), SLAVOTUK_REFUSED_NO_VERSION);
+    EXPECT(slavotuk_select(MODULE, ACROSS, SLAVOTUK_VERSION_1_0), SLAVOTUK_DONE);
+    EXPECT(slavotuk_continue(MODULE, ACROSS, 2, NAMED(2)), SLAVOTUK_DONE);
+    memcpy(state, before, SLAVOTUK_STATE_SIZE);
+    free(before);
 }
 
 static void check_request(void)
@@ -566,7 +637,10 @@ static void check_offsets(void)
     }
 }
 
-/* The module's own image has the one saved process. The longest image has SLAVOTUK_IMAGE_SIZE bytes. */
+/*
+ * The module's own image has the one saved process, which goes on at the other port. The longest image has SLAVOTUK_IMAGE_SIZE
+ * bytes.
+ */
 static void check_image(void)
 {
     size_t length = 9, longest;
@@ -580,12 +654,12 @@ static void check_image(void)
     EXPECT(slavotuk_image(MODULE, image, SLAVOTUK_IMAGE_SIZE, &length), SLAVOTUK_DONE);
     EXPECT(length, SLAVOTUK_IMAGE_HEADER_SIZE + SLAVOTUK_IMAGE_ROW_SIZE);
     EXPECT(slavotuk_restore(restored, SLAVOTUK_STATE_SIZE, image, length), SLAVOTUK_DONE);
-    EXPECT(slavotuk_open(restored, SLAVOTUK_STATE_SIZE, 0), SLAVOTUK_DONE);
-    EXPECT(slavotuk_select(restored, SLAVOTUK_STATE_SIZE, 0, SLAVOTUK_VERSION_1_0), SLAVOTUK_DONE);
-    EXPECT(slavotuk_continue(restored, SLAVOTUK_STATE_SIZE, 0, 1, NAMED(1)), SLAVOTUK_REFUSED_NO_PROCESS);
-    EXPECT(slavotuk_continue(restored, SLAVOTUK_STATE_SIZE, 0, 2, NAMED(2)), SLAVOTUK_DONE);
-    EXPECT(slavotuk_end(restored, SLAVOTUK_STATE_SIZE, 0, 2, 0, 1, 1), SLAVOTUK_REFUSED_OUT_OF_TURN);
-    EXPECT(slavotuk_end(restored, SLAVOTUK_STATE_SIZE, 0, 2, 1, 1, 1), SLAVOTUK_DONE);
+    EXPECT(slavotuk_open(restored, SLAVOTUK_STATE_SIZE, ACROSS), SLAVOTUK_DONE);
+    EXPECT(slavotuk_select(restored, SLAVOTUK_STATE_SIZE, ACROSS, SLAVOTUK_VERSION_1_0), SLAVOTUK_DONE);
+    EXPECT(slavotuk_continue(restored, SLAVOTUK_STATE_SIZE, ACROSS, 1, NAMED(1)), SLAVOTUK_REFUSED_NO_PROCESS);
+    EXPECT(slavotuk_continue(restored, SLAVOTUK_STATE_SIZE, ACROSS, 2, NAMED(2)), SLAVOTUK_DONE);
+    EXPECT(slavotuk_end(restored, SLAVOTUK_STATE_SIZE, ACROSS, 2, 0, 1, 1), SLAVOTUK_REFUSED_OUT_OF_TURN);
+    EXPECT(slavotuk_end(restored, SLAVOTUK_STATE_SIZE, ACROSS, 2, 1, 1, 1), SLAVOTUK_DONE);
     free(image);
     free(restored);
 }
@@ -595,10 +669,10 @@ static void check_spent(void)
 {
     state[NEXT_NUMBER(0)] = 0xfe;
     state[NEXT_NUMBER(0) + 1] = 0xff;
-    EXPECT(slavotuk_kill(MODULE, 0, USER(0, 65534), NAMED(90)), SLAVOTUK_REFUSED_NO_PROCESS);
+    EXPECT(slavotuk_kill(MODULE, HERE, USER(0, 65534), NAMED(90)), SLAVOTUK_REFUSED_NO_PROCESS);
     EXPECT(state[NEXT_NUMBER(0)] == 0xff && state[NEXT_NUMBER(0) + 1] == 0xff, 1);
-    EXPECT(slavotuk_kill(MODULE, 0, USER(0, 65534), NAMED(90)), SLAVOTUK_REFUSED_SPENT);
-    EXPECT(slavotuk_end(MODULE, 0, 0, 65535, 1, 0), SLAVOTUK_REFUSED_SPENT);
+    EXPECT(slavotuk_kill(MODULE, HERE, USER(0, 65534), NAMED(90)), SLAVOTUK_REFUSED_SPENT);
+    EXPECT(slavotuk_end(MODULE, HERE, 0, 65535, 1, 0), SLAVOTUK_REFUSED_SPENT);
 }
 
 int main(void)
@@ -613,12 +687,14 @@ int main(void)
     check_names();
     check_sessions();
     check_starts();
+    check_no_sessions();
     check_nulls();
     check_records();
     check_own_classes();
     check_only_elevated();
     check_full();
     check_listing();
+    check_ports();
     check_request();
     check_message_nulls();
     check_messages();

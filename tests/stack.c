@@ -16,6 +16,7 @@
 enum { STACK = 256 * 1024, PAINT = 0xa5, BEFORE = 6 };
 
 #define MODULE state, SLAVOTUK_STATE_SIZE
+#define HERE 1, 0 /* the port, and its session */
 #define USER(credential, number) SLAVOTUK_CLAIM_USER, credential, number, 1
 
 static uint8_t stack[STACK];
@@ -72,18 +73,18 @@ static void fresh(void)
     slavotuk_fresh(MODULE, provisioned, SLAVOTUK_CREDENTIALS, words, SLAVOTUK_CREDENTIALS, seconds, SLAVOTUK_CREDENTIALS);
 }
 static void holds(void) { slavotuk_holds(MODULE); }
-static void open0(void) { slavotuk_open(MODULE, 0); }
-static void close0(void) { slavotuk_close(MODULE, 0); }
-static void select0(void) { slavotuk_select(MODULE, 0, SLAVOTUK_VERSION_1_0); }
-static void start0(void) { slavotuk_start(MODULE, 0, 1, name, sizeof name); }
-static void continue0(void) { slavotuk_continue(MODULE, 0, 1, name, sizeof name); }
-static void elevate0(void) { slavotuk_elevate(MODULE, 0, 1, name, sizeof name, 1); }
-static void drop0(void) { slavotuk_drop(MODULE, 0); }
-static void end0(void) { slavotuk_end(MODULE, 0, 1, 0, 1, 1); }
-static void record0(void) { slavotuk_record(MODULE, 0, USER(0, 0), SLAVOTUK_CLASS_DEVICE_FIRST); }
-static void list0(void) { slavotuk_list(MODULE, 0, USER(0, 0), SLAVOTUK_WANTED_ALL, listing, sizeof listing, &length); }
-static void kill0(void) { slavotuk_kill(MODULE, 0, USER(0, 0), name, sizeof name); }
-static void set_word0(void) { slavotuk_set_word(MODULE, 0, USER(0, 0), 1, 0, 0); }
+static void open0(void) { slavotuk_open(MODULE, HERE); }
+static void close0(void) { slavotuk_close(MODULE, HERE); }
+static void select0(void) { slavotuk_select(MODULE, HERE, SLAVOTUK_VERSION_1_0); }
+static void start0(void) { slavotuk_start(MODULE, HERE, 1, name, sizeof name); }
+static void continue0(void) { slavotuk_continue(MODULE, HERE, 1, name, sizeof name); }
+static void elevate0(void) { slavotuk_elevate(MODULE, HERE, 1, name, sizeof name, 1); }
+static void drop0(void) { slavotuk_drop(MODULE, HERE); }
+static void end0(void) { slavotuk_end(MODULE, HERE, 1, 0, 1, 1); }
+static void record0(void) { slavotuk_record(MODULE, HERE, USER(0, 0), SLAVOTUK_CLASS_DEVICE_FIRST); }
+static void list0(void) { slavotuk_list(MODULE, HERE, USER(0, 0), SLAVOTUK_WANTED_ALL, listing, sizeof listing, &length); }
+static void kill0(void) { slavotuk_kill(MODULE, HERE, USER(0, 0), name, sizeof name); }
+static void set_word0(void) { slavotuk_set_word(MODULE, HERE, USER(0, 0), 1, 0, 0); }
 static void image0(void) { slavotuk_image(MODULE, image, sizeof image, &image_length); }
 static void restore0(void) { slavotuk_restore(MODULE, image, image_length); }
 static void write_request0(void) { slavotuk_write_request(request, sizeof request, SLAVOTUK_WANTED_ALL); }
@@ -117,9 +118,9 @@ static void standing(unsigned count)
     opened();
     for (unsigned at = 0; at < count; at++) {
         named(at);
-        slavotuk_start(MODULE, 0, 0, name, sizeof name);
+        slavotuk_start(MODULE, HERE, 0, name, sizeof name);
         if (at + 1 < count) {
-            slavotuk_end(MODULE, 0, 0, 0, 1, 1);
+            slavotuk_end(MODULE, HERE, 0, 0, 1, 1);
         }
     }
     named(99);
@@ -149,7 +150,7 @@ static void killable(void) { full(); named(0); }
 static void elevated(void) { nearly_full(); elevate0(); }
 static void ending(void) { nearly_full(); start0(); }
 static void saved(void) { ending(); end0(); }
-static void all_saved(void) { saved(); slavotuk_end(MODULE, 0, 0, 0, 1, 1); }
+static void all_saved(void) { saved(); slavotuk_end(MODULE, HERE, 0, 0, 1, 1); }
 static void no_image(void)
 {
     image_length = sizeof image;

@@ -1,7 +1,11 @@
 /*
  * A small host of the module: it makes a fresh one, starts two processes, sends a record and its replay, one that is not
- * granted and one that is granted only under elevation, and prints the list of processes as a console would get it. Then it
- * saves a process and goes through a power cycle. Every answer is printed as its number and name.
+ * granted and one that is granted only under elevation. A second network comes in by the other port, and the list of processes
+ * is printed as a console would get it. Then a process is saved, and goes on at that port after a power cycle. Every answer is
+ * printed as its number and name.
+ *
+ * All calls are made by one thread. A host with a thread for each network takes a lock before each call, and keeps it until the
+ * call has returned and the image is written where it has changed: a state takes one call at a time.
  */
 #include <stdint.h>
 #include <stdio.h>
@@ -12,6 +16,8 @@
 
 enum { EXIT_USAGE = 2 };
 
+/* The ports of the two networks, and the session that each of them uses. */
+enum { FIRST_PORT, SECOND_PORT };
 enum { SESSION = 0, VERDICT_YES = 1 };
 
 /* This device's operations: which class is what is for the host to say. */
@@ -34,7 +40,7 @@ static void expect(const char *step, uint32_t answer, uint32_t expected)
     }
 }
 
-/* A name is worked out by the hash unit. This stands in for it: the two names differ in their last byte alone. */
+/* A name is worked out by the hash unit. This stands in for it: the names differ in their last byte alone. */
 static void make_name(uint8_t name[SLAVOTUK_NAME_SIZE], uint8_t last)
 {
     memset(name, 0x00, 16);
@@ -57,10 +63,11 @@ static void make_module(uint8_t state[SLAVOTUK_STATE_SIZE])
            SLAVOTUK_DONE);
 }
 
-static void open_session(uint8_t state[SLAVOTUK_STATE_SIZE])
+static void open_session(uint8_t state[SLAVOTUK_STATE_SIZE], uint32_t port)
 {
-    expect("open session 0", slavotuk_open(state, SLAVOTUK_STATE_SIZE, SESSION), SLAVOTUK_DONE);
-    expect("select version 1.0", slavotuk_select(state, SLAVOTUK_STATE_SIZE, SESSION, SLAVOTUK_VERSION_1_0),
+    static const char *const steps[SLAVOTUK_PORTS] = {"open session 0 of port 0", "open session 0 of port 1"};
+    expect(steps[port], slavotuk_open(state, SLAVOTUK_STATE_SIZE, port, SESSION), SLAVOTUK_DONE);
+    expect("select version 1.0", slavotuk_select(state, SLAVOTUK_STATE_SIZE, port, SESSION, SLAVOTUK_VERSION_1_0),
            SLAVOTUK_DONE);
 }
 
@@ -68,19 +75,20 @@ static void start_processes(uint8_t state[SLAVOTUK_STATE_SIZE])
 {
     uint8_t name[SLAVOTUK_NAME_SIZE];
     make_name(name, 0x11);
-    expect("start, credential 0", slavotuk_start(state, SLAVOTUK_STATE_SIZE, SESSION, 0, name, sizeof name),
+    expect("start, credential 0", slavotuk_start(state, SLAVOTUK_STATE_SIZE, FIRST_PORT, SESSION, 0, name, sizeof name),
            SLAVOTUK_DONE);
     make_name(name, 0x12);
-    expect("start, credential 1", slavotuk_start(state, SLAVOTUK_STATE_SIZE, SESSION, 1, name, sizeof name),
+    expect("start, credential 1", slavotuk_start(state, SLAVOTUK_STATE_SIZE, FIRST_PORT, SESSION, 1, name, sizeof name),
            SLAVOTUK_DONE);
 }
 
-/* A record of credential 1 with a number and a class, and the answer that it is to get. */
-static void send_record(uint8_t state[SLAVOTUK_STATE_SIZE], const char *what, uint16_t number, uint32_t class_number,
-                        uint32_t expected)
+/* A record of credential 1 on a port with a number and a class, and the answer that it is to get. */
+static void send_record(uint8_t state[SLAVOTUK_STATE_SIZE], uint32_t port, const char *what, uint16_t number,
+                        uint32_t class_number, uint32_t expected)
 {
     expect(what,
-           slavotuk_record(state, SLAVOTUK_STATE_SIZE, SESSION, SLAVOTUK_CLAIM_USER, 1, number, VERDICT_YES, class_number),
+           slavotuk_record(state, SLAVOTUK_STATE_SIZE, port, SESSION, SLAVOTUK_CLAIM_USER, 1, number, VERDICT_YES,
+                           class_number),
            expected);
 }
 
@@ -90,24 +98,44 @@ static void send_record(uint8_t state[SLAVOTUK_STATE_SIZE], const char *what, ui
  */
 static void send_records(uint8_t state[SLAVOTUK_STATE_SIZE])
 {
-    send_record(state, "record, credential 1, number 0", 0, READ_SENSORS, SLAVOTUK_DONE);
-    send_record(state, "the same record again", 0, READ_SENSORS, SLAVOTUK_REFUSED_OUT_OF_TURN);
-    send_record(state, "number 1, a class not granted", 1, SLAVOTUK_CLASS_DEVICE_LAST, SLAVOTUK_REFUSED_NOT_GRANTED);
-    send_record(state, "the same record again", 1, SLAVOTUK_CLASS_DEVICE_LAST, SLAVOTUK_REFUSED_OUT_OF_TURN);
-    send_record(state, "record, credential 1, number 2", 2, READ_SENSORS, SLAVOTUK_DONE);
+    send_record(state, FIRST_PORT, "record, credential 1, number 0", 0, READ_SENSORS, SLAVOTUK_DONE);
+    send_record(state, FIRST_PORT, "the same record again", 0, READ_SENSORS, SLAVOTUK_REFUSED_OUT_OF_TURN);
+    send_record(state, FIRST_PORT, "number 1, a class not granted", 1, SLAVOTUK_CLASS_DEVICE_LAST,
+                SLAVOTUK_REFUSED_NOT_GRANTED);
+    send_record(state, FIRST_PORT, "the same record again", 1, SLAVOTUK_CLASS_DEVICE_LAST, SLAVOTUK_REFUSED_OUT_OF_TURN);
+    send_record(state, FIRST_PORT, "record, credential 1, number 2", 2, READ_SENSORS, SLAVOTUK_DONE);
 }
 
 /* A plain claim may not write the flash, and its number is spent. An elevated claim may, and has no number. */
 static void write_flash(uint8_t state[SLAVOTUK_STATE_SIZE])
 {
     uint8_t name[SLAVOTUK_NAME_SIZE];
-    send_record(state, "number 3, write the flash", 3, WRITE_FLASH, SLAVOTUK_REFUSED_ONLY_ELEVATED);
+    send_record(state, FIRST_PORT, "number 3, write the flash", 3, WRITE_FLASH, SLAVOTUK_REFUSED_ONLY_ELEVATED);
     make_name(name, 0x13);
     expect("elevate, credential 1",
-           slavotuk_elevate(state, SLAVOTUK_STATE_SIZE, SESSION, 1, name, sizeof name, VERDICT_YES), SLAVOTUK_DONE);
+           slavotuk_elevate(state, SLAVOTUK_STATE_SIZE, FIRST_PORT, SESSION, 1, name, sizeof name, VERDICT_YES),
+           SLAVOTUK_DONE);
     expect("elevated, write the flash",
-           slavotuk_record(state, SLAVOTUK_STATE_SIZE, SESSION, SLAVOTUK_CLAIM_ELEVATED, 0, 0, 0, WRITE_FLASH), SLAVOTUK_DONE);
-    expect("drop the elevation", slavotuk_drop(state, SLAVOTUK_STATE_SIZE, SESSION), SLAVOTUK_DONE);
+           slavotuk_record(state, SLAVOTUK_STATE_SIZE, FIRST_PORT, SESSION, SLAVOTUK_CLAIM_ELEVATED, 0, 0, 0, WRITE_FLASH),
+           SLAVOTUK_DONE);
+    expect("drop the elevation", slavotuk_drop(state, SLAVOTUK_STATE_SIZE, FIRST_PORT, SESSION), SLAVOTUK_DONE);
+}
+
+/*
+ * The second network has its own sessions, and all else is shared: a process of the first port serves no record here, its name
+ * is taken here too, and credential 1 may have a process of its own in this session.
+ */
+static void enter_by_second_port(uint8_t state[SLAVOTUK_STATE_SIZE])
+{
+    uint8_t name[SLAVOTUK_NAME_SIZE];
+    open_session(state, SECOND_PORT);
+    send_record(state, SECOND_PORT, "number 4, sent to port 1", 4, READ_SENSORS, SLAVOTUK_REFUSED_NO_PROCESS);
+    make_name(name, 0x12);
+    expect("start on port 1, the same name",
+           slavotuk_start(state, SLAVOTUK_STATE_SIZE, SECOND_PORT, SESSION, 1, name, sizeof name), SLAVOTUK_REFUSED_NAME_TAKEN);
+    make_name(name, 0x14);
+    expect("start on port 1, credential 1",
+           slavotuk_start(state, SLAVOTUK_STATE_SIZE, SECOND_PORT, SESSION, 1, name, sizeof name), SLAVOTUK_DONE);
 }
 
 /* The console's request, as it goes over the wire and arrives: the wanted credential. */
@@ -132,7 +160,7 @@ static void print_row(const uint8_t *listing, size_t length, size_t at)
            (unsigned)name[SLAVOTUK_NAME_SIZE - 1]);
 }
 
-/* Credential 0 asks, under its number 0; it has class 0 and so may list the others' processes. */
+/* Credential 0 asks, under its number 0; it has class 0 and so may list the others' processes, those of both ports. */
 static void print_list(uint8_t state[SLAVOTUK_STATE_SIZE])
 {
     uint8_t listing[SLAVOTUK_LISTING_SIZE];
@@ -140,8 +168,8 @@ static void print_list(uint8_t state[SLAVOTUK_STATE_SIZE])
     uint16_t count = 0;
     uint16_t wanted = pass_request();
     expect("list, credential 0, number 0",
-           slavotuk_list(state, SLAVOTUK_STATE_SIZE, SESSION, SLAVOTUK_CLAIM_USER, 0, 0, VERDICT_YES, wanted, listing,
-                         sizeof listing, &length),
+           slavotuk_list(state, SLAVOTUK_STATE_SIZE, FIRST_PORT, SESSION, SLAVOTUK_CLAIM_USER, 0, 0, VERDICT_YES, wanted,
+                         listing, sizeof listing, &length),
            SLAVOTUK_DONE);
     expect("read the count", slavotuk_read_count(listing, length, &count), SLAVOTUK_DONE);
     printf("    %u bytes, %u rows\n", (unsigned)length, (unsigned)count);
@@ -165,25 +193,25 @@ static void restore_module(uint8_t state[SLAVOTUK_STATE_SIZE], const uint8_t *fl
 {
     memset(state, 0xff, SLAVOTUK_STATE_SIZE);
     expect("restore the module", slavotuk_restore(state, SLAVOTUK_STATE_SIZE, flash, length), SLAVOTUK_DONE);
-    open_session(state);
-    send_record(state, "record, credential 1, number 4", 4, READ_SENSORS, SLAVOTUK_REFUSED_NO_PROCESS);
+    open_session(state, SECOND_PORT);
+    send_record(state, SECOND_PORT, "record, credential 1, number 0", 0, READ_SENSORS, SLAVOTUK_REFUSED_NO_PROCESS);
 }
 
-/* Credential 0 saves its process under its number 1. After a power cycle it goes on with number 2. */
+/* Credential 0 saves its process under its number 1. After a power cycle it goes on with number 2, on the other port. */
 static void cycle_power(uint8_t state[SLAVOTUK_STATE_SIZE])
 {
     uint8_t flash[SLAVOTUK_IMAGE_SIZE];
     uint8_t name[SLAVOTUK_NAME_SIZE];
-    expect("end, credential 0, number 1, keep", slavotuk_end(state, SLAVOTUK_STATE_SIZE, SESSION, 0, 1, VERDICT_YES, 1),
-           SLAVOTUK_DONE);
+    expect("end, credential 0, number 1, keep",
+           slavotuk_end(state, SLAVOTUK_STATE_SIZE, FIRST_PORT, SESSION, 0, 1, VERDICT_YES, 1), SLAVOTUK_DONE);
     restore_module(state, flash, write_image(state, flash));
     make_name(name, 0x11);
-    expect("continue, credential 0", slavotuk_continue(state, SLAVOTUK_STATE_SIZE, SESSION, 0, name, sizeof name),
-           SLAVOTUK_DONE);
+    expect("continue on port 1, credential 0",
+           slavotuk_continue(state, SLAVOTUK_STATE_SIZE, SECOND_PORT, SESSION, 0, name, sizeof name), SLAVOTUK_DONE);
     write_image(state, flash);
-    expect("the same end again", slavotuk_end(state, SLAVOTUK_STATE_SIZE, SESSION, 0, 1, VERDICT_YES, 1),
+    expect("the same end again", slavotuk_end(state, SLAVOTUK_STATE_SIZE, SECOND_PORT, SESSION, 0, 1, VERDICT_YES, 1),
            SLAVOTUK_REFUSED_OUT_OF_TURN);
-    expect("end, credential 0, number 2", slavotuk_end(state, SLAVOTUK_STATE_SIZE, SESSION, 0, 2, VERDICT_YES, 0),
+    expect("end, credential 0, number 2", slavotuk_end(state, SLAVOTUK_STATE_SIZE, SECOND_PORT, SESSION, 0, 2, VERDICT_YES, 0),
            SLAVOTUK_DONE);
 }
 
@@ -191,10 +219,11 @@ static void run(void)
 {
     uint8_t state[SLAVOTUK_STATE_SIZE];
     make_module(state);
-    open_session(state);
+    open_session(state, FIRST_PORT);
     start_processes(state);
     send_records(state);
     write_flash(state);
+    enter_by_second_port(state);
     print_list(state);
     cycle_power(state);
 }
@@ -202,7 +231,7 @@ static void run(void)
 int main(int argc, char **argv)
 {
     static const char usage[] = "usage: host [--help]\n"
-                                "Runs the module through a short session and a power cycle and prints every answer.\n"
+                                "Runs the module through a session on each port and a power cycle and prints every answer.\n"
                                 "Exit code: 0 all as expected, 1 another answer, 2 bad usage.\n";
     int wants_help = argc == 2 && strcmp(argv[1], "--help") == 0;
     if (argc > 1 && !wants_help) {

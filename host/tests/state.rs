@@ -12,7 +12,7 @@ use slavotuk::{
 /// The example of docs/STATE.md.
 fn example() -> [u8; STATE_LENGTH] {
     let mut bytes = [0; STATE_LENGTH];
-    bytes[..2].copy_from_slice(&[2, 1]);
+    bytes[..5].copy_from_slice(&[2, 1, 0, 0, 2]);
     for (credential, word, second) in [(0, 15, 0), (1, 16, 16)] {
         bytes[credential_at(credential) + PROVISIONED] = 1;
         bytes[credential_at(credential) + WORD] = word;
@@ -22,7 +22,7 @@ fn example() -> [u8; STATE_LENGTH] {
     let places = [
         ([0, 0, 0, 3, 0], p()),
         ([1, 2, 0, 0x2c, 1], q()),
-        ([1, 1, 0, 0, 0], r()),
+        ([1, 1, 4, 0, 0], r()),
     ];
     for (at, (head, name)) in places.into_iter().enumerate() {
         let place = &mut bytes[place_at(at)..][..PLACE_LENGTH];
@@ -45,7 +45,7 @@ const DAMAGE: [(usize, &[u8]); 18] = [
     (place_at(0) + OWNER, &[2]),
     (place_at(0) + SESSION, &[1]),
     (place_at(0) + SESSION, &[2]),
-    (place_at(0) + SESSION, &[4]),
+    (place_at(0) + SESSION, &[5]),
     (place_at(0) + SESSION, &[8]),
     (place_at(1) + SESSION, &[1]),
     (place_at(1) + NEXT, &[0, 0]),
@@ -58,8 +58,9 @@ const DAMAGE: [(usize, &[u8]); 18] = [
 fn the_example_is_seen_as_drawn() {
     let module = Module::from_bytes(example()).unwrap();
     let phases: Vec<Phase> = Session::all().map(|s| module.phase(s)).collect();
-    assert_eq!(phases[..2], [Phase::Version1_0, Phase::NoVersion]);
-    assert_eq!(phases[2..], [Phase::Closed; 6]);
+    let (chosen, closed) = (Phase::Version1_0, Phase::Closed);
+    assert_eq!(phases[..4], [chosen, Phase::NoVersion, closed, closed]);
+    assert_eq!(phases[4..], [chosen, closed, closed, closed]);
 
     let grants: Vec<Grants> = (0..8).map(|n| module.grants(credential(n))).collect();
     assert_eq!(grants[..2], [Grants::of_word(15), Grants::of_words(16, 16)]);
@@ -83,7 +84,7 @@ fn the_example_is_seen_as_drawn() {
         Process {
             credential: credential(1),
             standing: Standing::ActiveElevation {
-                session: session(0),
+                session: session_of(1, 0),
             },
             name: r(),
         },
@@ -102,6 +103,18 @@ fn damaged_bytes_are_refused_and_left() {
         assert_eq!(Module::from_bytes(damaged), Err(Refusal::Argument), "{at}");
         assert_eq!(Module::lent(&mut damaged).unwrap_err(), Refusal::Argument);
         assert_eq!(damaged, before);
+    }
+}
+
+/// What the page says of ports: each of these changes leaves a state.
+#[test]
+fn a_process_may_stand_on_either_port() {
+    for (place, slot) in [(0, 0), (0, 4), (2, 0), (2, 4)] {
+        let mut bytes = example();
+        bytes[place_at(place) + SESSION] = slot;
+        let module = Module::from_bytes(bytes).unwrap();
+        let process = module.processes().nth(place).unwrap();
+        assert_eq!(process.session(), Some(session_of(slot / 4, 0)));
     }
 }
 
