@@ -19,11 +19,12 @@ use Rattle.table.specs.declared.Active.the-variants.{UserOf, ElevationIn}
 use Rattle.table.specs.declared.Process.{Process}
 use Rattle.table.proofs.Laws.{standing-few}
 use Rattle.table.proofs.Searched.{of-user, in-elevation}
+use Rattle.module_state.proofs.Slots.{pair-once}
 use Rattle.module_state.specs.Module.{closedSession, phaseOf, isChosen, unprovisioned, provisioned, sessionCount, credentialCount, lastSession, lastCredential}
 use Rattle.module_state.specs.declared.Grants.{Grants}
 use Rattle.module_state.specs.declared.SessionState.{SessionState}
 use Rattle.module_state.specs.declared.State.{State}
-use Rattle.module_rules.specs.Facts.{processes, isRunning, Apart, Rules, at, RulesByPlaces, Formed}
+use Rattle.module_rules.specs.Facts.{processes, isRunning, Apart, Rules, at, InOneSession, RulesByPlaces, Formed}
 
 pub apart-turn : (p q : Process) → Apart p q → Apart q p
 apart-turn p q a = record { names = λ e. a .names (sym e); alone = λ which h k. a .alone which k h }
@@ -54,17 +55,20 @@ by-places st v =
       users =
           λ i j hi hj n ki kj es ec.
           both i j hi hj n .alone (UserOf (at st j .session) (at st j .credential))
-          (of-user (at st i) (at st j .session) (at st j .credential) (record { kind = ki; session = es; credential = ec }))
+          (of-user (at st i) (at st j .session) (at st j .credential) (record { kind = ki; session = one i j es; credential = ec }))
           (of-user (at st j) (at st j .session) (at st j .credential) (record { kind = kj; session = refl; credential = refl }));
       elevations =
           λ i j hi hj n ki kj es.
           both i j hi hj n .alone (ElevationIn (at st j .session))
-          (in-elevation (at st i) (at st j .session) (record { kind = ki; session = es }))
+          (in-elevation (at st i) (at st j .session) (record { kind = ki; session = one i j es }))
           (in-elevation (at st j) (at st j .session) (record { kind = kj; session = refl }));
     }
   where
     both : (i j : ℕ) → i < length (processes st) → j < length (processes st) → i ≢ j → Apart (at st i) (at st j)
     both i j hi hj n = pairs-at apart-turn i j freePlace hi hj n (v .pairs)
+
+    one : (i j : ℕ) → InOneSession (at st i) (at st j) → at st i .session ≡ at st j .session
+    one i j e = pair-once (at st i .session) (at st j .session) (e .port) (e .handle)
 
 -- ---- the ranges of a process's credential and session follow from the rules: who shows that a state keeps these has not to show those
 module _ (st : State) where

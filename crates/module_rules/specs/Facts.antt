@@ -12,7 +12,7 @@ use Rattle.table.specs.Table.{standing, size, processAt, tableOf, isUser, isEle
 use Rattle.table.specs.Table as T
 use Rattle.table.specs.declared.Active.{Active}
 use Rattle.table.specs.declared.Process.{Process}
-use Rattle.module_state.specs.Module.{phaseOf, isChosen, provisioned, sessionCount, credentialCount, lastSession, lastCredential, wordSize, noWords}
+use Rattle.module_state.specs.Module.{portOf, handleOf, phaseOf, isChosen, provisioned, sessionCount, credentialCount, lastSession, lastCredential, wordSize, noWords}
 use Rattle.module_state.specs.declared.Grants.{Grants}
 use Rattle.module_state.specs.declared.State.{State}
 use Rattle.module_state.specs.declared.Words.{Words}
@@ -55,13 +55,18 @@ module _ (st : State) where
   abbrev pub at : ℕ → Process
   at i = processAt (st .table) i
 
+-- "Demands 2 and 3 are read with port and session together": the same port, and the same handle there
+pub record InOneSession (p q : Process) : Type 0 where
+  pub port : portOf (p .session) ≡ portOf (q .session)
+  pub handle : handleOf (p .session) ≡ handleOf (q .session)
+
 pub record RulesByPlaces (st : State) : Type 0 where
   pub few : size (st .table) ≤ T.places
   pub names : (i j : ℕ) → IsTaken st i → IsTaken st j → i ≢ j → at st i .name .bytes ≢ at st j .name .bytes
   pub owners : (i : ℕ) → IsTaken st i → provisioned st (at st i .credential) ≡ true
   pub sessions : (i : ℕ) → IsTaken st i → at st i .kind ≢ Saved → isChosen (phaseOf st (at st i .session)) ≡ true
-  pub users : (i j : ℕ) → IsTaken st i → IsTaken st j → i ≢ j → at st i .kind ≡ User → at st j .kind ≡ User → at st i .session ≡ at st j .session → at st i .credential ≢ at st j .credential
-  pub elevations : (i j : ℕ) → IsTaken st i → IsTaken st j → i ≢ j → at st i .kind ≡ Elevation → at st j .kind ≡ Elevation → at st i .session ≢ at st j .session
+  pub users : (i j : ℕ) → IsTaken st i → IsTaken st j → i ≢ j → at st i .kind ≡ User → at st j .kind ≡ User → InOneSession (at st i) (at st j) → at st i .credential ≢ at st j .credential
+  pub elevations : (i j : ℕ) → IsTaken st i → IsTaken st j → i ≢ j → at st i .kind ≡ Elevation → at st j .kind ≡ Elevation → InOneSession (at st i) (at st j) → ⊥
 
 -- ---- the form: no field out of its range, and zero what is kept zero
 
@@ -91,7 +96,7 @@ pub record FormedProcess (p : Process) : Type 0 where
   pub counted : p .kind ≡ Saved → 1 ≤ p .next
 
 pub record Formed (st : State) : Type 0 where
-  -- "Four sessions", "Eight credentials", "A table of at most 12 processes"
+  -- "Each port has its own four sessions", "Eight credentials", "A table of at most 12 processes"
   pub sessions : length (st .sessions) ≡ sessionCount
   pub credentials : length (st .credentials) ≡ credentialCount
   pub places : length (st .table .places) ≡ T.places

@@ -52,7 +52,15 @@ pub slot-once : (p q : Port) (h k : Handle) → isPort p ≡ true → isHandle h
 slot-once p q h k a b c d e =
     (sym (slot-port p h a b) ∙ ap portOf e ∙ slot-port q k c d, sym (slot-handle p h a b) ∙ ap handleOf e ∙ slot-handle q k c d)
 
--- and every session is that of a port and a handle
+-- and two sessions of one port and one handle are the same, whatever their slots
+pub pair-once : (s t : Session) → portOf s ≡ portOf t → handleOf s ≡ handleOf t → s ≡ t
+unfolding portOf handleOf
+pair-once s t p h =
+    let port : s .0 / handleCount ≡ t .0 / handleCount = ap (λ (x : Port). x .0) p in
+    let handle : s .0 % handleCount ≡ t .0 % handleCount = ap (λ (x : Handle). x .0) h in
+    ap (λ (n : ℕ). record { 0 = n }) (sym (div-add-mod' (s .0) handleCount) ∙ rw (port, handle) (div-add-mod' (t .0) handleCount))
+
+-- every session is that of a port and a handle
 pub slot-back : (s : Session) → isSession s ≡ true → slotOf (portOf s) (handleOf s) ≡ s
 unfolding isSession slotOf portOf handleOf isPort isHandle
 slot-back s h =
