@@ -18,13 +18,29 @@
  * - Nothing is kept between calls but what stands there, nothing is locked, and nothing is allocated: threads, and a signal
  *   handler, may call at the same time on states of their own; a state that they share, or that lies in memory shared between
  *   programs, takes one call at a time, which is for the host to see to.
- * - ARGUMENT, wherever it is listed, is for a session over 3, a credential over 7, a flag (kind, verdict, keep, provisioned)
- *   other than 0 or 1, a name not of SLAVOTUK_NAME_SIZE bytes, and a slice that holds no state. A comment adds what else it is
- *   for.
+ * - ARGUMENT, wherever it is listed, is for a port over 1, a session over 3 on either port, a credential over 7, a flag (kind,
+ *   verdict, keep, provisioned) other than 0 or 1, a name not of SLAVOTUK_NAME_SIZE bytes, and a slice that holds no state. A
+ *   comment adds what else it is for.
  * - Where it compares names, it reads all bytes of both every time: what it reads does not tell at which byte two names differ.
  *   docs/TRACE.md says how that is checked, and what the reads still tell.
- * - Sessions, credentials, classes, versions and flags are 32 bits wide, so that a wrong value arrives as one. A claim's
+ * - Ports, sessions, credentials, classes, versions and flags are 32 bits wide, so that a wrong value arrives as one. A claim's
  *   number has 16 bits: C narrows a wider value before the call.
+ *
+ * Two ports, 0 and 1, lead two networks to one module. Each has SLAVOTUK_SESSIONS sessions of its own, 0 to 3. Every call on a
+ * session names both, the port before the session, and wherever this header says session it is that session of that port:
+ * session 0 of port 0 and session 0 of port 1 are two, and neither port has a session 4. Each selects its own version, and what
+ * is active in one serves no claim in the other. A credential has at most one active user process for each port and session,
+ * and there is at most one elevation for each port and session. Credentials, words, the table and its names are shared:
+ *
+ * - SLAVOTUK_PROCESSES processes stand on both ports together, and no two of them have one name: so one port can meet FULL or
+ *   NAME_TAKEN because of the other.
+ * - slavotuk_list has the processes of both ports, and a row does not tell its port. slavotuk_kill reaches both.
+ * - slavotuk_close touches its own session alone.
+ * - A saved process has no port: it may be continued on either.
+ *
+ * Two ports are two networks, and so most likely two threads. Calls on one state are made one at a time, and nothing here sees
+ * to that: the host needs a lock, which a thread takes before a call and keeps until the call has returned and, where the image
+ * is to be written after it, until that is done.
  *
  * A protected call carries a claim of four parameters: kind, credential, number and verdict, the key unit's on the signature.
  * Of an elevated claim the credential, number and verdict are ignored, whatever they hold. The claim's tests, in their order:
@@ -77,9 +93,12 @@ extern "C" {
  * number again after NOT_GRANTED or ROOM. Since 2.0.1 the reads do not tell where names differ. With version 3 each credential
  * has a second word, the state has 713 bytes, not 681, and slavotuk_fresh and slavotuk_set_word take second words: a host comes
  * from version 2 by writing an image with the old library and restoring it with the new; active processes end; an old library
- * refuses a new image (14).
+ * refuses a new image (14). With version 4 there is a second port: every call on a session takes the port before it, and the
+ * state has 717 bytes, for four sessions more. A host comes from version 3 by writing an image with the old library and
+ * restoring it with the new; active processes end, and a slice of 713 bytes holds no state. Images are those of version 3, and
+ * on port 0 the answers are those of version 3 while nothing is called on port 1.
  */
-#define SLAVOTUK_VERSION_MAJOR 3
+#define SLAVOTUK_VERSION_MAJOR 4
 #define SLAVOTUK_VERSION_MINOR 0
 #define SLAVOTUK_VERSION_PATCH 0
 
@@ -99,8 +118,8 @@ enum slavotuk_number {
     SLAVOTUK_REFUSED_VERDICT = 8,        /* the key unit said no */
     SLAVOTUK_REFUSED_OUT_OF_TURN = 9,    /* the number is not the next */
     SLAVOTUK_REFUSED_NOT_GRANTED = 10,   /* the class bit is clear in the grant word */
-    SLAVOTUK_REFUSED_FULL = 11,          /* SLAVOTUK_PROCESSES processes stand */
-    SLAVOTUK_REFUSED_NAME_TAKEN = 12,    /* equals a name in the table */
+    SLAVOTUK_REFUSED_FULL = 11,          /* SLAVOTUK_PROCESSES processes stand, on both ports together */
+    SLAVOTUK_REFUSED_NAME_TAKEN = 12,    /* equals a name in the table, on either port */
     SLAVOTUK_REFUSED_SPENT = 13,         /* the next number is 65535 */
     SLAVOTUK_REFUSED_MESSAGE = 14,       /* the bytes don't fit the message's layout, or are no image */
     SLAVOTUK_REFUSED_ROOM = 15,          /* the buffer is too short */
@@ -132,13 +151,14 @@ static inline const char *slavotuk_number_name(uint32_t number)
     }
 }
 
-/* What the module holds. */
+/* What the module holds: two ports, so many sessions of each port, and what both share. */
+#define SLAVOTUK_PORTS 2
 #define SLAVOTUK_SESSIONS 4
 #define SLAVOTUK_CREDENTIALS 8
 #define SLAVOTUK_PROCESSES 12
 
 /* Bytes of the state, of a name, and of the messages: GET_AUTH_PROCESSES, and AUTH_PROCESSES with its header and rows. */
-#define SLAVOTUK_STATE_SIZE 713
+#define SLAVOTUK_STATE_SIZE 717
 #define SLAVOTUK_NAME_SIZE 48
 #define SLAVOTUK_REQUEST_SIZE 4
 #define SLAVOTUK_HEADER_SIZE 4
@@ -234,7 +254,7 @@ uint32_t slavotuk_version(void);
 /* ---- the module and its sessions */
 
 /*
- * Makes a fresh module: every session closed, no process. The state's old bytes don't matter.
+ * Makes a fresh module: every session of both ports closed, no process. The state's old bytes don't matter.
  *
  *   provisioned  SLAVOTUK_CREDENTIALS flags, one for each credential
  *   words        as many grant words
@@ -258,14 +278,14 @@ uint32_t slavotuk_holds(const uint8_t *state, size_t state_length);
  *
  * Refused: ARGUMENT; SESSION where it is open already.
  */
-uint32_t slavotuk_open(uint8_t *state, size_t state_length, uint32_t session);
+uint32_t slavotuk_open(uint8_t *state, size_t state_length, uint32_t port, uint32_t session);
 
 /*
- * Closes a session and removes its active processes; saved ones stay.
+ * Closes a session and removes its active processes; saved ones stay, and so does every other session, with its processes.
  *
  * Refused: ARGUMENT; SESSION where it is closed already.
  */
-uint32_t slavotuk_close(uint8_t *state, size_t state_length, uint32_t session);
+uint32_t slavotuk_close(uint8_t *state, size_t state_length, uint32_t port, uint32_t session);
 
 /*
  * Chooses the version of an open session. To choose it a second time is done and changes nothing.
@@ -274,7 +294,7 @@ uint32_t slavotuk_close(uint8_t *state, size_t state_length, uint32_t session);
  *
  * Refused: ARGUMENT; SESSION where it is closed; VERSION for every other version.
  */
-uint32_t slavotuk_select(uint8_t *state, size_t state_length, uint32_t session, uint32_t version);
+uint32_t slavotuk_select(uint8_t *state, size_t state_length, uint32_t port, uint32_t session, uint32_t version);
 
 /* ---- processes. From here on every call needs an open session with a version */
 
@@ -286,19 +306,20 @@ uint32_t slavotuk_select(uint8_t *state, size_t state_length, uint32_t session, 
  * Refused: ARGUMENT; SESSION; NO_VERSION; CREDENTIAL; ALREADY_ACTIVE where the credential has an active user process in the
  * session; NAME_TAKEN; FULL.
  */
-uint32_t slavotuk_start(uint8_t *SLAVOTUK_RESTRICT state, size_t state_length, uint32_t session, uint32_t credential,
-                        const uint8_t *name, size_t name_length);
+uint32_t slavotuk_start(uint8_t *SLAVOTUK_RESTRICT state, size_t state_length, uint32_t port, uint32_t session,
+                        uint32_t credential, const uint8_t *name, size_t name_length);
 
 /*
- * Makes a saved process of a credential active in a session, in its old place and with its old next number.
+ * Makes a saved process of a credential active in a session, on whichever port it was saved, in its old place and with its old
+ * next number.
  *
  *   name  the name it was started with
  *
  * Refused: ARGUMENT; SESSION; NO_VERSION; CREDENTIAL; NO_PROCESS unless a saved process has that credential and that name;
  * ALREADY_ACTIVE where the credential has an active user process in the session.
  */
-uint32_t slavotuk_continue(uint8_t *SLAVOTUK_RESTRICT state, size_t state_length, uint32_t session, uint32_t credential,
-                           const uint8_t *name, size_t name_length);
+uint32_t slavotuk_continue(uint8_t *SLAVOTUK_RESTRICT state, size_t state_length, uint32_t port, uint32_t session,
+                           uint32_t credential, const uint8_t *name, size_t name_length);
 
 /*
  * Starts an elevation of a session for a credential, last in the table.
@@ -309,15 +330,15 @@ uint32_t slavotuk_continue(uint8_t *SLAVOTUK_RESTRICT state, size_t state_length
  * Refused: ARGUMENT; SESSION; NO_VERSION; CREDENTIAL; VERDICT; ALREADY_ACTIVE where the session has an elevation; NAME_TAKEN;
  * FULL.
  */
-uint32_t slavotuk_elevate(uint8_t *SLAVOTUK_RESTRICT state, size_t state_length, uint32_t session, uint32_t credential,
-                          const uint8_t *name, size_t name_length, uint32_t verdict);
+uint32_t slavotuk_elevate(uint8_t *SLAVOTUK_RESTRICT state, size_t state_length, uint32_t port, uint32_t session,
+                          uint32_t credential, const uint8_t *name, size_t name_length, uint32_t verdict);
 
 /*
  * Removes a session's elevation; the session stays open.
  *
  * Refused: ARGUMENT; SESSION; NO_VERSION; NO_PROCESS where it has none.
  */
-uint32_t slavotuk_drop(uint8_t *state, size_t state_length, uint32_t session);
+uint32_t slavotuk_drop(uint8_t *state, size_t state_length, uint32_t port, uint32_t session);
 
 /*
  * Ends a user process under its own claim, which is always a user's and so has no kind.
@@ -327,8 +348,8 @@ uint32_t slavotuk_drop(uint8_t *state, size_t state_length, uint32_t session);
  * Refused: ARGUMENT; SESSION; NO_VERSION; the claim's tests; where keep is 1, NOT_GRANTED and ONLY_ELEVATED by
  * SLAVOTUK_CLASS_SAVE_OWN: a credential that has it only under elevation can't save.
  */
-uint32_t slavotuk_end(uint8_t *state, size_t state_length, uint32_t session, uint32_t credential, uint16_t number,
-                      uint32_t verdict, uint32_t keep);
+uint32_t slavotuk_end(uint8_t *state, size_t state_length, uint32_t port, uint32_t session, uint32_t credential,
+                      uint16_t number, uint32_t verdict, uint32_t keep);
 
 /* ---- protected calls */
 
@@ -340,12 +361,13 @@ uint32_t slavotuk_end(uint8_t *state, size_t state_length, uint32_t session, uin
  * Refused: ARGUMENT, for a class out of that range too; SESSION; NO_VERSION; the claim's tests; NOT_GRANTED and ONLY_ELEVATED
  * by the class.
  */
-uint32_t slavotuk_record(uint8_t *state, size_t state_length, uint32_t session, uint32_t kind, uint32_t credential,
-                         uint16_t number, uint32_t verdict, uint32_t device_class);
+uint32_t slavotuk_record(uint8_t *state, size_t state_length, uint32_t port, uint32_t session, uint32_t kind,
+                         uint32_t credential, uint16_t number, uint32_t verdict, uint32_t device_class);
 
 /*
- * Writes AUTH_PROCESSES to the front of the response: a row for each process of the wanted credential, in the table's order.
- * None is an empty list, also for a credential that is not provisioned. Later bytes of the response are not touched.
+ * Writes AUTH_PROCESSES to the front of the response: a row for each process of the wanted credential, on either port, in the
+ * table's order. None is an empty list, also for a credential that is not provisioned. Later bytes of the response are not
+ * touched.
  *
  *   wanted    a credential, or SLAVOTUK_WANTED_ALL
  *   response  the buffer; SLAVOTUK_LISTING_SIZE bytes are always enough
@@ -355,18 +377,18 @@ uint32_t slavotuk_record(uint8_t *state, size_t state_length, uint32_t session, 
  * claim's credential, NOT_GRANTED and ONLY_ELEVATED by SLAVOTUK_CLASS_LIST_OTHERS; ROOM. To list again into a longer response
  * takes the next number.
  */
-uint32_t slavotuk_list(uint8_t *SLAVOTUK_RESTRICT state, size_t state_length, uint32_t session, uint32_t kind,
+uint32_t slavotuk_list(uint8_t *SLAVOTUK_RESTRICT state, size_t state_length, uint32_t port, uint32_t session, uint32_t kind,
                        uint32_t credential, uint16_t number, uint32_t verdict, uint32_t wanted,
                        uint8_t *SLAVOTUK_RESTRICT response, size_t response_length, size_t *SLAVOTUK_RESTRICT length);
 
 /*
- * Removes the process of that name, of whichever type. A claim may kill its own credential's processes, and all where
- * SLAVOTUK_CLASS_KILL_OTHERS is granted; a user claim that has it only under elevation may kill its own alone.
+ * Removes the process of that name, of whichever type and on whichever port. A claim may kill its own credential's processes,
+ * and all where SLAVOTUK_CLASS_KILL_OTHERS is granted; a user claim that has it only under elevation may kill its own alone.
  *
  * Refused: ARGUMENT; SESSION; NO_VERSION; the claim's tests; NO_PROCESS where no process that the claim may kill has the name,
  * whatever its credential lacks.
  */
-uint32_t slavotuk_kill(uint8_t *SLAVOTUK_RESTRICT state, size_t state_length, uint32_t session, uint32_t kind,
+uint32_t slavotuk_kill(uint8_t *SLAVOTUK_RESTRICT state, size_t state_length, uint32_t port, uint32_t session, uint32_t kind,
                        uint32_t credential, uint16_t number, uint32_t verdict, const uint8_t *name, size_t name_length);
 
 /*
@@ -379,15 +401,16 @@ uint32_t slavotuk_kill(uint8_t *SLAVOTUK_RESTRICT state, size_t state_length, ui
  * Refused: ARGUMENT; SESSION; NO_VERSION; the claim's tests; NOT_GRANTED and ONLY_ELEVATED by SLAVOTUK_CLASS_SET_WORDS;
  * CREDENTIAL where the target is not provisioned.
  */
-uint32_t slavotuk_set_word(uint8_t *state, size_t state_length, uint32_t session, uint32_t kind, uint32_t credential,
-                           uint16_t number, uint32_t verdict, uint32_t target, uint32_t word, uint32_t second);
+uint32_t slavotuk_set_word(uint8_t *state, size_t state_length, uint32_t port, uint32_t session, uint32_t kind,
+                           uint32_t credential, uint16_t number, uint32_t verdict, uint32_t target,
+                           uint32_t word, uint32_t second);
 
 /*
  * ---- through a power cycle
  *
  * An image is what a module keeps while it is without power: its credentials, both words of each, and its saved processes with
  * their next numbers; docs/IMAGE.md draws it. Sessions and active processes are not in it and are lost, also a process that was
- * saved and continued.
+ * saved and continued. It knows no port: what was saved on one may be continued on the other.
  *
  * It changes where slavotuk_end keeps a process, slavotuk_continue takes one up, slavotuk_kill removes a saved one,
  * slavotuk_set_word sets words, and where slavotuk_fresh or slavotuk_restore makes a module: write it again after each of these
@@ -412,8 +435,8 @@ uint32_t slavotuk_image(const uint8_t *state, size_t state_length, uint8_t *SLAV
                         size_t *SLAVOTUK_RESTRICT length);
 
 /*
- * Makes a module from an image: its credentials and words, every session closed, and its processes, saved, in their order and
- * with their next numbers. The state's old bytes don't matter.
+ * Makes a module from an image: its credentials and words, every session of both ports closed, and its processes, saved, in
+ * their order and with their next numbers. The state's old bytes don't matter.
  *
  *   image  the whole image and no byte more, in the new layout or the old
  *

@@ -212,7 +212,7 @@ fn make_fresh(state: &mut [u8], grants: &AllGrants) -> u32 {
 
 fn sent(state: &mut [u8], records: &Records, number: u16) -> u32 {
     let claim = RawClaim::user(records.credential, number);
-    entries::record(state, records.session, claim, records.class)
+    entries::record(state, records.port, records.session, claim, records.class)
 }
 
 fn request(wanted: u16, out: &mut impl Write) -> io::Result<()> {

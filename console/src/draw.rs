@@ -2,8 +2,8 @@
 
 use crate::bytes;
 use slavotuk::{
-    Class, Credential, Grants, Listing, Lookup, Module, Process, Row, Session, WireCredential,
-    NAME_LENGTH, PLACES,
+    Class, Credential, Grants, Listing, Lookup, Module, Port, Process, Row, Session,
+    WireCredential, NAME_LENGTH, PLACES,
 };
 use std::fmt::Display;
 use std::io::{self, Write};
@@ -17,11 +17,13 @@ pub fn answer(number: u32) -> String {
     format!("{number} {name}")
 }
 
-/// The sessions, the credentials and the process table.
+/// The sessions of each port, the credentials and the process table.
 pub fn module(module: &Module, whole: bool, out: &mut impl Write) -> io::Result<()> {
-    writeln!(out, "sessions")?;
-    for session in Session::all() {
-        writeln!(out, "  {session}  {}", module.phase(session))?;
+    for port in Port::all() {
+        writeln!(out, "sessions of port {port}")?;
+        for session in Session::all().filter(|session| session.port() == port) {
+            writeln!(out, "  {session}  {}", module.phase(session))?;
+        }
     }
     writeln!(out, "credentials")?;
     let (provisioned, others): (Vec<Credential>, Vec<Credential>) =

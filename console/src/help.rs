@@ -60,7 +60,10 @@ pub const COMMANDS: [Topic; 25] = [
         name: "continue",
         form: "continue S C NAME",
         short: "take a saved process up again",
-        more: &["Refused with, in this order: 1, 2, 3, 5, 6, 7."],
+        more: &[
+            "On either port, whichever it was saved on.",
+            "Refused with, in this order: 1, 2, 3, 5, 6, 7.",
+        ],
     },
     Topic {
         name: "elevate",
@@ -110,6 +113,7 @@ pub const COMMANDS: [Topic; 25] = [
         form: "list S CLAIM.. WANTED [ROOM]",
         short: "list processes",
         more: &[
+            "The processes of both ports are listed.",
             "WANTED is a credential or 'all', which is 65535. ROOM is the lent buffer's",
             "length: a full listing's where it isn't given, and at most 65536.",
             "For instance: list 0 user 0 1 yes all 54",
@@ -120,7 +124,10 @@ pub const COMMANDS: [Topic; 25] = [
         name: "kill",
         form: "kill S CLAIM.. NAME",
         short: "remove the process of that name",
-        more: &["Refused with, in this order: 1, 2, 3, the claim's, 6."],
+        more: &[
+            "On whichever port it is.",
+            "Refused with, in this order: 1, 2, 3, the claim's, 6.",
+        ],
     },
     Topic {
         name: "set-word",
@@ -238,7 +245,16 @@ pub const COMMANDS: [Topic; 25] = [
 ];
 
 /// The parts of commands.
-const PARTS: [Topic; 4] = [
+const PARTS: [Topic; 5] = [
+    Topic {
+        name: "session",
+        form: "0 to 3 on port 0, or PORT.SESSION as 1.0",
+        short: "two ports, 0 and 1, have four sessions each; 1.0 is session 0 of port 1",
+        more: &[
+            "Credentials, words, the table and its names are shared by both ports.",
+            "A wrong port or session (open 2.0, open 0.4) is the module's to answer.",
+        ],
+    },
     Topic {
         name: "number",
         form: "decimal, or hexadecimal after 0x",
@@ -299,14 +315,14 @@ pub fn overview(out: &mut impl Write) -> io::Result<()> {
     for topic in &COMMANDS {
         writeln!(out, "  {:<35}{}", topic.form, topic.short)?;
     }
-    writeln!(out, "where S is a session, C a credential, and")?;
+    writeln!(out, "where S is a SESSION, C a credential, and")?;
     for topic in &PARTS {
         writeln!(out, "  {:<35}{}", topic.name.to_uppercase(), topic.form)?;
     }
     writeln!(
         out,
-        "'help COMMAND' says more, and so do 'help number', 'help claim', 'help name' and\n\
-         'help message'.\n\
+        "'help COMMAND' says more, and so do 'help session', 'help number', 'help claim',\n\
+         'help name' and 'help message'.\n\
          Blank lines and lines that begin with # are skipped. For line editing at a\n\
          terminal install rlwrap; 'make run' uses it where it is there."
     )

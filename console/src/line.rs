@@ -58,6 +58,7 @@ pub enum Command {
 /// A series of records under a user claim with the verdict yes.
 #[derive(Debug, PartialEq)]
 pub struct Records {
+    pub port: u32,
     pub session: u32,
     pub credential: u32,
     pub from: u16,
@@ -161,14 +162,17 @@ macro_rules! parameter {
 macro_rules! call {
     (
         module $module:tt
-        sessions { $($(#[$doc:meta])* $symbol:ident $function:ident $case:ident [$($state:tt)+] $(($name:ident: $($type:tt)+))*;)* }
+        sessions { $($(#[$doc:meta])* $symbol:ident $function:ident $case:ident [$($state:tt)+] (port: u32) (session: u32) $(($name:ident: $($type:tt)+))*;)* }
         power $power:tt
         listing $listing:tt
     ) => {
-        /// The call of this name, its parameters read in their order.
+        /// The call of this name, its parameters read in their order. Each begins with its session, which is a port too.
         fn call(name: &str, words: &mut Reader) -> Result<Call, String> {
             match format!("slavotuk_{}", name.replace('-', "_")).as_str() {
-                $(stringify!($symbol) => Ok(Call::$case { $($name: parameter!(words $name)),* }),)*
+                $(stringify!($symbol) => {
+                    let (port, session) = words.session()?;
+                    Ok(Call::$case { port, session, $($name: parameter!(words $name)),* })
+                })*
                 _ => Err(format!("{} is no call", quoted(name))),
             }
         }
@@ -269,6 +273,15 @@ impl<'a> Reader<'a> {
 
     fn number(&mut self, part: &str) -> Result<u32, String> {
         number_of(self.plain(part)?).map_err(about(part))
+    }
+
+    /// A port and a session of it, as PORT.SESSION or as SESSION, which is port 0's: document 01 knows no other port.
+    fn session(&mut self) -> Result<(u32, u32), String> {
+        let text = self.plain("session")?;
+        let (port, session) = text.split_once('.').unwrap_or(("0", text));
+        let port = number_of(port).map_err(about("port"))?;
+        let session = number_of(session).map_err(about("session"))?;
+        Ok((port, session))
     }
 
     fn number16(&mut self, part: &str) -> Result<u16, String> {
@@ -403,8 +416,10 @@ impl<'a> Reader<'a> {
     }
 
     fn records(&mut self) -> Result<Records, String> {
+        let (port, session) = self.session()?;
         let records = Records {
-            session: self.number("session")?,
+            port,
+            session,
             credential: self.number("credential")?,
             from: self.number16("from")?,
             to: self.number16("to")?,

@@ -87,8 +87,8 @@ fn damaged_files_change_nothing() {
         not_loaded(&file, "its bytes hold no state, 1 argument");
         assert_eq!(fs::read(&file).unwrap(), damaged);
     }
-    // a state had 681 bytes before each credential had a second word
-    for length in [STATE_LENGTH - 1, 681, 0] {
+    // a state had 681 bytes before each credential had a second word, and 713 before there was a second port
+    for length in [STATE_LENGTH - 1, 713, 681, 0] {
         fs::write(&file, &whole[..length]).unwrap();
         let why = format!("it has {length} bytes, and a state {STATE_LENGTH}");
         not_loaded(&file, &why);

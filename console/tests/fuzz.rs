@@ -21,7 +21,7 @@ impl Chance {
     }
 }
 
-const WORDS: [&str; 78] = [
+const WORDS: [&str; 84] = [
     "open",
     "close",
     "select",
@@ -80,6 +80,12 @@ const WORDS: [&str; 78] = [
     "4294967295",
     "4294967296",
     "-1",
+    "1.0",
+    "0.1",
+    "0.4",
+    "2.0",
+    "1.",
+    ".",
     "P",
     "Q",
     "R",
@@ -103,11 +109,14 @@ const WORDS: [&str; 78] = [
 ];
 
 /// The start of a line that could be a good one.
-const HEADS: [&str; 22] = [
+const HEADS: [&str; 25] = [
     "open 0",
     "open 1",
     "select 0 0x10",
     "select 1 0x10",
+    "open 1.0",
+    "select 1.0 0x10",
+    "start 1.0 1",
     "start 0 0",
     "start 0 1 P",
     "start 1 1 R",
@@ -199,6 +208,7 @@ fn with_changed_bytes(example: &[u8]) {
 fn good_lines_with_a_changed_byte() {
     with_changed_bytes(include_bytes!("../../examples/worked-steps.txt"));
     with_changed_bytes(include_bytes!("../../examples/elevation.txt"));
+    with_changed_bytes(include_bytes!("../../examples/ports.txt"));
     with_changed_bytes(include_bytes!("../../examples/messages.txt"));
 }
 

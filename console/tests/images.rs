@@ -45,11 +45,16 @@ fn the_saved_process_is_restored_and_the_active_one_lost() {
         "0 done\nrestored from {ONE_ROW} bytes\na new history begins\nsince restore {file}\n"
     );
     let drawn = "\
-sessions
-  0  closed
-  1  closed
-  2  closed
-  3  closed
+sessions of port 0
+  0.0  closed
+  0.1  closed
+  0.2  closed
+  0.3  closed
+sessions of port 1
+  1.0  closed
+  1.1  closed
+  1.2  closed
+  1.3  closed
 credentials
   0  word 0x0000000f  0 list others, 1 kill others, 2 save own, 3 set words
   1  word 0x00000010/0x00000010  only elevated: device 4
@@ -59,8 +64,9 @@ processes, 1 of 12
       0           0  saved user              -            3  00*16+11*32  P
 ";
     let again = folder.file("again");
-    let script =
-        format!("fresh none\nopen 3\nrestore {file}\nhistory\nshow names\nimage {again}\n");
+    let script = format!(
+        "fresh none\nopen 3\nopen 1.3\nrestore {file}\nhistory\nshow names\nimage {again}\n"
+    );
     let told = format!("{restored}{drawn}0 done\nwritten {ONE_ROW} bytes\n");
     assert_eq!(from(&good(script), "0 done\nrestored"), told);
     assert_eq!(fs::read(&again).unwrap(), image());
@@ -98,6 +104,34 @@ a new history begins
     let told = from(&out, "2 session");
     assert_eq!(told[..answers.len()], answers);
     assert!(told.ends_with("saved user              -            4  00*16+11*32  P\n"));
+}
+
+/// What was saved on port 0 is continued on port 1 after a power cycle, with its number; the image of it is the same.
+#[test]
+fn a_process_goes_on_on_the_other_port() {
+    let folder = Folder::new("other-port");
+    let (file, again) = (folder.file("image"), folder.file("again"));
+    good(format!("{SETUP}image {file}\n"));
+    let script = format!(
+        "restore {file}\nopen 1.0\nselect 1.0 0x10\nopen 0\nselect 0 0x10\ncontinue 1.0 0 P\nlist 0 user 0 3 yes 0\n\
+         end 1.0 0 2 yes keep\nend 1.0 0 3 yes keep\nimage {again}\n"
+    );
+    let answers = "\
+0 done
+0 done
+0 done
+0 done
+0 done
+6 no process
+9 out of turn
+0 done
+";
+    let written = format!("0 done\nwritten {ONE_ROW} bytes\n");
+    let out = good(script);
+    assert_eq!(from(&out, "0 done\n0 done"), format!("{answers}{written}"));
+    let mut image = image();
+    image[row_at(0) + NEXT] += 1;
+    assert_eq!(fs::read(&again).unwrap(), image);
 }
 
 /// The last image has no row of it, and another process may have its name.

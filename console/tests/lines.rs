@@ -9,7 +9,7 @@ use std::process::Stdio;
 const SETUP: &str = "open 0\nselect 0 0x10\nstart 0 0 P\nstart 0 1 R\n";
 
 /// Bad lines, each with a part of its message.
-const BAD: [(&str, &str); 60] = [
+const BAD: [(&str, &str); 71] = [
     ("opne 3", "no command 'opne'"),
     ("OPEN 3", "no command 'OPEN'"),
     ("\u{1b}[31m", "no command '\\u{1b}[31m'"),
@@ -18,7 +18,18 @@ const BAD: [(&str, &str); 60] = [
     ("open x", "session: 'x' is no number"),
     ("open -1", "session: '-1' is no number"),
     ("open +1", "session: '+1' is no number"),
-    ("open 1.0", "'1.0' is no number"),
+    ("open 1.", "session: '' is no number"),
+    ("open .0", "port: '' is no number"),
+    ("open .", "port: '' is no number"),
+    ("open 1.0.0", "session: '0.0' is no number"),
+    ("open 1..0", "session: '.0' is no number"),
+    ("open x.0", "port: 'x' is no number"),
+    ("open 1.x", "session: 'x' is no number"),
+    ("open -1.0", "port: '-1' is no number"),
+    ("open 1,0", "session: '1,0' is no number"),
+    ("open 1 .0", "'.0' is too much"),
+    ("open 4294967296.0", "port: '4294967296' is over 32 bits"),
+    ("records 1. 1 0 9 4", "session: '' is no number"),
     ("open 0x", "'0x' is no number"),
     ("open 0xg", "'0xg' is no number"),
     ("open 1 2", "'2' is too much"),
@@ -159,34 +170,41 @@ fn a_refusal_is_an_answer() {
 #[test]
 fn show_draws_the_state() {
     let drawn = "\
-sessions
-  0  open with version 1.0
-  1  open without a version
-  2  closed
-  3  closed
+sessions of port 0
+  0.0  open with version 1.0
+  0.1  open without a version
+  0.2  closed
+  0.3  closed
+sessions of port 1
+  1.0  closed
+  1.1  closed
+  1.2  open with version 1.0
+  1.3  closed
 credentials
   0  word 0x0000000f  0 list others, 1 kill others, 2 save own, 3 set words
   1  word 0xc0000114/0x80000102  2 save own, device 4, 30; only elevated: device 8, 31
   5  word 0x00000000  no class
   6  word 0x0000000f/0x00000004  0 list others, 1 kill others, 3 set words; only elevated: 2 save own
   2 to 4, 7  not provisioned
-processes, 3 of 12; of their names bytes 0, 1, 16, 46, 47
+processes, 4 of 12; of their names bytes 0, 1, 16, 46, 47
   place  credential  type              session  next number  name
-      0           0  active user             0            1  0000..11..1111  P
-      1           1  active elevation        0            -  0000..22..2222  Q
+      0           0  active user           0.0            1  0000..11..1111  P
+      1           1  active elevation      0.0            -  0000..22..2222  Q
       2           1  saved user              -            1  0000..11..1112  R
+      3           0  active user           1.2            0  0000..00..0001
 ";
     let script = "fresh 0=15 1=0 5=0 6=15/4\nopen 0\nselect 0 0x10\nopen 1\nstart 0 0 P\nset-word 0 user 0 0 yes 1 0xc0000114 0x80000102\nelevate 0 1 Q yes\n\
-                  start 0 1 R\nend 0 1 0 yes keep\n";
+                  start 0 1 R\nend 0 1 0 yes keep\nopen 1.2\nselect 1.2 0x10\nstart 1.2 0 00*47+01\n";
     let out = good(format!("{script}show\n"));
     assert_eq!(
-        out.lines().skip(10).collect::<Vec<_>>().join("\n") + "\n",
+        out.lines().skip(13).collect::<Vec<_>>().join("\n") + "\n",
         drawn
     );
 
     let names = good(format!("{script}show names\n"));
-    assert!(names.contains("processes, 3 of 12\n"));
-    assert!(names.ends_with("saved user              -            1  00*16+11*31+12  R\n"));
+    assert!(names.contains("processes, 4 of 12\n"));
+    assert!(names.contains("saved user              -            1  00*16+11*31+12  R\n"));
+    assert!(names.ends_with("active user           1.2            0  00*47+01\n"));
 
     let none = good("fresh none\nshow\n");
     assert!(none.ends_with("credentials\n  0 to 7  not provisioned\nprocesses, 0 of 12\n"));
@@ -232,7 +250,7 @@ fn help_names_every_command() {
     assert!(overview.lines().all(|line| line.len() <= 80), "{overview}");
     for name in COMMANDS
         .into_iter()
-        .chain(["number", "claim", "name", "message"])
+        .chain(["session", "number", "claim", "name", "message"])
     {
         let details = good(format!("help {name}\n"));
         assert!(details.lines().count() >= 2, "{details}");

@@ -1,4 +1,4 @@
-//! Document 01's thirteen steps, those of document 02's order 7, and what else a call can be handed.
+//! Document 01's thirteen steps, those of document 02's orders 7 and 10, and what else a call can be handed.
 
 mod common;
 
@@ -59,6 +59,32 @@ fn the_steps_of_order_7_have_the_stated_numbers() {
     assert_eq!(numbers("elevation"), STATED_OF_ORDER_7.concat());
 }
 
+#[test]
+fn the_steps_of_order_10_are_answered_as_expected() {
+    prints_what_is_expected("ports");
+}
+
+/// The numbers of the twelve steps of order 10, apart from the file of expected output.
+const STATED_OF_ORDER_10: [&[u32]; 12] = [
+    &[1, 1, 1, 1, 0, 2, 0],
+    &[0, 3, 0, 2],
+    &[0, 12, 0, 7, 7],
+    &[0, 6, 0],
+    &[15, 0, 0],
+    &[0, 6],
+    &[0, 7, 12, 0, 0, 6, 0],
+    &[0, 7, 0, 0, 0],
+    &[12, 0, 0],
+    &[0; 12],
+    &[11, 12, 11, 0, 0, 11],
+    &[0],
+];
+
+#[test]
+fn the_steps_of_order_10_have_the_stated_numbers() {
+    assert_eq!(numbers("ports"), STATED_OF_ORDER_10.concat());
+}
+
 /// The numbers that document 01 states in its steps, apart from the file of expected output. Document 02 corrects the numbers of the claims, and no answer.
 const STATED: [&[u32]; 11] = [
     &[1, 0, 2],
@@ -93,9 +119,21 @@ fn wrong_values_are_the_modules_to_answer() {
     let wrong = [
         "open 4",
         "open 0xffffffff",
+        "open 0.4",
+        "open 0.7",
+        "open 1.4",
+        "open 2.0",
+        "open 4.0",
+        "open 256.0",
+        "open 1.256",
+        "open 0x80000000.0",
+        "open 4294967295.4294967295",
         "close 0x80000000",
         "drop 256",
         "select 4 0x10",
+        "select 2.0 0x10",
+        "close 2.0",
+        "drop 3.0",
         "start 0 8 Q",
         "start 0 65536 Q",
         "start 0 0x80000000 Q",
@@ -105,6 +143,14 @@ fn wrong_values_are_the_modules_to_answer() {
         "continue 0 0 00",
         "elevate 0 0 Q 2",
         "elevate 7 0 Q yes",
+        "elevate 2.0 0 Q yes",
+        "start 2.0 0 Q",
+        "continue 2.0 0 Q",
+        "end 2.0 1 0 yes remove",
+        "record 2.0 user 1 0 yes 4",
+        "list 2.0 user 1 0 yes 1",
+        "kill 2.0 user 1 0 yes Q",
+        "set-word 2.0 user 1 0 yes 1 1 0",
         "end 0 1 0 2 remove",
         "end 0 1 0 yes 2",
         "record 0 user 1 0 yes 3",
@@ -121,6 +167,32 @@ fn wrong_values_are_the_modules_to_answer() {
     for line in wrong {
         let lines = answers(&format!("{setup}{line}\n"));
         assert_eq!(lines[3..], ["1 argument"], "{line}");
+    }
+}
+
+/// Each call of document 01 on port 1: a plain number, and its number behind port 0, reach another session.
+#[test]
+fn a_call_reaches_the_port_it_names() {
+    let script = "open 1.3\nselect 1.3 16\nstart 1.3 0 P\nelevate 1.3 1 Q yes\nset-word 1.3 user 0 0 yes 1 0x80000000 0\nrecord 1.3 elevated 31\n\
+                  drop 1.3\nlist 1.3 user 0 1 yes 1 4\nkill 1.3 user 0 2 yes R\nend 1.3 0 3 yes keep\ncontinue 1.3 0 P\nrecords 1.3 0 4 5 4\nclose 1.3\n";
+    let numbers = [0, 0, 0, 0, 0, 0, 0, 0, 6, 0, 0, 10, 0];
+    let lines = answers(script);
+    let answered = lines.iter().filter(|line| !line.starts_with(' '));
+    let answered = answered.filter(|line| !line.starts_with("AUTH") && !line.starts_with("number"));
+    let answered: Vec<&str> = answered
+        .map(|line| line.split(' ').next().unwrap())
+        .collect();
+    assert_eq!(answered, numbers.map(|number| number.to_string()));
+    for other in ["3", "0.3"] {
+        let script = script.replacen("open 1.3", &format!("open {other}"), 1);
+        let refused = answers(&script);
+        assert_eq!(refused[0], "0 done");
+        assert!(
+            refused[1..]
+                .iter()
+                .all(|line| line == "2 session" || line.starts_with("number")),
+            "{refused:?}"
+        );
     }
 }
 

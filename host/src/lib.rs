@@ -1,9 +1,9 @@
 //! The management login module of machines that banks rent, for programs in Rust.
 //!
-//! [`Module`] has document 01's calls with types: a session can't stand for a credential or a class, and a value out of its range can't be made. Every call
-//! returns a [`Refusal`] where it is refused, which leaves the state and the lent buffer as they were, but for the number that a [`UserClaim`] has spent.
-//! Whoever has values that may be wrong turns them into typed ones (`Session::try_from((port, handle))?` refuses as the module would), or hands them to [`entries`],
-//! where the module itself answers them with 1.
+//! [`Module`] has document 01's calls with types: a session, which is a port and a handle, can't stand for a credential or a class, and a value out of its range
+//! can't be made. Every call returns a [`Refusal`] where it is refused, which leaves the state and the lent buffer as they were, but for the number that a
+//! [`UserClaim`] has spent. Whoever has values that may be wrong turns them into typed ones (`Session::try_from((port, handle))?` refuses as the module would),
+//! or hands them to [`entries`], where the module itself answers them with 1.
 //!
 //! # An example
 //!
@@ -58,6 +58,35 @@
 //!
 //! // two numbers of that process are spent
 //! assert_eq!(module.processes().next().unwrap().next_number(), Some(2));
+//! # Ok::<(), Refusal>(())
+//! ```
+//!
+//! # Two ports
+//!
+//! Two networks reach one module, each by a [`Port`] with four sessions of its own. Credentials, words, the table and the names are shared: one port can meet
+//! [`Refusal::Full`] or [`Refusal::NameTaken`] because of the other, a listing has the processes of both, a kill reaches both, and a saved process may be
+//! continued on either. Two networks are most likely two threads, and a state takes one call at a time, so they share the module by a lock:
+//!
+//! ```
+//! use slavotuk::{Credential, Grants, Module, Name, Refusal, Session, VERSION_1_0};
+//! use std::sync::Mutex;
+//! use std::thread;
+//!
+//! let module = Mutex::new(Module::fresh(&[Grants::of_word(15); 8])?);
+//! let network = |session: Session| -> Result<(), Refusal> {
+//!     module.lock().unwrap().open(session)?;
+//!     module.lock().unwrap().select(session, VERSION_1_0)?;
+//!     module.lock().unwrap().start(session, Credential::try_from(0)?, &Name([0x11; 48]))
+//! };
+//! let sessions = [Session::try_from((0, 0))?, Session::try_from((1, 0))?];
+//! let mut answers = thread::scope(|scope| {
+//!     let threads = sessions.map(|session| scope.spawn(move || network(session)));
+//!     threads.map(|thread| thread.join().unwrap())
+//! });
+//!
+//! // both sessions are open, and whoever comes second finds the name taken
+//! answers.sort_by_key(|answer| answer.is_err());
+//! assert_eq!(answers, [Ok(()), Err(Refusal::NameTaken)]);
 //! # Ok::<(), Refusal>(())
 //! ```
 //!

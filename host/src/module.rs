@@ -224,7 +224,7 @@ impl<S: AsMut<[u8]>> Module<S> {
         ))
     }
 
-    /// Closes a session: its active processes are removed, saved ones stay. Refusals: session.
+    /// Closes a session: its active processes are removed. Saved ones stay, and so do those of every other session, on either port. Refusals: session.
     pub fn close(&mut self, session: Session) -> Result<(), Refusal> {
         answered(entries::close(
             self.state.as_mut(),
@@ -244,7 +244,8 @@ impl<S: AsMut<[u8]>> Module<S> {
         ))
     }
 
-    /// Starts a user process with next number 0. Refusals: session, no version, credential, already active, name taken, full.
+    /// Starts a user process with next number 0. Refusals: session, no version, credential, already active, name taken, full. The last two are of all processes, also
+    /// those on the other port.
     pub fn start(
         &mut self,
         session: Session,
@@ -261,7 +262,27 @@ impl<S: AsMut<[u8]>> Module<S> {
         ))
     }
 
-    /// Takes a saved process up again in this session, with its old next number. Refusals: session, no version, credential, no process, already active.
+    /// Takes a saved process up again in this session, with its old next number, on whichever port it was saved. Refusals: session, no version, credential, no process,
+    /// already active.
+    ///
+    /// ```
+    /// use slavotuk::{Credential, Grants, Module, Name, Refusal, Session, UserClaim, VERSION_1_0};
+    ///
+    /// let (credential, name) = (Credential::try_from(0)?, Name([0x11; 48]));
+    /// let (one, another) = (Session::try_from((0, 2))?, Session::try_from((1, 0))?);
+    /// let mut module = Module::fresh(&[Grants::of_word(15); 8])?;
+    /// for session in [one, another] {
+    ///     module.open(session)?;
+    ///     module.select(session, VERSION_1_0)?;
+    /// }
+    /// module.start(one, credential, &name)?;
+    /// module.end(one, UserClaim { credential, number: 0, verdict: true }, true)?;
+    ///
+    /// module.continue_saved(another, credential, &name)?;
+    /// let process = module.processes().next().unwrap();
+    /// assert_eq!((process.session(), process.next_number()), (Some(another), Some(1)));
+    /// # Ok::<(), Refusal>(())
+    /// ```
     pub fn continue_saved(
         &mut self,
         session: Session,
@@ -278,7 +299,8 @@ impl<S: AsMut<[u8]>> Module<S> {
         ))
     }
 
-    /// Starts the session's elevation. Refusals: session, no version, credential, verdict, already active, name taken, full.
+    /// Starts the session's elevation. Refusals: session, no version, credential, verdict, already active, name taken, full. The last two are of all processes, also
+    /// those on the other port.
     pub fn elevate(
         &mut self,
         session: Session,
@@ -340,8 +362,8 @@ impl<S: AsMut<[u8]>> Module<S> {
         ))
     }
 
-    /// Writes the listing of the wanted processes to the front of the buffer; later bytes stay as they were. Refusals: session, no version, the claim's,
-    /// not granted, only elevated, room. The last three spend the number.
+    /// Writes the listing of the wanted processes, those of both ports, to the front of the buffer; later bytes stay as they were. Refusals: session, no version,
+    /// the claim's, not granted, only elevated, room. The last three spend the number.
     ///
     /// A buffer of [`FULL_LISTING_LENGTH`](crate::FULL_LISTING_LENGTH) bytes is long enough for every listing. Whoever tries again with a longer one needs a claim
     /// with the next number:
@@ -385,9 +407,9 @@ impl<S: AsMut<[u8]>> Module<S> {
         Listing::read(buffer.get(..length).unwrap_or_default())
     }
 
-    /// Removes the process of that name. A process that the claim may not kill is answered as one that isn't there, also where a user's claim could kill it only
-    /// under elevation. Refusals: session, no version, the claim's, no process. The last spends the number, so that a kill that was refused is not good once a
-    /// process of that name has started.
+    /// Removes the process of that name, on whichever port. A process that the claim may not kill is answered as one that isn't there, also where a user's claim
+    /// could kill it only under elevation. Refusals: session, no version, the claim's, no process. The last spends the number, so that a kill that was refused is not
+    /// good once a process of that name has started.
     pub fn kill(
         &mut self,
         session: Session,

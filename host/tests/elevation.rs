@@ -28,7 +28,7 @@ fn s() -> Name {
     named(0x33, 0x33)
 }
 
-/// A lent state. The calls are made in session 0.
+/// A lent state. The calls are made in session 0 of port 0.
 #[derive(Clone)]
 struct Lent([u8; STATE_LENGTH]);
 
@@ -46,20 +46,20 @@ impl Lent {
         Lent(state)
     }
 
-    /// The same with session 0 open.
+    /// The same with that session open.
     fn opened(words: &[(u32, u32)]) -> Lent {
         let mut lent = Lent::fresh(words);
-        assert_eq!(entries::open(&mut lent.0, 0), 0);
-        assert_eq!(entries::select(&mut lent.0, 0, 0x10), 0);
+        assert_eq!(entries::open(&mut lent.0, 0, 0), 0);
+        assert_eq!(entries::select(&mut lent.0, 0, 0, 0x10), 0);
         lent
     }
 
     fn start(&mut self, credential: u32, name: Name) -> u32 {
-        entries::start(&mut self.0, 0, credential, &name.0)
+        entries::start(&mut self.0, 0, 0, credential, &name.0)
     }
 
     fn elevate(&mut self, credential: u32, name: Name) -> u32 {
-        entries::elevate(&mut self.0, 0, credential, &name.0, 1)
+        entries::elevate(&mut self.0, 0, 0, credential, &name.0, 1)
     }
 
     /// Where the next number of the credential's active user process lies.
@@ -90,7 +90,7 @@ impl Lent {
 
     #[track_caller]
     fn record(&mut self, claim: RawClaim, class: u32) -> u32 {
-        self.claimed(claim, |state| entries::record(state, 0, claim, class))
+        self.claimed(claim, |state| entries::record(state, 0, 0, claim, class))
     }
 
     /// A listing into so much room, which a refusal leaves as it was.
@@ -98,7 +98,7 @@ impl Lent {
     fn list(&mut self, claim: RawClaim, wanted: u32, room: usize) -> u32 {
         let (mut response, mut length) = (vec![0xaa; room], 7);
         let number = self.claimed(claim, |state| {
-            entries::list(state, 0, claim, wanted, &mut response, &mut length)
+            entries::list(state, 0, 0, claim, wanted, &mut response, &mut length)
         });
         if number != 0 {
             assert_eq!((response, length), (vec![0xaa; room], 0));
@@ -108,7 +108,7 @@ impl Lent {
 
     #[track_caller]
     fn kill(&mut self, claim: RawClaim, name: Name) -> u32 {
-        self.claimed(claim, |state| entries::kill(state, 0, claim, &name.0))
+        self.claimed(claim, |state| entries::kill(state, 0, 0, claim, &name.0))
     }
 
     /// An end with keep.
@@ -118,14 +118,14 @@ impl Lent {
             credential, number, ..
         } = claim;
         self.claimed(claim, |state| {
-            entries::end(state, 0, credential, number, 1, 1)
+            entries::end(state, 0, 0, credential, number, 1, 1)
         })
     }
 
     #[track_caller]
     fn set_word(&mut self, claim: RawClaim, target: u32, word: u32, second: u32) -> u32 {
         self.claimed(claim, |state| {
-            entries::set_word(state, 0, claim, target, word, second)
+            entries::set_word(state, 0, 0, claim, target, word, second)
         })
     }
 }
@@ -194,7 +194,7 @@ fn step_7(lent: &mut Lent) {
 }
 
 fn step_8(lent: &mut Lent) {
-    assert_eq!(entries::drop(&mut lent.0, 0), 0);
+    assert_eq!(entries::drop(&mut lent.0, 0, 0), 0);
     assert_eq!(lent.record(ELEVATED, 5), 6);
     assert_eq!(lent.kill(by(2, 10), q()), 0);
 }
@@ -289,12 +289,12 @@ fn step_9_with_a_row() {
 fn step_10() {
     let mut lent = Lent::fresh(&[(15, 0), (0x30, 0x60), (15, 15)]);
     assert_eq!(entries::holds(&lent.0), 0);
-    lent.0[9 + 9 * 3] = 1;
+    lent.0[13 + 9 * 3] = 1;
     assert_eq!(entries::holds(&lent.0), 1);
-    for length in [681, 712, 714] {
+    for length in [681, 716, 718] {
         assert_eq!(entries::holds(&vec![0; length]), 1);
     }
-    assert_eq!(entries::holds(&[0; 713]), 0);
+    assert_eq!(entries::holds(&[0; 717]), 0);
 }
 
 /// The second word of a credential that is not provisioned is taken as zero, as its grant word is.
@@ -394,7 +394,7 @@ fn ones_own_needs_no_class() {
         assert_eq!(lent.list(by(1, 0), 1, 106), 0);
         assert_eq!(lent.list(ELEVATED, 1, 106), 0);
         assert_eq!(lent.kill(by(1, 1), s()), 0);
-        assert_eq!(entries::end(&mut lent.0, 0, 1, 2, 1, 0), 0);
+        assert_eq!(entries::end(&mut lent.0, 0, 0, 1, 2, 1, 0), 0);
     }
 }
 
@@ -423,9 +423,12 @@ fn an_elevated_claim_has_the_elevations_words() {
 /// Document 01's steps 1 to 11, with the numbers that document 02 corrects.
 fn document_01s_steps(seconds: [u32; 2]) -> Lent {
     let mut lent = Lent::fresh(&[(15, seconds[0]), (16, seconds[1])]);
-    assert_eq!([4, 0, 0].map(|n| entries::open(&mut lent.0, n)), [1, 0, 2]);
+    assert_eq!(
+        [4, 0, 0].map(|n| entries::open(&mut lent.0, 0, n)),
+        [1, 0, 2]
+    );
     assert_eq!(lent.start(0, p()), 3);
-    let versions = [0x20, 0x10, 0x10].map(|version| entries::select(&mut lent.0, 0, version));
+    let versions = [0x20, 0x10, 0x10].map(|version| entries::select(&mut lent.0, 0, 0, version));
     assert_eq!(versions, [4, 0, 0]);
     assert_eq!(lent.start(2, p()), 5);
     assert_eq!(lent.start(0, p()), 0);
@@ -446,9 +449,9 @@ fn document_01s_steps(seconds: [u32; 2]) -> Lent {
     assert_eq!(lent.list(by(0, 1), ALL, 54), 15);
     assert_eq!(lent.list(by(0, 2), ALL, 55), 0);
     assert_eq!(lent.save(by(0, 3)), 0);
-    assert_eq!(entries::open(&mut lent.0, 1), 0);
-    assert_eq!(entries::select(&mut lent.0, 1, 0x10), 0);
-    let continued = [q(), p()].map(|name| entries::continue_saved(&mut lent.0, 1, 0, &name.0));
+    assert_eq!(entries::open(&mut lent.0, 0, 1), 0);
+    assert_eq!(entries::select(&mut lent.0, 0, 1, 0x10), 0);
+    let continued = [q(), p()].map(|name| entries::continue_saved(&mut lent.0, 0, 1, 0, &name.0));
     assert_eq!(continued, [6, 0]);
     assert_eq!(lent.0[state::place_at(0) + state::NEXT..][..2], [4, 0]);
     lent

@@ -5,7 +5,7 @@ mod common;
 use common::*;
 use slavotuk::layout::image::*;
 use slavotuk::{
-    entries, Claim, Grants, Image, Module, Name, Phase, Refusal, Standing, Words,
+    entries, Claim, Grants, Image, Module, Name, Phase, Refusal, Session, Standing, Words,
     FULL_IMAGE_LENGTH, STATE_LENGTH, VERSION_1_0,
 };
 
@@ -150,7 +150,7 @@ fn the_state_is_only_read() {
 #[test]
 fn a_restored_module_is_what_the_image_says() {
     let module = Module::restore(&drawn()).unwrap();
-    assert!((0..4).all(|n| module.phase(session(n)) == Phase::Closed));
+    assert!(Session::all().all(|s| module.phase(s) == Phase::Closed));
     let grants: Vec<Grants> = (0..8).map(|n| module.grants(credential(n))).collect();
     let granted = [Grants::of_word(15), Grants::of_words(0x34, 0x20)];
     assert_eq!(grants[..2], granted);

@@ -1,12 +1,13 @@
 //! The header has the layout's figures.
 
 use slavotuk::layout::{image, listing, state};
-use slavotuk::{Credential, Session, NAME_LENGTH, PLACES};
+use slavotuk::{Credential, Port, Session, NAME_LENGTH, PLACES};
 use std::fs;
 use std::path::Path;
 
-const SAME: [(&str, usize); 11] = [
-    ("SESSIONS", Session::COUNT),
+const SAME: [(&str, usize); 12] = [
+    ("PORTS", Port::COUNT),
+    ("SESSIONS", Session::PER_PORT),
     ("CREDENTIALS", Credential::COUNT),
     ("PROCESSES", PLACES),
     ("STATE_SIZE", state::LENGTH),

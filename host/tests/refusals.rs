@@ -4,7 +4,7 @@ mod common;
 
 use common::*;
 use slavotuk::{
-    answered, layout, write_request, Claim, Class, Grants, Listing, Module, Name, Refusal,
+    answered, layout, write_request, Claim, Class, Grants, Listing, Module, Name, Port, Refusal,
     Standing, UserClaim, Wanted, FULL_LISTING_LENGTH,
 };
 
@@ -368,11 +368,11 @@ fn message_and_room() {
 
 #[test]
 fn values_out_of_range_are_not_made() {
-    assert_eq!(slavotuk::Session::new(4), None);
+    assert_eq!(Port::new(2), None);
     assert_eq!(slavotuk::Credential::new(8), None);
     assert_eq!(Class::new(32), None);
     for number in [256, 65536, 1 << 31, u32::MAX] {
-        assert_eq!(slavotuk::Session::try_from(number), Err(Refusal::Argument));
+        assert_eq!(Port::try_from(number), Err(Refusal::Argument));
         assert_eq!(
             slavotuk::Credential::try_from(number),
             Err(Refusal::Argument)

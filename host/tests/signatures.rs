@@ -161,38 +161,39 @@ fn all_are_told(text: &str, read: fn(&str) -> Declarations, changes: &[[&str; 3]
 
 #[test]
 fn a_changed_parameter_of_the_header_is_told() {
-    let open = "slavotuk_open(uint8_t *state, size_t state_length, uint32_t session)";
+    let open =
+        "slavotuk_open(uint8_t *state, size_t state_length, uint32_t port, uint32_t session)";
     let read_count = "slavotuk_read_count(const uint8_t *message, size_t message_length, uint16_t *SLAVOTUK_RESTRICT count)";
     let changes = [
         [
             "slavotuk_open",
             open,
-            "slavotuk_open(uint8_t *state, size_t state_length, uint32_t port, uint32_t session)",
+            &open.replace("uint32_t port", "uint32_t network, uint32_t port"),
+        ],
+        ["slavotuk_open", open, &open.replace("uint32_t port, ", "")],
+        [
+            "slavotuk_open",
+            open,
+            &open.replace("port, uint32_t session", "session, uint32_t port"),
+        ],
+        ["slavotuk_open", open, &open.replace("session", "handle")],
+        [
+            "slavotuk_open",
+            open,
+            &open.replace("uint32_t session", "uint16_t session"),
         ],
         [
             "slavotuk_open",
             open,
-            "slavotuk_open(uint8_t *state, size_t state_length)",
+            &open.replace("uint8_t *state", "const uint8_t *state"),
         ],
         [
             "slavotuk_open",
             open,
-            "slavotuk_open(uint8_t *state, size_t state_length, uint32_t handle)",
-        ],
-        [
-            "slavotuk_open",
-            open,
-            "slavotuk_open(uint8_t *state, size_t state_length, uint16_t session)",
-        ],
-        [
-            "slavotuk_open",
-            open,
-            "slavotuk_open(const uint8_t *state, size_t state_length, uint32_t session)",
-        ],
-        [
-            "slavotuk_open",
-            open,
-            "slavotuk_open(uint8_t *state, uint32_t session, size_t state_length)",
+            &open.replace(
+                "size_t state_length, uint32_t port",
+                "uint32_t port, size_t state_length",
+            ),
         ],
         ["slavotuk_open", &format!("uint32_t {open};\n"), ""],
         [
@@ -236,38 +237,35 @@ fn a_changed_parameter_of_the_header_is_told() {
 
 #[test]
 fn a_changed_parameter_of_the_sources_is_told() {
-    let open = "slavotuk_open(state: &mut [u8], session: u32) -> u32";
+    let open = "slavotuk_open(state: &mut [u8], port: u32, session: u32) -> u32";
+    let record = "slavotuk_record(\n    state: &mut [u8],\n    port: u32,\n    session: u32,\n";
     let set_word = "    target: u32,\n    word: u32,\n    second: u32,\n";
     let changes = [
         [
             "slavotuk_open",
             open,
-            "slavotuk_open(state: &mut [u8], port: u32, session: u32) -> u32",
+            &open.replace("port: u32", "network: u32, port: u32"),
         ],
+        ["slavotuk_open", open, &open.replace("port: u32, ", "")],
+        ["slavotuk_open", open, &open.replace("session", "handle")],
         [
             "slavotuk_open",
             open,
-            "slavotuk_open(state: &mut [u8]) -> u32",
+            &open.replace("session: u32", "session: u16"),
         ],
+        ["slavotuk_open", open, &open.replace("&mut [u8]", "&[u8]")],
         [
             "slavotuk_open",
             open,
-            "slavotuk_open(state: &mut [u8], handle: u32) -> u32",
+            &open.replace("state: &mut [u8], port: u32", "port: u32, state: &mut [u8]"),
         ],
         [
-            "slavotuk_open",
-            open,
-            "slavotuk_open(state: &mut [u8], session: u16) -> u32",
-        ],
-        [
-            "slavotuk_open",
-            open,
-            "slavotuk_open(state: &[u8], session: u32) -> u32",
-        ],
-        [
-            "slavotuk_open",
-            open,
-            "slavotuk_open(session: u32, state: &mut [u8]) -> u32",
+            "slavotuk_record",
+            record,
+            &record.replace(
+                "port: u32,\n    session: u32",
+                "session: u32,\n    port: u32",
+            ),
         ],
         [
             "slavotuk_read_count",

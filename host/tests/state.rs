@@ -5,7 +5,8 @@ mod common;
 use common::*;
 use slavotuk::layout::state::*;
 use slavotuk::{
-    Claim, Grants, Module, Phase, Process, Refusal, Standing, Words, STATE_LENGTH, VERSION_1_0,
+    Claim, Grants, Module, Phase, Process, Refusal, Session, Standing, Words, STATE_LENGTH,
+    VERSION_1_0,
 };
 
 /// The example of docs/STATE.md.
@@ -32,8 +33,8 @@ fn example() -> [u8; STATE_LENGTH] {
 }
 
 /// The changes that docs/STATE.md names, each of which makes the example hold no state: the offset and the new bytes.
-const DAMAGE: [(usize, &[u8]); 16] = [
-    (3, &[3]),
+const DAMAGE: [(usize, &[u8]); 18] = [
+    (7, &[3]),
     (credential_at(0) + PROVISIONED, &[2]),
     (credential_at(2) + WORD + 3, &[1]),
     (credential_at(3) + SECOND, &[1]),
@@ -44,6 +45,8 @@ const DAMAGE: [(usize, &[u8]); 16] = [
     (place_at(0) + OWNER, &[2]),
     (place_at(0) + SESSION, &[1]),
     (place_at(0) + SESSION, &[2]),
+    (place_at(0) + SESSION, &[4]),
+    (place_at(0) + SESSION, &[8]),
     (place_at(1) + SESSION, &[1]),
     (place_at(1) + NEXT, &[0, 0]),
     (place_at(2) + NEXT + 1, &[1]),
@@ -54,12 +57,9 @@ const DAMAGE: [(usize, &[u8]); 16] = [
 #[test]
 fn the_example_is_seen_as_drawn() {
     let module = Module::from_bytes(example()).unwrap();
-    let phases: Vec<Phase> = (0..4).map(|n| module.phase(session(n))).collect();
-    let closed = Phase::Closed;
-    assert_eq!(
-        phases,
-        [Phase::Version1_0, Phase::NoVersion, closed, closed]
-    );
+    let phases: Vec<Phase> = Session::all().map(|s| module.phase(s)).collect();
+    assert_eq!(phases[..2], [Phase::Version1_0, Phase::NoVersion]);
+    assert_eq!(phases[2..], [Phase::Closed; 6]);
 
     let grants: Vec<Grants> = (0..8).map(|n| module.grants(credential(n))).collect();
     assert_eq!(grants[..2], [Grants::of_word(15), Grants::of_words(16, 16)]);
@@ -116,19 +116,13 @@ fn a_saved_process_has_counted_one() {
     }
 }
 
-/// A state had so many bytes before each credential had a second word.
-const OLD_LENGTH: usize = 681;
+/// A state had so many bytes before each credential had a second word, and then before there was a second port.
+const OLD_LENGTHS: [usize; 2] = [681, 713];
 
 #[test]
 fn other_lengths_are_refused_and_left() {
-    for length in [
-        0,
-        1,
-        OLD_LENGTH,
-        STATE_LENGTH - 1,
-        STATE_LENGTH + 1,
-        2 * STATE_LENGTH,
-    ] {
+    let near = [0, 1, STATE_LENGTH - 1, STATE_LENGTH + 1, 2 * STATE_LENGTH];
+    for length in near.into_iter().chain(OLD_LENGTHS) {
         // zero bytes of a state's length hold one
         for byte in [0, 0xab] {
             let mut bytes = vec![byte; length];

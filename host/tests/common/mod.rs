@@ -2,12 +2,18 @@
 #![allow(dead_code)]
 
 use slavotuk::{
-    Class, Credential, Grants, Module, Name, Session, UserClaim, Words, NAME_LENGTH, PLACES,
+    Class, Credential, Grants, Module, Name, Port, Session, UserClaim, Words, NAME_LENGTH, PLACES,
     VERSION_1_0,
 };
 
-pub fn session(number: u8) -> Session {
-    Session::new(number).unwrap()
+/// Document 01's session with this handle: port 0's.
+pub fn session(handle: u8) -> Session {
+    session_of(0, handle)
+}
+
+/// The session of this port with this handle.
+pub fn session_of(port: u8, handle: u8) -> Session {
+    Session::new(Port::new(port).unwrap(), handle).unwrap()
 }
 
 pub fn credential(number: u8) -> Credential {
@@ -60,7 +66,7 @@ pub fn grants() -> [Grants; 8] {
     grants
 }
 
-/// Document 01's module with these sessions open, each with version 1.0.
+/// Document 01's module with these sessions of port 0 open, each with version 1.0.
 pub fn opened(sessions: &[u8]) -> Module {
     opened_of(&grants(), sessions)
 }
@@ -68,9 +74,9 @@ pub fn opened(sessions: &[u8]) -> Module {
 /// The same with other grants.
 pub fn opened_of(grants: &[Grants; 8], sessions: &[u8]) -> Module {
     let mut module = Module::fresh(grants).unwrap();
-    for &number in sessions {
-        module.open(session(number)).unwrap();
-        module.select(session(number), VERSION_1_0).unwrap();
+    for &handle in sessions {
+        module.open(session(handle)).unwrap();
+        module.select(session(handle), VERSION_1_0).unwrap();
     }
     module
 }
