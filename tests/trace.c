@@ -150,13 +150,16 @@ static uint8_t *name_in_row(uint8_t *in, unsigned row) { return in + ROWS_AT + R
 
 /* ---- states */
 
-/* What stands, in the table's order. The first is whose claim a kill carries; session 3 and credential 7 have no process. From place STRANGERS on all are others'. */
+/*
+ * What stands, in the table's order, on both ports. The first is whose claim a kill carries, and the fourth is its credential's in the
+ * same session of the other port; session 3 of either and credential 7 have no process. From place STRANGERS on all are others'.
+ */
 enum { STRANGERS = 7 };
-static const struct standing { uint8_t type, session, credential; } standing[PLACES] = {
-    {SLAVOTUK_TYPE_ACTIVE_USER, 0, 0},      {SLAVOTUK_TYPE_ACTIVE_ELEVATION, 0, 1}, {SLAVOTUK_TYPE_SAVED_USER, 0, 2},
-    {SLAVOTUK_TYPE_ACTIVE_USER, 1, 0},      {SLAVOTUK_TYPE_SAVED_USER, 1, 3},       {SLAVOTUK_TYPE_ACTIVE_ELEVATION, 1, 0},
-    {SLAVOTUK_TYPE_SAVED_USER, 2, 0},       {SLAVOTUK_TYPE_ACTIVE_USER, 2, 4},      {SLAVOTUK_TYPE_ACTIVE_USER, 0, 5},
-    {SLAVOTUK_TYPE_ACTIVE_ELEVATION, 2, 6}, {SLAVOTUK_TYPE_SAVED_USER, 0, 6},       {SLAVOTUK_TYPE_ACTIVE_USER, 1, 2},
+static const struct standing { uint8_t type, port, session, credential; } standing[PLACES] = {
+    {SLAVOTUK_TYPE_ACTIVE_USER, 0, 0, 0},      {SLAVOTUK_TYPE_ACTIVE_ELEVATION, 0, 0, 1}, {SLAVOTUK_TYPE_SAVED_USER, 0, 0, 2},
+    {SLAVOTUK_TYPE_ACTIVE_USER, 1, 0, 0},      {SLAVOTUK_TYPE_SAVED_USER, 1, 0, 3},       {SLAVOTUK_TYPE_ACTIVE_ELEVATION, 1, 0, 0},
+    {SLAVOTUK_TYPE_SAVED_USER, 1, 2, 0},       {SLAVOTUK_TYPE_ACTIVE_USER, 1, 2, 4},      {SLAVOTUK_TYPE_ACTIVE_USER, 0, 0, 5},
+    {SLAVOTUK_TYPE_ACTIVE_ELEVATION, 0, 2, 6}, {SLAVOTUK_TYPE_SAVED_USER, 0, 0, 6},       {SLAVOTUK_TYPE_ACTIVE_USER, 1, 1, 2},
 };
 
 #define MODULE state, sizeof state
@@ -172,28 +175,30 @@ static void open_sessions(uint32_t word)
     const uint32_t seconds[SLAVOTUK_CREDENTIALS] = {0};
     done("fresh", slavotuk_fresh(MODULE, provisioned, SLAVOTUK_CREDENTIALS, words, SLAVOTUK_CREDENTIALS, seconds,
                                  SLAVOTUK_CREDENTIALS));
-    for (unsigned session = 0; session < SLAVOTUK_SESSIONS; session++) {
-        done("open", slavotuk_open(MODULE, session));
-        done("select", slavotuk_select(MODULE, session, SLAVOTUK_VERSION_1_0));
+    for (unsigned port = 0; port < SLAVOTUK_PORTS; port++) {
+        for (unsigned session = 0; session < SLAVOTUK_SESSIONS; session++) {
+            done("open", slavotuk_open(MODULE, port, session));
+            done("select", slavotuk_select(MODULE, port, session, SLAVOTUK_VERSION_1_0));
+        }
     }
 }
 
 static void stand(const struct standing *process)
 {
     if (process->type == SLAVOTUK_TYPE_ACTIVE_ELEVATION) {
-        done("elevate", slavotuk_elevate(MODULE, process->session, process->credential, NAMED, 1));
+        done("elevate", slavotuk_elevate(MODULE, process->port, process->session, process->credential, NAMED, 1));
         return;
     }
-    done("start", slavotuk_start(MODULE, process->session, process->credential, NAMED));
+    done("start", slavotuk_start(MODULE, process->port, process->session, process->credential, NAMED));
     if (process->type == SLAVOTUK_TYPE_SAVED_USER) {
-        done("end", slavotuk_end(MODULE, process->session, process->credential, 0, 1, 1));
+        done("end", slavotuk_end(MODULE, process->port, process->session, process->credential, 0, 1, 1));
     }
 }
 
 /* The first so many of those that stand, or that many saved ones of credential 0. */
 static void make_state(uint8_t *made, unsigned set, unsigned count, int saved, uint32_t word)
 {
-    static const struct standing saved_one = {SLAVOTUK_TYPE_SAVED_USER, 0, 0};
+    static const struct standing saved_one = {SLAVOTUK_TYPE_SAVED_USER, 0, 0, 0};
     open_sessions(word);
     for (unsigned place = 0; place < count; place++) {
         memcpy(name, names[set][place], NAME);
@@ -225,12 +230,12 @@ static void make_pairs(void)
     }
 }
 
-/* ---- calls */
+/* ---- calls: each finds names of both ports, and a continue what was saved on the other one */
 
-static uint32_t kill_it(void) { return slavotuk_kill(MODULE, 0, SLAVOTUK_CLAIM_USER, 0, 0, 1, NAMED); }
-static uint32_t start_it(void) { return slavotuk_start(MODULE, 3, 7, NAMED); }
-static uint32_t continue_it(void) { return slavotuk_continue(MODULE, 3, 0, NAMED); }
-static uint32_t elevate_it(void) { return slavotuk_elevate(MODULE, 3, 7, NAMED, 1); }
+static uint32_t kill_it(void) { return slavotuk_kill(MODULE, 0, 0, SLAVOTUK_CLAIM_USER, 0, 0, 1, NAMED); }
+static uint32_t start_it(void) { return slavotuk_start(MODULE, 1, 3, 7, NAMED); }
+static uint32_t continue_it(void) { return slavotuk_continue(MODULE, 1, 3, 0, NAMED); }
+static uint32_t elevate_it(void) { return slavotuk_elevate(MODULE, 1, 3, 7, NAMED, 1); }
 static uint32_t holds_it(void) { return slavotuk_holds(MODULE); }
 static uint32_t restore_it(void) { return slavotuk_restore(MODULE, image, sizeof image); }
 static uint32_t restore_old_it(void) { return slavotuk_restore(MODULE, old_image, sizeof old_image); }

@@ -2,17 +2,23 @@
 
 use crate::costs;
 use crate::file::Recorded;
-use crate::input::{all, Input, MARKED, MIXED};
+use crate::input::{all, Call, Input, MARKED, MIXED};
 use crate::numbers::DONE;
 use crate::ordinary;
-use crate::states::{standing_state, Differ};
+use crate::states::{standing_state, Differ, Ports};
 use crate::structured::Module;
 use slavotuk::entries::{self, RawClaim};
 use slavotuk::layout::state::{place_at, COUNT_AT, LENGTH, NEXT, PLACES_AT};
 use slavotuk::PLACES;
 
-/// The session, the claim and the class of a call.
-type Arguments = (u32, RawClaim, u32);
+/// What a record call is handed beside the state.
+#[derive(Clone, Copy, Debug)]
+struct Arguments {
+    port: u32,
+    session: u32,
+    claim: RawClaim,
+    class: u32,
+}
 
 /// Compares everything with so many calls: the answers to all inputs that have a name, and those on states that are damaged.
 pub fn check(calls: usize) -> Result<(), String> {
@@ -23,7 +29,7 @@ pub fn check(calls: usize) -> Result<(), String> {
     // names that share the digest by which the ordinary program tells them apart
     check_state(
         "names with a byte of their own",
-        &standing_state(PLACES, Differ::Own),
+        &standing_state(PLACES, Differ::Own, Ports::Both),
     )?;
     costs::check()
 }
@@ -59,16 +65,22 @@ fn left_by_three(input: &Input) -> Result<Vec<u8>, String> {
     let mut by_ordinary = input.state.clone();
     let mut module = Module::from_bytes(&input.state);
     for (at, call) in input.calls.iter().enumerate() {
+        let &Call {
+            port,
+            session,
+            claim,
+            class,
+            number,
+        } = call;
         let numbers = [
-            entries::record(&mut by_entry, call.session, call.claim, call.class),
-            ordinary::record(&mut by_ordinary, call.session, call.claim, call.class),
-            module.record(call.session, call.claim, call.class),
+            entries::record(&mut by_entry, port, session, claim, class),
+            ordinary::record(&mut by_ordinary, port, session, claim, class),
+            module.record(port, session, claim, class),
         ];
-        if numbers != [call.number; 3] {
+        if numbers != [number; 3] {
             let [entry, ordinary, structured] = numbers;
             return Err(format!(
-                "call {at}: entry {entry}, ordinary {ordinary}, structured {structured}, planned {}: {call:?}",
-                call.number
+                "call {at}: entry {entry}, ordinary {ordinary}, structured {structured}, planned {number}: {call:?}"
             ));
         }
         if by_entry != by_ordinary {
@@ -98,48 +110,71 @@ fn check_many_faults(state: &[u8]) -> Result<(), String> {
 }
 
 /// One call by the three programs, on a slice that holds a state.
-fn check_three(state: &[u8], (session, claim, class): Arguments) -> Result<(), String> {
+fn check_three(state: &[u8], arguments: Arguments) -> Result<(), String> {
+    let Arguments {
+        port,
+        session,
+        claim,
+        class,
+    } = arguments;
     let mut by_entry = state.to_vec();
     let mut by_ordinary = state.to_vec();
     let mut module = Module::from_bytes(state);
-    let entry = entries::record(&mut by_entry, session, claim, class);
-    let ordinary = ordinary::record(&mut by_ordinary, session, claim, class);
-    let structured = module.record(session, claim, class);
+    let entry = entries::record(&mut by_entry, port, session, claim, class);
+    let ordinary = ordinary::record(&mut by_ordinary, port, session, claim, class);
+    let structured = module.record(port, session, claim, class);
     if [ordinary, structured] != [entry; 2] {
         return Err(format!(
-            "entry {entry}, ordinary {ordinary}, structured {structured}: session {session}, {claim:?}, class {class}"
+            "entry {entry}, ordinary {ordinary}, structured {structured}: {arguments:?}"
         ));
     }
     if by_ordinary != by_entry || module.to_bytes() != by_entry {
-        return Err(format!(
-            "different bytes after session {session}, {claim:?}, class {class}"
-        ));
+        return Err(format!("different bytes after {arguments:?}"));
     }
     Ok(())
 }
 
 fn many_calls() -> Vec<Arguments> {
     let mut calls = Vec::new();
-    for session in 0..=4 {
-        for kind in 0..=2 {
-            for credential in 0..=8 {
-                for number in [0, 1, u16::MAX] {
-                    for verdict in 0..=2 {
-                        for class in [3, 4, 5, 30, 31, 32] {
-                            let claim = RawClaim {
-                                kind,
-                                credential,
-                                number,
-                                verdict,
-                            };
-                            calls.push((session, claim, class));
-                        }
-                    }
-                }
+    for (port, session) in many_sessions() {
+        for claim in many_claims() {
+            for class in [3, 4, 5, 30, 31, 32] {
+                calls.push(Arguments {
+                    port,
+                    session,
+                    claim,
+                    class,
+                });
             }
         }
     }
     calls
+}
+
+/// Every session of both ports, and pairs out of range of which a careless program makes a slot: 0.4 would be that of 1.0, and 4 times the last port is 0 in 32 bits.
+fn many_sessions() -> impl Iterator<Item = (u32, u32)> {
+    [0, 1, 2, 1 << 30]
+        .into_iter()
+        .flat_map(|port| [0, 1, 2, 3, 4, 7].map(|session| (port, session)))
+}
+
+fn many_claims() -> Vec<RawClaim> {
+    let mut claims = Vec::new();
+    for kind in 0..=2 {
+        for credential in 0..=8 {
+            for number in [0, 1, u16::MAX] {
+                for verdict in 0..=2 {
+                    claims.push(RawClaim {
+                        kind,
+                        credential,
+                        number,
+                        verdict,
+                    });
+                }
+            }
+        }
+    }
+    claims
 }
 
 /// The calls on every slice that differs from a state in one byte: most hold none.
@@ -173,11 +208,21 @@ fn check_lengths(state: &[u8]) -> Result<(), String> {
     Ok(())
 }
 
-/// Two calls whose claims pass their check where one process stands or more: one that is accepted, and one that is refused by its class and spends its number
-/// too.
-const PASSING: [Arguments; 2] = [(0, RawClaim::user(0, 0), 4), (0, RawClaim::user(0, 0), 5)];
+/// Three calls whose claims pass their check where two processes stand or more: one on each port that is accepted, and one that is refused by its class and spends
+/// its number too.
+const PASSING: [Arguments; 3] = [first_record(0, 4), first_record(1, 4), first_record(0, 5)];
 
-/// What is asked of any slice: the test by itself, and the two calls.
+/// The first record of credential 0 in session 0 of a port.
+const fn first_record(port: u32, class: u32) -> Arguments {
+    Arguments {
+        port,
+        session: 0,
+        claim: RawClaim::user(0, 0),
+        class,
+    }
+}
+
+/// What is asked of any slice: the test by itself, and the three calls.
 fn check_slice(slice: &[u8]) -> Result<(), String> {
     let (entry, ordinary) = (entries::holds(slice) == DONE, ordinary::holds(slice));
     if entry != ordinary {
@@ -186,19 +231,23 @@ fn check_slice(slice: &[u8]) -> Result<(), String> {
     PASSING.iter().try_for_each(|&call| check_call(slice, call))
 }
 
-fn check_call(slice: &[u8], (session, claim, class): Arguments) -> Result<(), String> {
+fn check_call(slice: &[u8], arguments: Arguments) -> Result<(), String> {
+    let Arguments {
+        port,
+        session,
+        claim,
+        class,
+    } = arguments;
     let mut by_entry = slice.to_vec();
     let mut by_ordinary = slice.to_vec();
-    let entry = entries::record(&mut by_entry, session, claim, class);
-    let ordinary = ordinary::record(&mut by_ordinary, session, claim, class);
+    let entry = entries::record(&mut by_entry, port, session, claim, class);
+    let ordinary = ordinary::record(&mut by_ordinary, port, session, claim, class);
     if entry != ordinary {
-        return Err(format!(
-            "entry {entry}, ordinary {ordinary}: {claim:?}, class {class}"
-        ));
+        return Err(format!("entry {entry}, ordinary {ordinary}: {arguments:?}"));
     }
     if by_entry != by_ordinary {
         return Err(format!(
-            "entry and ordinary left different bytes: {claim:?}, class {class}"
+            "entry and ordinary left different bytes: {arguments:?}"
         ));
     }
     Ok(())
@@ -207,7 +256,7 @@ fn check_call(slice: &[u8], (session, claim, class): Arguments) -> Result<(), St
 #[cfg(test)]
 mod tests {
     use super::*;
-    use crate::input::{find, Call};
+    use crate::input::find;
     use crate::numbers::{NOT_GRANTED, ONLY_ELEVATED, OUT_OF_TURN};
 
     #[test]
@@ -246,8 +295,12 @@ mod tests {
     /// What both claims get of a class, by all three.
     fn numbers_of(state: &[u8], class: u32) -> [u32; 2] {
         CLAIMS.map(|claim| {
-            assert_eq!(check_three(state, (0, claim, class)), Ok(()));
-            entries::record(&mut state.to_vec(), 0, claim, class)
+            let arguments = Arguments {
+                claim,
+                ..first_record(0, class)
+            };
+            assert_eq!(check_three(state, arguments), Ok(()));
+            entries::record(&mut state.to_vec(), 0, 0, claim, class)
         })
     }
 
@@ -270,6 +323,7 @@ mod tests {
     fn a_marked_class_spends_the_number_of_a_users_claim() {
         let input = find("marked").unwrap().input(0);
         let call = |number| Call {
+            port: 0,
             session: 0,
             claim: RawClaim::user(0, 0),
             class: 6,
@@ -281,12 +335,18 @@ mod tests {
     }
 
     #[test]
-    fn the_two_calls_pass_where_one_stands() {
-        for named in MIXED.iter().filter(|named| named.standing > 0) {
-            let numbers = PASSING.map(|(session, claim, class)| {
-                entries::record(&mut named.state(), session, claim, class)
+    fn the_three_calls_pass_where_two_stand() {
+        for named in MIXED.iter().filter(|named| named.standing > 1) {
+            let numbers = PASSING.map(|arguments| {
+                let Arguments {
+                    port,
+                    session,
+                    claim,
+                    class,
+                } = arguments;
+                entries::record(&mut named.state(), port, session, claim, class)
             });
-            assert_eq!(numbers, [DONE, NOT_GRANTED], "{}", named.name);
+            assert_eq!(numbers, [DONE, DONE, NOT_GRANTED], "{}", named.name);
         }
     }
 }

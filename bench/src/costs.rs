@@ -2,7 +2,7 @@
 
 use crate::numbers::*;
 use crate::programs::nanoseconds;
-use crate::states::{make_fresh, standing_state, Differ};
+use crate::states::{make_fresh, standing_state, Differ, Ports};
 use crate::timing::median;
 use slavotuk::entries::{self, RawClaim};
 use slavotuk::{FULL_LISTING_LENGTH, NAME_LENGTH, PLACES};
@@ -37,13 +37,13 @@ pub const CASES: [Case; 9] = [
         name: "record, accepted",
         calls: 1,
         before: with_a_claim,
-        turn: |lent, number| entries::record(&mut lent.state, 0, claim(0, number), 4) == DONE,
+        turn: |lent, number| entries::record(&mut lent.state, 0, 0, claim(0, number), 4) == DONE,
     },
     Case {
         name: "record, refused at its session",
         calls: 1,
         before: Some,
-        turn: |lent, number| entries::record(&mut lent.state, 3, claim(0, number), 4) == SESSION,
+        turn: |lent, number| entries::record(&mut lent.state, 0, 3, claim(0, number), 4) == SESSION,
     },
     Case {
         name: "holds",
@@ -65,7 +65,8 @@ pub const CASES: [Case; 9] = [
         calls: 2,
         before: Some,
         turn: |lent, _| {
-            entries::open(&mut lent.state, 3) == DONE && entries::close(&mut lent.state, 3) == DONE
+            entries::open(&mut lent.state, 0, 3) == DONE
+                && entries::close(&mut lent.state, 0, 3) == DONE
         },
     },
     Case {
@@ -73,8 +74,8 @@ pub const CASES: [Case; 9] = [
         calls: 2,
         before: |standing| standing.checked_sub(1),
         turn: |lent, _| {
-            entries::start(&mut lent.state, 1, 5, &NAME) == DONE
-                && entries::kill(&mut lent.state, 1, claim(5, 0), &NAME) == DONE
+            entries::start(&mut lent.state, 0, 1, 5, &NAME) == DONE
+                && entries::kill(&mut lent.state, 0, 1, claim(5, 0), &NAME) == DONE
         },
     },
     Case {
@@ -82,7 +83,7 @@ pub const CASES: [Case; 9] = [
         calls: 1,
         before: with_a_claim,
         turn: |lent, number| {
-            entries::kill(&mut lent.state, 0, claim(0, number), &NAME) == NO_PROCESS
+            entries::kill(&mut lent.state, 0, 0, claim(0, number), &NAME) == NO_PROCESS
         },
     },
     Case {
@@ -94,6 +95,7 @@ pub const CASES: [Case; 9] = [
             let claim = claim(0, number);
             entries::list(
                 &mut lent.state,
+                0,
                 0,
                 claim,
                 0xffff,
@@ -126,7 +128,7 @@ fn claim(credential: u32, number: u16) -> RawClaim {
 impl Case {
     fn lend(&self, standing: usize) -> Option<Lent> {
         (self.before)(standing).map(|before| Lent {
-            state: standing_state(before, Differ::Last),
+            state: standing_state(before, Differ::Last, Ports::Both),
             response: [0; FULL_LISTING_LENGTH],
         })
     }

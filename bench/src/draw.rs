@@ -2,7 +2,7 @@
 
 use crate::input::Call;
 use crate::numbers::*;
-use crate::states::{users, CLOSED, UNPROVISIONED, WITHOUT_VERSION};
+use crate::states::{users, Ports, User, CLOSED, UNPROVISIONED, WITHOUT_VERSION};
 use slavotuk::entries::RawClaim;
 
 /// What the calls are drawn from.
@@ -28,9 +28,9 @@ const REFUSALS: [u32; 8] = [
 ];
 
 /// So many calls on a state with so many standing. With none standing they are those of one standing, whose process is missed.
-pub fn calls(standing: usize, calls: usize) -> Vec<Call> {
+pub fn calls(standing: usize, ports: Ports, calls: usize) -> Vec<Call> {
     let mut random = Random::new(SEED);
-    let mut planner = Planner::new(users().take(standing.max(1)).collect());
+    let mut planner = Planner::new(standing.max(1), ports);
     let planned = numbers_in_order(calls, &mut random)
         .into_iter()
         .map(|number| planner.call(number, &mut random));
@@ -71,37 +71,38 @@ fn without_process(call: Call) -> Call {
 
 /// Makes calls that get the numbers asked for, and keeps the next numbers.
 struct Planner {
-    /// Session, credential, next number.
-    active: Vec<(u32, u32, u16)>,
-    /// Session and provisioned credential without an active user process.
-    idle: Vec<(u32, u32)>,
+    ports: Ports,
+    /// Each with its next number.
+    active: Vec<(User, u16)>,
+    /// Those that could be active and are not.
+    idle: Vec<User>,
 }
 
 impl Planner {
-    fn new(active_users: Vec<(u32, u32)>) -> Planner {
-        let idle = (0..2)
-            .flat_map(|session| (0..UNPROVISIONED).map(move |credential| (session, credential)))
-            .filter(|pair| !active_users.contains(pair))
-            .collect();
-        let active = active_users
-            .into_iter()
-            .map(|(session, credential)| (session, credential, 0))
-            .collect();
-        Planner { active, idle }
+    fn new(standing: usize, ports: Ports) -> Planner {
+        let is_active = |user| users(ports).take(standing).any(|active| active == user);
+        Planner {
+            ports,
+            active: users(ports).take(standing).map(|user| (user, 0)).collect(),
+            idle: possible_users(ports)
+                .filter(|&user| !is_active(user))
+                .collect(),
+        }
     }
 
     fn call(&mut self, number: u32, random: &mut Random) -> Call {
         let place = random.below(self.active.len());
-        let (session, credential, next) = self.active[place];
+        let (user, next) = self.active[place];
         let mut call = Call {
-            session,
-            claim: RawClaim::user(credential, next),
+            port: user.port,
+            session: user.session,
+            claim: RawClaim::user(user.credential, next),
             class: 4 + 2 * random.below(14) as u32,
             number,
         };
         match number {
-            DONE => self.active[place].2 += 1,
-            ARGUMENT => spoil_argument(&mut call, random),
+            DONE => self.active[place].1 += 1,
+            ARGUMENT => self.spoil_argument(&mut call, random),
             SESSION => call.session = CLOSED,
             NO_VERSION => call.session = WITHOUT_VERSION,
             CREDENTIAL => call.claim.credential = UNPROVISIONED,
@@ -116,7 +117,7 @@ impl Planner {
             }
             NOT_GRANTED => {
                 call.class += 1;
-                self.active[place].2 += 1;
+                self.active[place].1 += 1;
             }
             other => unreachable!("no call is planned to get {other}"),
         }
@@ -129,22 +130,42 @@ impl Planner {
             call.session = 1;
             call.claim.kind = 1;
         } else {
-            let (session, credential) = self.idle[random.below(self.idle.len())];
-            call.session = session;
-            call.claim.credential = credential;
+            let user = self.idle[random.below(self.idle.len())];
+            call.port = user.port;
+            call.session = user.session;
+            call.claim.credential = user.credential;
+        }
+    }
+
+    fn spoil_argument(&self, call: &mut Call, random: &mut Random) {
+        let ways = match self.ports {
+            Ports::Both => 7,
+            Ports::Zero => 6,
+        };
+        match random.below(ways) {
+            0 => call.session = 4,
+            1 => call.claim.kind = 2,
+            2 => call.claim.credential = 8,
+            3 => call.claim.verdict = 2,
+            4 => call.class = 3,
+            5 => call.class = 32,
+            _ => call.port = 2,
         }
     }
 }
 
-fn spoil_argument(call: &mut Call, random: &mut Random) {
-    match random.below(6) {
-        0 => call.session = 4,
-        1 => call.claim.kind = 2,
-        2 => call.claim.credential = 8,
-        3 => call.claim.verdict = 2,
-        4 => call.class = 3,
-        _ => call.class = 32,
-    }
+/// Every provisioned credential in every session with a version.
+fn possible_users(ports: Ports) -> impl Iterator<Item = User> {
+    let sessions = ports
+        .all()
+        .flat_map(|port| (0..WITHOUT_VERSION).map(move |session| (port, session)));
+    sessions.flat_map(|(port, session)| {
+        (0..UNPROVISIONED).map(move |credential| User {
+            port,
+            session,
+            credential,
+        })
+    })
 }
 
 /// SplitMix64.

@@ -4,7 +4,7 @@ use crate::input::{Call, Input};
 use crate::numbers::{name_of, DONE};
 use slavotuk::entries::{self, RawClaim};
 use slavotuk::layout::state::{CREDENTIALS_AT, CREDENTIAL_LENGTH, SECOND};
-use slavotuk::{Credential, STATE_LENGTH};
+use slavotuk::{Credential, Session, STATE_LENGTH};
 use std::fmt::Write;
 use std::fs;
 use std::path::Path;
@@ -12,10 +12,10 @@ use std::str::FromStr;
 
 /// The bytes of a second word, with which a credential ends.
 const SECOND_LENGTH: usize = CREDENTIAL_LENGTH - SECOND;
-/// The hex digits of a state.
+/// The hex digits of a state, and of states of before: files from then are still read.
 const DIGITS: usize = 2 * STATE_LENGTH;
-/// Those of a state of before credentials had second words: files from then are still read.
-const OLD_DIGITS: usize = DIGITS - 2 * SECOND_LENGTH * Credential::COUNT;
+const ONE_PORT_DIGITS: usize = DIGITS - 2 * Session::PER_PORT;
+const ONE_WORD_DIGITS: usize = ONE_PORT_DIGITS - 2 * SECOND_LENGTH * Credential::COUNT;
 
 /// What a file says: an input, and the state that its calls leave.
 #[derive(Debug, PartialEq, Eq)]
@@ -55,7 +55,7 @@ fn head(input: &Input, drawn: &str) -> String {
 # Answers: {}.
 # The line `state` has the {STATE_LENGTH} bytes before the first call in hex digits, `left` those after the last; docs/STATE.md draws them.
 # Every other line is a call on what the call before it left, in decimal numbers:
-# session kind credential number verdict class answer
+# port session kind credential number verdict class answer
 ",
         input.name,
         input.calls.len(),
@@ -65,6 +65,7 @@ fn head(input: &Input, drawn: &str) -> String {
 
 fn line_of(call: &Call) -> String {
     let Call {
+        port,
         session,
         claim,
         class,
@@ -76,7 +77,7 @@ fn line_of(call: &Call) -> String {
         number,
         verdict,
     } = claim;
-    format!("{session} {kind} {credential} {number} {verdict} {class} {answer}\n")
+    format!("{port} {session} {kind} {credential} {number} {verdict} {class} {answer}\n")
 }
 
 fn hex(bytes: &[u8]) -> String {
@@ -110,10 +111,37 @@ fn parse(name: String, text: &str) -> Result<Recorded, String> {
     reader.end(name)
 }
 
+/// What the calls of a file are, which its state tells.
+#[derive(Clone, Copy)]
+enum Form {
+    /// Each names its port.
+    TwoPorts,
+    /// They are of before there was a second port.
+    OnePort,
+}
+
+impl Form {
+    /// The port of every call, where they name none.
+    fn only_port(self) -> Option<&'static str> {
+        match self {
+            Form::TwoPorts => None,
+            Form::OnePort => Some("0"),
+        }
+    }
+
+    /// How many numbers a call is, for people.
+    fn numbers_of_a_call(self) -> &'static str {
+        match self {
+            Form::TwoPorts => "eight numbers",
+            Form::OnePort => "seven numbers, its state having one port,",
+        }
+    }
+}
+
 /// What the lines so far have said.
 #[derive(Default)]
 struct Reader {
-    state: Option<Vec<u8>>,
+    state: Option<(Form, Vec<u8>)>,
     calls: Vec<Call>,
     left: Option<Vec<u8>>,
 }
@@ -126,34 +154,30 @@ impl Reader {
         if self.left.is_some() {
             return Err("text after the line `left`".to_string());
         }
-        match line.split_once(' ') {
-            Some(("state", digits)) => self.take_state(digits),
-            _ if self.state.is_none() => Err("the line `state` has to come first".to_string()),
-            Some(("left", digits)) => {
-                self.left = Some(state_of(digits)?);
-                Ok(())
-            }
-            _ => {
-                self.calls.push(call_of(line)?);
-                Ok(())
-            }
+        let begun = self.state.as_ref().map(|(form, _)| *form);
+        match (line.split_once(' '), begun) {
+            (Some(("state", digits)), _) => self.take_state(digits)?,
+            (_, None) => return Err("the line `state` has to come first".to_string()),
+            (Some(("left", digits)), _) => self.left = Some(state_of(digits)?.1),
+            (_, Some(form)) => self.calls.push(call_of(line, form)?),
         }
+        Ok(())
     }
 
     fn take_state(&mut self, digits: &str) -> Result<(), String> {
         if self.state.is_some() {
             return Err("a second line `state`".to_string());
         }
-        let state = state_of(digits)?;
+        let (form, state) = state_of(digits)?;
         if entries::holds(&state) != DONE {
             return Err("these bytes hold no state: the entry `holds` refuses them".to_string());
         }
-        self.state = Some(state);
+        self.state = Some((form, state));
         Ok(())
     }
 
     fn end(self, name: String) -> Result<Recorded, String> {
-        let state = self.state.ok_or("there is no line `state`")?;
+        let (_, state) = self.state.ok_or("there is no line `state`")?;
         if self.calls.is_empty() {
             return Err("there are no calls".to_string());
         }
@@ -166,10 +190,12 @@ impl Reader {
     }
 }
 
-fn call_of(line: &str) -> Result<Call, String> {
-    let words: Vec<&str> = line.split(' ').collect();
+fn call_of(line: &str, form: Form) -> Result<Call, String> {
+    let only_port = form.only_port().into_iter();
+    let words: Vec<&str> = only_port.chain(line.split(' ')).collect();
     match words[..] {
-        [session, kind, credential, number, verdict, class, answer] => Ok(Call {
+        [port, session, kind, credential, number, verdict, class, answer] => Ok(Call {
+            port: number_of("port", port)?,
             session: number_of("session", session)?,
             claim: RawClaim {
                 kind: number_of("kind", kind)?,
@@ -181,7 +207,8 @@ fn call_of(line: &str) -> Result<Call, String> {
             number: number_of("answer", answer)?,
         }),
         _ => Err(format!(
-            "a call is seven numbers with one space between, and not {line:?}"
+            "a call is {} with one space between, and not {line:?}",
+            form.numbers_of_a_call()
         )),
     }
 }
@@ -197,7 +224,8 @@ fn number_of<Number: FromStr>(column: &str, word: &str) -> Result<Number, String
         })
 }
 
-fn state_of(digits: &str) -> Result<Vec<u8>, String> {
+/// A state as it would be written now.
+fn state_of(digits: &str) -> Result<(Form, Vec<u8>), String> {
     let values = digits
         .chars()
         .map(|digit| digit.to_digit(16).ok_or(digit))
@@ -206,12 +234,19 @@ fn state_of(digits: &str) -> Result<Vec<u8>, String> {
     let pairs = values.chunks_exact(2);
     let bytes: Vec<u8> = pairs.map(|pair| (pair[0] << 4 | pair[1]) as u8).collect();
     match values.len() {
-        DIGITS => Ok(bytes),
-        OLD_DIGITS => Ok(with_second_words(&bytes)),
+        DIGITS => Ok((Form::TwoPorts, bytes)),
+        ONE_PORT_DIGITS => Ok((Form::OnePort, with_second_port(&bytes))),
+        ONE_WORD_DIGITS => Ok((Form::OnePort, with_second_words(&with_second_port(&bytes)))),
         other => Err(format!(
-            "a state is {DIGITS} hex digits, or {OLD_DIGITS} where it has no second words, and not {other}"
+            "a state is {DIGITS} hex digits, {ONE_PORT_DIGITS} where it has one port, {ONE_WORD_DIGITS} where it has no second words either, and not {other}"
         )),
     }
+}
+
+/// A state of before there was a second port, with one whose sessions are closed. The slots of port 0 are its sessions, so the places stay as they are.
+fn with_second_port(old: &[u8]) -> Vec<u8> {
+    let (sessions, behind) = old.split_at(Session::PER_PORT);
+    [sessions, &[0; Session::PER_PORT], behind].concat()
 }
 
 /// A state of before credentials had second words, with second words of zero.
@@ -241,7 +276,11 @@ mod tests {
 
     /// The lines without their comments: the state, sixteen calls, and what is left.
     fn lines() -> Vec<String> {
-        let text = recorded("twelve-first").text("Drawn.");
+        lines_of("twelve-first")
+    }
+
+    fn lines_of(name: &str) -> Vec<String> {
+        let text = recorded(name).text("Drawn.");
         text.lines()
             .filter(|line| !line.starts_with('#'))
             .map(str::to_string)
@@ -281,27 +320,57 @@ mod tests {
         assert_eq!(read, Ok(Recorded { input, left }));
     }
 
-    /// The line without second words: they are the last four bytes of each credential's nine.
-    fn old_line(line: &str) -> String {
-        let (word, digits) = line.split_once(' ').unwrap();
-        let (sessions, behind) = digits.split_at(2 * 4);
-        let (credentials, processes) = behind.split_at(2 * 9 * 8);
-        let credentials: String = (0..8)
-            .map(|credential| &credentials[2 * 9 * credential..][..2 * 5])
-            .collect();
-        format!("{word} {sessions}{credentials}{processes}")
+    const ON_PORT_0: &str = "port-0-first";
+
+    /// The lines of calls on port 0 as they were before there was a second one: its sessions are the second four bytes of a state, and a call begins with its port.
+    fn one_port_lines() -> Vec<String> {
+        let mut lines = lines_of(ON_PORT_0);
+        let last = lines.len() - 1;
+        for (at, line) in lines.iter_mut().enumerate() {
+            let (word, behind) = line.split_once(' ').unwrap();
+            *line = if at == 0 || at == last {
+                format!("{word} {}{}", &behind[..2 * 4], &behind[2 * 8..])
+            } else {
+                behind.to_string()
+            };
+        }
+        lines
+    }
+
+    /// The same without second words: they are the last four bytes of each credential's nine.
+    fn one_word_lines() -> Vec<String> {
+        let mut lines = one_port_lines();
+        let last = lines.len() - 1;
+        for at in [0, last] {
+            let (word, digits) = lines[at].split_once(' ').unwrap();
+            let (sessions, behind) = digits.split_at(2 * 4);
+            let (credentials, processes) = behind.split_at(2 * 9 * 8);
+            let credentials: String = (0..8)
+                .map(|credential| &credentials[2 * 9 * credential..][..2 * 5])
+                .collect();
+            lines[at] = format!("{word} {sessions}{credentials}{processes}");
+        }
+        lines
     }
 
     #[test]
-    fn a_file_of_before_second_words_is_read() {
-        let mut lines = lines();
-        let last = lines.len() - 1;
-        for at in [0, last] {
-            lines[at] = old_line(&lines[at]);
+    fn a_file_of_before_is_read() {
+        for lines in [one_port_lines(), one_word_lines()] {
+            let read = parse(ON_PORT_0.to_string(), &lines.join("\n"));
+            assert_eq!(read, Ok(recorded(ON_PORT_0)));
         }
-        let name = "twelve-first";
-        let read = parse(name.to_string(), &lines.join("\n"));
-        assert_eq!(read, Ok(recorded(name)));
+    }
+
+    #[test]
+    fn a_call_names_its_port_where_the_state_has_two() {
+        let mut one_port = one_port_lines();
+        let without_port = std::mem::replace(&mut one_port[1], lines()[1].clone());
+        let told = format!("line 2: a call is seven numbers, its state having one port, with one space between, and not {:?}", one_port[1]);
+        assert_eq!(fault(&one_port), told);
+        let told = format!(
+            "line 2: a call is eight numbers with one space between, and not {without_port:?}"
+        );
+        assert_eq!(fault_with(1, &without_port), told);
     }
 
     #[test]
@@ -310,17 +379,37 @@ mod tests {
         assert!(told.starts_with("/nowhere/calls.txt: "), "{told}");
     }
 
-    /// FNV-1a of the lines of the order's calls: the same for both kinds of names.
-    #[test]
-    fn the_orders_calls_are_those_that_were_published() {
-        for name in ["twelve-first", "twelve-last"] {
+    /// FNV-1a of these lines of the order's calls: the same for both kinds of names.
+    fn digest_of_calls(names: [&str; 2], line_of: fn(&Call) -> String) -> u64 {
+        let digests = names.map(|name| {
             let calls = find(name).unwrap().input(ORDERED_CALLS).calls;
             let text: String = calls.iter().map(line_of).collect();
-            let digest = text.bytes().fold(0xcbf2_9ce4_8422_2325, |digest, byte| {
+            text.bytes().fold(0xcbf2_9ce4_8422_2325, |digest, byte| {
                 (digest ^ u64::from(byte)).wrapping_mul(0x0100_0000_01b3)
-            });
-            assert_eq!(digest, 0x76cf_8cfc_00d0_c3ec, "{name}");
-        }
+            })
+        });
+        assert_eq!(digests[0], digests[1], "{names:?}");
+        digests[0]
+    }
+
+    /// Published anew with order 10: processes stand over both ports, a call names its port, and one of a port of 2 is among those that get 1.
+    #[test]
+    fn the_orders_calls_are_those_that_were_published() {
+        let digest = digest_of_calls(["twelve-first", "twelve-last"], line_of);
+        assert_eq!(digest, 0xb0e2_5d76_86be_3e65);
+    }
+
+    /// Those that had been published before there was a second port, so that what it costs is told on the same calls.
+    #[test]
+    fn the_calls_on_port_0_are_those_of_before() {
+        let without_port = |call: &Call| {
+            let line = line_of(call);
+            line.strip_prefix("0 ")
+                .expect("it is on port 0")
+                .to_string()
+        };
+        let digest = digest_of_calls(["port-0-first", "port-0-last"], without_port);
+        assert_eq!(digest, 0x76cf_8cfc_00d0_c3ec);
     }
 
     #[test]
@@ -370,7 +459,7 @@ mod tests {
             let told = format!("line {}: 'g' is no hex digit", at + 1);
             assert_eq!(fault_with(at, &line), told);
             let line = &lines[at][..lines[at].len() - 1];
-            let told = format!("line {}: a state is 1426 hex digits, or 1362 where it has no second words, and not 1425", at + 1);
+            let told = format!("line {}: a state is 1434 hex digits, 1426 where it has one port, 1362 where it has no second words either, and not 1433", at + 1);
             assert_eq!(fault_with(at, line), told);
         }
     }
@@ -380,12 +469,12 @@ mod tests {
         for line in [
             "",
             "1 2 3",
-            "0 0 0 0 1 4 0 0",
-            "0  0 0 0 1 4 0",
-            " 0 0 0 0 1 4 0",
+            "0 0 0 0 0 1 4 0 0",
+            "0  0 0 0 0 1 4 0",
+            " 0 0 0 0 0 1 4 0",
         ] {
             let told =
-                format!("line 2: a call is seven numbers with one space between, and not {line:?}");
+                format!("line 2: a call is eight numbers with one space between, and not {line:?}");
             assert_eq!(fault_with(1, line), told);
         }
     }
@@ -393,6 +482,7 @@ mod tests {
     #[test]
     fn a_number_over_its_width_is_told() {
         let columns = [
+            "port",
             "session",
             "kind",
             "credential",
@@ -407,7 +497,7 @@ mod tests {
                 _ => (32, "4294967296"),
             };
             for word in [over, "-1", "+1", "x", "0x1", "1\r"] {
-                let mut words = ["0"; 7];
+                let mut words = ["0"; 8];
                 words[at] = word;
                 let told = format!("line 2: {column} is a decimal number of at most {width} bits, and not {word:?}");
                 assert_eq!(fault_with(1, &words.join(" ")), told);

@@ -3,7 +3,7 @@
 use crate::draw;
 use crate::marked;
 use crate::numbers::{DONE, VERDICT};
-use crate::states::{marked_state, standing_state, users, Differ};
+use crate::states::{marked_state, standing_state, users, Differ, Ports, User};
 use slavotuk::entries::RawClaim;
 use std::collections::BTreeMap;
 
@@ -16,6 +16,7 @@ const GRANTED: u32 = 4;
 /// One record call, and the number it has to get.
 #[derive(Clone, Copy, Debug, PartialEq, Eq)]
 pub struct Call {
+    pub port: u32,
     pub session: u32,
     pub claim: RawClaim,
     pub class: u32,
@@ -46,6 +47,7 @@ pub struct Named {
     pub name: &'static str,
     pub standing: usize,
     differ: Differ,
+    ports: Ports,
     pub row: Row,
 }
 
@@ -67,7 +69,16 @@ const fn named(name: &'static str, standing: usize, differ: Differ, row: Row) ->
         name,
         standing,
         differ,
+        ports: Ports::Both,
         row,
+    }
+}
+
+/// Mixed calls, all on port 0.
+const fn on_port_0(name: &'static str, standing: usize, differ: Differ) -> Named {
+    Named {
+        ports: Ports::Zero,
+        ..named(name, standing, differ, Row::Mixed)
     }
 }
 
@@ -81,6 +92,13 @@ pub static MIXED: [Named; 8] = [
     named("four-last", 4, Differ::Last, Row::Mixed),
     named("one", 1, Differ::First, Row::Mixed),
     named("none", 0, Differ::First, Row::Mixed),
+];
+
+/// The inputs of before there was a second port, so that what it costs can be told: the same calls on the same processes.
+pub static PORT_0: [Named; 3] = [
+    on_port_0("port-0-first", 12, Differ::First),
+    on_port_0("port-0-last", 12, Differ::Last),
+    on_port_0("port-0-one", 1, Differ::First),
 ];
 
 pub static SERIES: [Named; 2] = [
@@ -97,7 +115,12 @@ pub static MARKED: [Named; 1] = [named("marked", 12, Differ::Last, Row::Marked)]
 
 /// Every input that has a name.
 pub fn all() -> impl Iterator<Item = &'static Named> {
-    MIXED.iter().chain(&SERIES).chain(&REFUSED).chain(&MARKED)
+    MIXED
+        .iter()
+        .chain(&PORT_0)
+        .chain(&SERIES)
+        .chain(&REFUSED)
+        .chain(&MARKED)
 }
 
 /// The input of that name.
@@ -108,10 +131,11 @@ pub fn find(name: &str) -> Option<&'static Named> {
 impl Named {
     /// The state before its first call.
     pub fn state(&self) -> Vec<u8> {
-        match self.row {
-            Row::Mixed | Row::Series | Row::Refused => standing_state(self.standing, self.differ),
-            Row::Marked => marked_state(self.standing, self.differ),
-        }
+        let state_of = match self.row {
+            Row::Mixed | Row::Series | Row::Refused => standing_state,
+            Row::Marked => marked_state,
+        };
+        state_of(self.standing, self.differ, self.ports)
     }
 
     /// The input with so many calls: a tenth of them for each process of a series.
@@ -120,46 +144,44 @@ impl Named {
             name: self.name.to_string(),
             state: self.state(),
             calls: match self.row {
-                Row::Mixed => draw::calls(self.standing, calls),
-                Row::Series => series(calls / users().count(), accepted),
-                Row::Refused => series(calls / users().count(), refused),
-                Row::Marked => marked::calls(calls),
+                Row::Mixed => draw::calls(self.standing, self.ports, calls),
+                Row::Series => series(users(self.ports).collect(), calls, accepted),
+                Row::Refused => series(users(self.ports).collect(), calls, refused),
+                Row::Marked => marked::calls(users(self.ports), calls),
             },
         }
     }
 }
 
-/// So many records of each active user process, one process after another.
-fn series(records: usize, record: fn(u32, u32, u16) -> Call) -> Vec<Call> {
-    let numbers = 0..records as u16;
-    users()
-        .flat_map(|(session, credential)| {
-            numbers
-                .clone()
-                .map(move |number| record(session, credential, number))
-        })
+/// As many records of each of these as of the others, one process after another.
+fn series(users: Vec<User>, calls: usize, record: fn(User, u16) -> Call) -> Vec<Call> {
+    let numbers = 0..(calls / users.len()) as u16;
+    users
+        .into_iter()
+        .flat_map(|user| numbers.clone().map(move |number| record(user, number)))
         .collect()
 }
 
-fn accepted(session: u32, credential: u32, number: u16) -> Call {
+fn accepted(user: User, number: u16) -> Call {
     Call {
-        session,
-        claim: RawClaim::user(credential, number),
+        port: user.port,
+        session: user.session,
+        claim: RawClaim::user(user.credential, number),
         class: GRANTED,
         number: DONE,
     }
 }
 
 /// Nothing is spent, so every call's turn is that of number 0.
-fn refused(session: u32, credential: u32, _: u16) -> Call {
+fn refused(user: User, _: u16) -> Call {
+    let of_first_number = accepted(user, 0);
     Call {
-        session,
         claim: RawClaim {
             verdict: 0,
-            ..RawClaim::user(credential, 0)
+            ..of_first_number.claim
         },
-        class: GRANTED,
         number: VERDICT,
+        ..of_first_number
     }
 }
 

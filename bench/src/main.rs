@@ -25,7 +25,7 @@ use bound::Ratios;
 use counts::Counter;
 use figures::Bench;
 use file::Recorded;
-use input::{Named, Row, MARKED, MIXED, ORDERED_CALLS, SERIES};
+use input::{Named, Row, MARKED, MIXED, ORDERED_CALLS, PORT_0, SERIES};
 use options::Command;
 use source::{Source, Subject};
 use std::path::{Path, PathBuf};
@@ -83,6 +83,7 @@ fn everything(rounds: usize, calls: usize) -> Result<bool, String> {
     agree(calls)?;
     println!();
     let ratios = records("Records", &MIXED, rounds, calls, &counter)?;
+    records("All on port 0", &PORT_0, rounds, calls, &counter)?;
     records("Series", &SERIES, rounds, calls, &counter)?;
     records("Marked classes", &MARKED, rounds, calls, &counter)?;
     let parts = parts::Subjects::new(calls);
@@ -174,6 +175,8 @@ fn agree(calls: usize) -> Result<(), String> {
 
 fn emulate(counter: &Counter, calls: usize, bound: f64) -> Result<bool, String> {
     let counts = report::print_counts("Records", &subjects(&MIXED, calls), counter)?;
+    println!();
+    report::print_counts("All on port 0", &subjects(&PORT_0, calls), counter)?;
     println!();
     report::print_counts("Series", &subjects(&SERIES, calls), counter)?;
     println!();

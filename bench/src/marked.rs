@@ -3,7 +3,7 @@
 use crate::draw::{Random, SEED};
 use crate::input::Call;
 use crate::numbers::*;
-use crate::states::users;
+use crate::states::User;
 use slavotuk::entries::RawClaim;
 
 /// What a call is planned to be: who makes it, and what it gets.
@@ -22,12 +22,12 @@ const PLANS: [Plan; 4] = [
     Plan::OnlyElevated,
 ];
 
-/// So many calls on a state with marked classes and twelve standing.
-pub fn calls(calls: usize) -> Vec<Call> {
+/// So many calls on a state with marked classes and twelve standing, the user processes among them.
+pub fn calls(users: impl Iterator<Item = User>, calls: usize) -> Vec<Call> {
     let mut random = Random::new(SEED);
     let mut plans: Vec<Plan> = PLANS.into_iter().cycle().take(calls).collect();
     random.shuffle(&mut plans);
-    let mut turns: Vec<Turn> = users().map(Turn::first).collect();
+    let mut turns: Vec<Turn> = users.map(|user| Turn { user, next: 0 }).collect();
     plans
         .into_iter()
         .map(|plan| call(plan, &mut turns, &mut random))
@@ -46,9 +46,10 @@ fn call(plan: Plan, turns: &mut [Turn], random: &mut Random) -> Call {
     }
 }
 
-/// By the elevation of session 0, of a class that is granted, marked or not.
+/// By the elevation of session 0 of port 0, of a class that is granted, marked or not.
 fn elevated(class: u32) -> Call {
     Call {
+        port: 0,
         session: 0,
         claim: RawClaim::ELEVATED,
         class,
@@ -58,26 +59,18 @@ fn elevated(class: u32) -> Call {
 
 /// An active user process, and its next number.
 struct Turn {
-    session: u32,
-    credential: u32,
+    user: User,
     next: u16,
 }
 
 impl Turn {
-    fn first((session, credential): (u32, u32)) -> Turn {
-        Turn {
-            session,
-            credential,
-            next: 0,
-        }
-    }
-
     /// Its next call, which spends its number whatever it gets.
     fn take(&mut self, class: u32, number: u32) -> Call {
-        let claim = RawClaim::user(self.credential, self.next);
+        let claim = RawClaim::user(self.user.credential, self.next);
         self.next += 1;
         Call {
-            session: self.session,
+            port: self.user.port,
+            session: self.user.session,
             claim,
             class,
             number,

@@ -33,7 +33,8 @@ run          makes the calls once and checks nothing: for a profiler or a counte
 --bound R    what entry/ordinary may be at most with twelve standing (1.5)
 --help       this text
 
-NAME: twelve-first, twelve-last, eight-first, eight-last, four-first, four-last, one, none: so many stand, and names differ in that byte;
+NAME: twelve-first, twelve-last, eight-first, eight-last, four-first, four-last, one, none: so many stand, over both ports, and names
+differ in that byte; port-0-first, port-0-last, port-0-one: twelve or one, all on port 0, with the calls of before there was another;
 series-first, series-last: accepted records of one process after another; refused-first, refused-last: the same, refused at their claim;
 marked: every second class that is granted is so only under elevation.
 

@@ -18,12 +18,13 @@ type Process = [u8; PLACE_LENGTH];
 
 /// The record call on a lent state.
 #[inline(never)]
-pub fn record(state: &mut [u8], session: u32, claim: RawClaim, class: u32) -> u32 {
-    if !are_arguments(session, claim, class) {
+pub fn record(state: &mut [u8], port: u32, session: u32, claim: RawClaim, class: u32) -> u32 {
+    if !are_arguments(port, session, claim, class) {
         return ARGUMENT;
     }
+    let slot = (4 * port + session) as u8;
     match <&mut State>::try_from(state) {
-        Ok(state) if holds_state(state) => match accept(state, session as u8, claim, class) {
+        Ok(state) if holds_state(state) => match accept(state, slot, claim, class) {
             Ok(()) => DONE,
             Err(number) => number,
         },
@@ -37,13 +38,13 @@ pub fn holds(state: &[u8]) -> bool {
     <&State>::try_from(state).is_ok_and(holds_state)
 }
 
-fn are_arguments(session: u32, claim: RawClaim, class: u32) -> bool {
+fn are_arguments(port: u32, session: u32, claim: RawClaim, class: u32) -> bool {
     let is_claim = match claim.kind {
         0 => claim.credential <= 7 && claim.verdict <= 1,
         1 => true,
         _ => false,
     };
-    session <= 3 && is_claim && (4..=31).contains(&class)
+    port <= 1 && session <= 3 && is_claim && (4..=31).contains(&class)
 }
 
 // ---- whether a slice holds a state
@@ -90,65 +91,66 @@ fn fixed<const N: usize>(bytes: &[u8]) -> &[u8; N] {
     bytes.try_into().expect("a part of that length")
 }
 
-/// What a process may take: a bit for each session and credential, and for each session's elevation. A bit that was taken is gone.
+/// What a process may take, in a byte for each slot: a bit for each credential's user process, and the lowest bit for the elevation. A bit that was taken is gone.
 struct Seats {
-    provisioned: u32,
-    users: u32,
-    elevations: u32,
+    provisioned: u64,
+    users: u64,
+    elevations: u64,
 }
 
 impl Seats {
     /// Those of a state, where its sessions and credentials are in order.
     fn of(state: &State) -> Option<Seats> {
-        let mut seats = Seats {
-            provisioned: 0,
-            users: 0,
-            elevations: 0,
-        };
+        let elevations = slots_with_version(u64::from_le_bytes(*fixed(&state[..CREDENTIALS_AT])))?;
+        let mut provisioned = 0;
         let credentials = state[CREDENTIALS_AT..COUNT_AT].chunks_exact(CREDENTIAL_LENGTH);
         for (credential, bytes) in credentials.enumerate() {
             // a match of all nine bytes asks each flag twice
             let [flag, words @ ..] = *fixed::<CREDENTIAL_LENGTH>(bytes);
             if flag == 1 {
-                seats.provisioned |= 1 << credential;
+                provisioned |= 1 << credential;
             } else if u64::from(flag) | u64::from_le_bytes(words) != 0 {
                 return None;
             }
         }
-        for (session, phase) in state[..CREDENTIALS_AT].iter().enumerate() {
-            match phase {
-                0 | 1 => {}
-                2 => {
-                    seats.users |= seats.provisioned << (8 * session);
-                    seats.elevations |= 1 << session;
-                }
-                _ => return None,
-            }
-        }
-        Some(seats)
+        Some(Seats {
+            provisioned,
+            // the eight bits of the credentials, once for each slot
+            users: elevations * provisioned,
+            elevations,
+        })
     }
 
     /// Whether a process is in order by itself and its seat was free.
     fn take(&mut self, process: &Process) -> bool {
-        let (credential, session) = (process[OWNER], process[SESSION_AT]);
-        if credential > 7 || session > 3 {
+        let (credential, slot) = (process[OWNER], process[SESSION_AT]);
+        if credential > 7 || slot > 7 {
             return false;
         }
         if process[TYPE] == USER {
-            return take_bit(&mut self.users, session * 8 + credential);
+            return take_bit(&mut self.users, 8 * slot + credential);
         }
         if self.provisioned >> credential & 1 == 0 {
             return false;
         }
         match process[TYPE] {
-            ELEVATION => next_number(process) == 0 && take_bit(&mut self.elevations, session),
-            SAVED => session == 0 && next_number(process) != 0,
+            ELEVATION => next_number(process) == 0 && take_bit(&mut self.elevations, 8 * slot),
+            SAVED => slot == 0 && next_number(process) != 0,
             _ => false,
         }
     }
 }
 
-fn take_bit(bits: &mut u32, at: u8) -> bool {
+/// Of the phases of all slots, a byte each: the lowest bit of each that is 2, where none is over 2.
+fn slots_with_version(phases: u64) -> Option<u64> {
+    const EVERY_LOWEST: u64 = 0x0101_0101_0101_0101;
+    let with_version = phases >> 1 & EVERY_LOWEST;
+    // a byte over 2 has a bit above the two lowest, or both of these
+    let wrong = !(3 * EVERY_LOWEST) | with_version;
+    (phases & wrong == 0).then_some(with_version)
+}
+
+fn take_bit(bits: &mut u64, at: u8) -> bool {
     let bit = 1 << at;
     let is_there = *bits & bit != 0;
     *bits &= !bit;
@@ -196,17 +198,17 @@ fn are_pairs_apart(standing: &[u8]) -> bool {
 
 // ---- the checks of a record whose arguments are in order, on a slice that holds a state
 
-fn accept(state: &mut State, session: u8, claim: RawClaim, class: u32) -> Result<(), u32> {
-    match state[usize::from(session)] {
+fn accept(state: &mut State, slot: u8, claim: RawClaim, class: u32) -> Result<(), u32> {
+    match state[usize::from(slot)] {
         0 => return Err(SESSION),
         1 => return Err(NO_VERSION),
         _ => {}
     }
     let is_elevated = claim.kind == 1;
     let credential = if is_elevated {
-        elevated_credential(state, session)?
+        elevated_credential(state, slot)?
     } else {
-        count_claim(state, session, claim)?
+        count_claim(state, slot, claim)?
     };
     let at = credential_at(credential);
     if !is_set(state, at + WORD, class) {
@@ -223,20 +225,20 @@ fn is_set(state: &State, at: usize, class: u32) -> bool {
     u32::from_le_bytes(*fixed(&state[at..][..4])) >> class & 1 == 1
 }
 
-fn elevated_credential(state: &State, session: u8) -> Result<u8, u32> {
+fn elevated_credential(state: &State, slot: u8) -> Result<u8, u32> {
     processes(standing(state))
-        .find(|process| process[TYPE] == ELEVATION && process[SESSION_AT] == session)
+        .find(|process| process[TYPE] == ELEVATION && process[SESSION_AT] == slot)
         .map(|process| process[OWNER])
         .ok_or(NO_PROCESS)
 }
 
 /// Checks a user's claim and counts it, and answers its credential.
-fn count_claim(state: &mut State, session: u8, claim: RawClaim) -> Result<u8, u32> {
+fn count_claim(state: &mut State, slot: u8, claim: RawClaim) -> Result<u8, u32> {
     let credential = claim.credential as u8;
     if state[credential_at(credential)] == 0 {
         return Err(CREDENTIAL);
     }
-    let wanted = [credential, USER, session];
+    let wanted = [credential, USER, slot];
     let place = processes(standing(state))
         .position(|process| process[..wanted.len()] == wanted)
         .ok_or(NO_PROCESS)?;
@@ -271,11 +273,11 @@ fn next_number(process: &Process) -> u16 {
 #[cfg(test)]
 mod tests {
     use super::*;
-    use crate::states::{standing_state, Differ, UNPROVISIONED};
+    use crate::states::{standing_state, Differ, Ports, UNPROVISIONED};
 
     #[test]
     fn both_words_of_a_credential_that_is_not_provisioned_are_zero() {
-        let state = standing_state(PLACES, Differ::First);
+        let state = standing_state(PLACES, Differ::First, Ports::Both);
         assert!(holds(&state));
         let at = credential_at(UNPROVISIONED as u8);
         for byte in at + WORD..at + CREDENTIAL_LENGTH {
@@ -293,7 +295,7 @@ mod tests {
             (Differ::Last, false),
             (Differ::Own, true),
         ] {
-            let state = standing_state(PLACES, differ);
+            let state = standing_state(PLACES, differ, Ports::Both);
             let digests: Vec<u32> = processes(&state[PLACES_AT..])
                 .map(|process| digest_of(fixed(&process[NAME..])))
                 .collect();

@@ -65,13 +65,13 @@ impl Program {
         let mut module = black_box(Module::from_bytes(&state));
         match self {
             Program::Entry => nanoseconds(calls, |call| {
-                entries::record(&mut state, call.session, call.claim, call.class)
+                entries::record(&mut state, call.port, call.session, call.claim, call.class)
             }),
             Program::Ordinary => nanoseconds(calls, |call| {
-                ordinary::record(&mut state, call.session, call.claim, call.class)
+                ordinary::record(&mut state, call.port, call.session, call.claim, call.class)
             }),
             Program::Structured => nanoseconds(calls, |call| {
-                module.record(call.session, call.claim, call.class)
+                module.record(call.port, call.session, call.claim, call.class)
             }),
             Program::Nothing => nanoseconds(calls, black_box(nothing as fn(&Call) -> u32)),
             Program::Holds => nanoseconds(calls, |_| entries::holds(black_box(&state))),

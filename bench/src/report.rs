@@ -26,13 +26,14 @@ pub fn print_input(calls: usize) {
         println!("| {number} | {} | {count} |", name_of(number));
     }
     println!();
-    println!("Sessions 0 and 1 are open with version 1.0, session 2 without one, session 3 is closed. Credentials 0 to 6 are provisioned with the word {WORD:#x}, classes 0, 2, 4 .. 30; credential 7 is not, and its word is 0. Second words are 0, so that no class is marked.");
-    println!("Twelve standing: user processes of credentials 0 to 5 in session 0 and of 0 to 3 in session 1, an elevation of 6 in session 0, a saved process of 6. Eight, four and one standing: the first of these.");
+    println!("On both ports sessions 0 and 1 are open with version 1.0, session 2 without one, and session 3 is closed. Credentials 0 to 6 are provisioned with the word {WORD:#x}, classes 0, 2, 4 .. 30; credential 7 is not, and its word is 0. Second words are 0, so that no class is marked.");
+    println!("Twelve standing, 1.0 being session 0 of port 1: user processes of credentials 0 to 2, of each one in 0.0 and then one in 1.0; of credentials 0 and 1, of each one in 0.1 and then one in 1.1; an elevation of 6 in 0.0; a saved process of 6. Eight, four and one standing: the first of these. Calls are on the port of their process.");
     println!("Names: 48 bytes of {NAME_BYTE:#x}, but that the first byte (twelve-first, eight-first, four-first) or the last (twelve-last, eight-last, four-last) is the place, 0 to 11.");
-    println!("Accepted: user claims in turn, each of a process and a class that are drawn. Number 1: one of a session of 4, a kind of 2, a credential of 8, a verdict of 2, a class of 3, a class of 32, drawn evenly.");
-    println!("Number 6: an elevated claim in session 1 or a user claim without a process, drawn evenly. Number 9: one too high or one too low, drawn evenly.");
+    println!("Accepted: user claims in turn, each of a process and a class that are drawn. Number 1: one of a session of 4, a kind of 2, a credential of 8, a verdict of 2, a class of 3, a class of 32, a port of 2, drawn evenly.");
+    println!("Number 6: an elevated claim in session 1 or a user claim without a process on either port, drawn evenly. Number 9: one too high or one too low, drawn evenly.");
     println!("Number 10: user claims in turn, of a class that is not granted; they spend their numbers as the accepted ones do.");
     println!("None standing: the calls of one standing. No claim can pass there, and what would be accepted, or get 8, 9 or 10, gets 6.");
+    println!("All on port 0 (port-0-first, port-0-last, port-0-one): the calls of before there was a second port. Every session of port 1 is closed; twelve standing are user processes of credentials 0 to 5 in session 0 and of 0 to 3 in session 1, an elevation of 6 in session 0, a saved process of 6; number 1 is never for a port.");
     println!("Series: twelve standing, {} records of each active user process, one process after another, each in turn with its number and of class 4: all are accepted.", calls / 10);
     println!("Refused: the calls of a series with verdict 0 and number 0: each gets 8 at the last test of its claim, and nothing is written.");
     println!("Marked: twelve standing, names that differ in the last byte, and the second word {MARKS:#x}, classes 6, 7, 10, 11 .. 30, 31. A quarter each are accepted by a user claim in turn of a class that is granted and not marked; accepted by an elevated claim, of a class that is granted, marked or not; get 10 by a user claim in turn, of a class that is not granted, marked or not; and get 18 by a user claim in turn, of a class that is granted and marked. They are drawn and shuffled as the others are.");

@@ -6,7 +6,7 @@ use slavotuk::entries::RawClaim;
 use slavotuk::layout::state::{
     self, credential_at, COUNT_AT, CREDENTIAL_LENGTH, PLACES_AT, PLACE_LENGTH,
 };
-use slavotuk::{NAME_LENGTH, STATE_LENGTH};
+use slavotuk::{Session, NAME_LENGTH, STATE_LENGTH};
 
 #[derive(Clone, Copy, PartialEq, Eq)]
 enum Phase {
@@ -33,7 +33,7 @@ enum Type {
 struct Process {
     credential: u8,
     kind: Type,
-    session: u8,
+    slot: u8,
     next: u16,
     name: [u8; NAME_LENGTH],
 }
@@ -41,7 +41,8 @@ struct Process {
 /// What document 01's module holds.
 #[derive(Clone)]
 pub struct Module {
-    sessions: [Phase; 4],
+    /// By slot: 4 * port + session.
+    sessions: [Phase; Session::COUNT],
     credentials: [Credential; 8],
     processes: Vec<Process>,
 }
@@ -51,7 +52,7 @@ impl Module {
     pub fn from_bytes(bytes: &[u8]) -> Module {
         let count = usize::from(bytes[COUNT_AT]);
         Module {
-            sessions: std::array::from_fn(|session| phase_of(bytes[session])),
+            sessions: std::array::from_fn(|slot| phase_of(bytes[slot])),
             credentials: std::array::from_fn(|credential| {
                 credential_of(&bytes[credential_at(credential)..][..CREDENTIAL_LENGTH])
             }),
@@ -74,7 +75,7 @@ impl Module {
         }
         bytes.push(self.processes.len() as u8);
         for process in &self.processes {
-            bytes.extend([process.credential, process.kind as u8, process.session]);
+            bytes.extend([process.credential, process.kind as u8, process.slot]);
             bytes.extend(process.next.to_le_bytes());
             bytes.extend(process.name);
         }
@@ -84,44 +85,45 @@ impl Module {
 
     /// The record call.
     #[inline(never)]
-    pub fn record(&mut self, session: u32, claim: RawClaim, class: u32) -> u32 {
-        match self.accept(session, claim, class) {
+    pub fn record(&mut self, port: u32, session: u32, claim: RawClaim, class: u32) -> u32 {
+        match self.accept(port, session, claim, class) {
             Ok(()) => DONE,
             Err(number) => number,
         }
     }
 
-    fn accept(&mut self, session: u32, claim: RawClaim, class: u32) -> Result<(), u32> {
+    fn accept(&mut self, port: u32, session: u32, claim: RawClaim, class: u32) -> Result<(), u32> {
         let is_claim = match claim.kind {
             0 => claim.credential <= 7 && claim.verdict <= 1,
             1 => true,
             _ => false,
         };
-        if session > 3 || !is_claim || !(4..=31).contains(&class) {
+        if port > 1 || session > 3 || !is_claim || !(4..=31).contains(&class) {
             return Err(ARGUMENT);
         }
-        match self.sessions[session as usize] {
+        let slot = (4 * port + session) as u8;
+        match self.sessions[usize::from(slot)] {
             Phase::Closed => return Err(SESSION),
             Phase::WithoutVersion => return Err(NO_VERSION),
             Phase::WithVersion => {}
         }
         if claim.kind == 1 {
-            self.accept_elevated(session as u8, class)
+            self.accept_elevated(slot, class)
         } else {
-            self.accept_user(session as u8, claim, class)
+            self.accept_user(slot, claim, class)
         }
     }
 
-    fn accept_elevated(&self, session: u8, class: u32) -> Result<(), u32> {
+    fn accept_elevated(&self, slot: u8, class: u32) -> Result<(), u32> {
         let elevation = self
             .processes
             .iter()
-            .find(|process| process.kind == Type::Elevation && process.session == session)
+            .find(|process| process.kind == Type::Elevation && process.slot == slot)
             .ok_or(NO_PROCESS)?;
         self.credentials[usize::from(elevation.credential)].check_granted(class)
     }
 
-    fn accept_user(&mut self, session: u8, claim: RawClaim, class: u32) -> Result<(), u32> {
+    fn accept_user(&mut self, slot: u8, claim: RawClaim, class: u32) -> Result<(), u32> {
         let credential = self.credentials[claim.credential as usize];
         if !credential.provisioned {
             return Err(CREDENTIAL);
@@ -131,7 +133,7 @@ impl Module {
             .iter_mut()
             .find(|process| {
                 process.kind == Type::User
-                    && process.session == session
+                    && process.slot == slot
                     && u32::from(process.credential) == claim.credential
             })
             .ok_or(NO_PROCESS)?;
@@ -196,7 +198,7 @@ fn process_of(bytes: &[u8]) -> Process {
             1 => Type::Elevation,
             _ => Type::Saved,
         },
-        session: bytes[state::SESSION],
+        slot: bytes[state::SESSION],
         next: u16::from_le_bytes([bytes[state::NEXT], bytes[state::NEXT + 1]]),
         name: std::array::from_fn(|at| bytes[state::NAME + at]),
     }

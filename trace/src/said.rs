@@ -164,8 +164,8 @@ mod tests {
             "buffer\tname\t0x2000",
             "buffer\tname\t2000\t48",
             "buffer\tname\t0x2000\tlong",
-            "buffer\tstate\t0x1000\t713\tplace\t82",
-            "buffer\tstate\t0x1000\t713\tplace\t82\t0",
+            "buffer\tstate\t0x1000\t717\tplace\t86",
+            "buffer\tstate\t0x1000\t717\tplace\t86\t0",
         ] {
             assert!(Said::read(line).is_err(), "{line}");
         }
