@@ -16,7 +16,7 @@ struct Known {
 }
 
 impl Known {
-    /// A module of credentials 0 to 6, with session 0 open and a process of credential 1 in it.
+    /// A module of credentials 0 to 6, with session 0 of port 0 open and a process of credential 1 in it.
     fn started(word: u32, second: u32) -> Result<Known, String> {
         let mut known = Known {
             pair: Pair::of(&[0; STATE_LENGTH]),
@@ -36,9 +36,14 @@ impl Known {
     }
 
     fn enter(&mut self) -> Result<(), String> {
-        let (session, version) = (0, 0x10);
-        self.expect(Call::Open { session }, 0)?;
-        self.expect(Call::Select { session, version }, 0)?;
+        let (port, session, version) = (0, 0, 0x10);
+        self.expect(Call::Open { port, session }, 0)?;
+        let select = Call::Select {
+            port,
+            session,
+            version,
+        };
+        self.expect(select, 0)?;
         Ok(())
     }
 
@@ -53,11 +58,11 @@ impl Known {
         self.expect(keep(number), 0)?;
         self.restore_the_newest()?;
         self.enter()?;
-        let (session, credential, name) = (0, 1, name_of(1));
         let taken_up = Call::Continue {
-            session,
-            credential,
-            name,
+            port: 0,
+            session: 0,
+            credential: 1,
+            name: name_of(1),
         };
         self.expect(taken_up, 0)?;
         Ok(())
@@ -84,6 +89,7 @@ const UNPROVISIONED: u32 = 7;
 /// Starts the process of a credential, which is named for it.
 fn start(credential: u8) -> Call {
     Call::Start {
+        port: 0,
         session: 0,
         credential: credential.into(),
         name: name_of(credential),
@@ -115,7 +121,8 @@ pub fn run_to_spent() -> Result<String, String> {
             let (_, call) = call(number);
             known.expect(call(number), 13)?;
         }
-        known.expect(Call::Close { session: 0 }, 0)?;
+        let (port, session) = (0, 0);
+        known.expect(Call::Close { port, session }, 0)?;
         made += known.made;
     }
     Ok(format!(

@@ -1,6 +1,7 @@
 //! Runs the compiled archive and the program of order 6 beside the model of documents 01 and 02, and tells where they differ.
 #![forbid(unsafe_code)]
 
+mod across;
 mod call;
 mod claim;
 mod damage;

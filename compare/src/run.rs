@@ -19,8 +19,8 @@ use std::time::{Duration, Instant};
 /// Calls of a sequence.
 const SEQUENCE: usize = 1_000;
 
-/// Sequences whose claims are sent again after each call. They are shorter: each call brings some hundred others.
-const REPLAYED: usize = 600;
+/// Sequences whose claims are sent again after each call, in every session of both ports. They are shorter: each call brings some hundred others.
+const REPLAYED: usize = 300;
 const REPLAYED_PLAN: Plan = Plan {
     calls: 400,
     replays: true,

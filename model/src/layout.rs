@@ -171,10 +171,11 @@ fn may_stand_together(one: &Process, other: &Process) -> bool {
     !rivals && !same_name(&one.name, &other.name)
 }
 
-/// The example of docs/STATE.md: port 0's sessions 0 and 1 open, session 0 with a version; credentials 0 and 1; three processes with the names P, Q and R.
+/// The example of docs/STATE.md: sessions 0 and 1 of port 0 and session 0 of port 1 open, both sessions 0 with a version; credentials 0 and 1; three processes with the
+/// names P, Q and R.
 pub fn example() -> Vec<u8> {
     let mut bytes = vec![0; STATE_LENGTH];
-    bytes[..8].copy_from_slice(&[2, 1, 0, 0, 0, 0, 0, 0]);
+    bytes[..8].copy_from_slice(&[2, 1, 0, 0, 2, 0, 0, 0]);
     bytes[8..17].copy_from_slice(&[1, 0x0f, 0, 0, 0, 0, 0, 0, 0]);
     bytes[17..26].copy_from_slice(&[1, 0x10, 0, 0, 0, 0x10, 0, 0, 0]);
     bytes[80] = 3;
@@ -182,7 +183,7 @@ pub fn example() -> Vec<u8> {
     bytes[102..134].fill(0x11);
     bytes[134..139].copy_from_slice(&[1, 2, 0, 0x2c, 1]);
     bytes[155..187].fill(0x22);
-    bytes[187..192].copy_from_slice(&[1, 1, 0, 0, 0]);
+    bytes[187..192].copy_from_slice(&[1, 1, 4, 0, 0]);
     bytes[208..239].fill(0x11);
     bytes[239] = 0x12;
     bytes
@@ -213,7 +214,7 @@ mod tests {
                 (
                     1,
                     Kind::ActiveElevation {
-                        session: Session::of(0, 0)
+                        session: Session::of(1, 0)
                     }
                 ),
             ]
@@ -236,10 +237,13 @@ mod tests {
             (81, 0, 2),
             (83, 0, 1),
             (83, 0, 2),
-            (83, 0, 4),
+            (83, 0, 5),
             (83, 0, 8),
             (136, 0, 1),
             (136, 0, 4),
+            (189, 4, 1),
+            (189, 4, 5),
+            (189, 4, 8),
             (191, 0, 1),
             (239, 0x12, 0x11),
             (716, 0, 1),
@@ -252,25 +256,29 @@ mod tests {
         }
     }
 
-    /// Of an active process, all sessions having a version; a saved one has none.
+    /// Of active processes, all sessions having a version; a saved one has none.
     #[test]
     fn a_slot_is_a_session_of_a_port() {
         let slots = [[0, 1, 2, 3], [4, 5, 6, 7]];
         let mut bytes = example();
         bytes[..8].fill(2);
         for slot in 0..=255 {
-            let session =
-                Session::all().find(|session| slots[session.port][session.handle] == slot);
-            for (place, kind) in [(0, 0), (1, 2), (2, 1)] {
+            let its_slot = |session: &Session| slots[session.port][session.handle] == slot;
+            let session = Session::all().find(its_slot);
+            let right = [
+                session.map(Some),
+                (slot == 0).then_some(None),
+                session.map(Some),
+            ];
+            for (place, right) in right.into_iter().enumerate() {
                 let mut changed = bytes.clone();
                 changed[PLACES_AT + PLACE_LENGTH * place + 2] = slot;
-                match (read(&changed), session) {
-                    (Some(module), Some(session)) if kind != 2 => {
-                        assert_eq!(module.processes[place].kind.session(), Some(session));
-                        assert_eq!(write(&module), changed);
-                    }
-                    (held, _) => assert_eq!(held.is_some(), slot == 0, "slot {slot} of {place}"),
-                }
+                let held = read(&changed);
+                let found = held
+                    .as_ref()
+                    .map(|module| module.processes[place].kind.session());
+                assert_eq!(found, right, "slot {slot} of place {place}");
+                assert!(held.map_or(true, |module| write(&module) == changed));
             }
         }
     }
