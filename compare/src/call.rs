@@ -1,5 +1,6 @@
 //! The calls that both sides are driven by: those of the hosts, with guards around what an entry writes to.
 
+use slavotuk_model::module::Session;
 use std::fmt;
 
 pub use slavotuk::Bytes;
@@ -70,41 +71,80 @@ impl fmt::Display for Answer {
     }
 }
 
-/// The session handle, of the entries that take one.
-pub fn session_mut(call: &mut Call) -> Option<&mut u32> {
-    match call {
-        Call::Open { session, .. }
-        | Call::Close { session, .. }
-        | Call::Drop { session, .. }
-        | Call::Select { session, .. }
-        | Call::Start { session, .. }
-        | Call::Continue { session, .. }
-        | Call::Elevate { session, .. }
-        | Call::End { session, .. }
-        | Call::Record { session, .. }
-        | Call::List { session, .. }
-        | Call::Kill { session, .. }
-        | Call::SetWord { session, .. } => Some(session),
+/// The port and the session handle, of the entries that take them.
+macro_rules! session_in {
+    ($call:expr) => {
+        match $call {
+            Call::Open { port, session, .. }
+            | Call::Close { port, session, .. }
+            | Call::Drop { port, session, .. }
+            | Call::Select { port, session, .. }
+            | Call::Start { port, session, .. }
+            | Call::Continue { port, session, .. }
+            | Call::Elevate { port, session, .. }
+            | Call::End { port, session, .. }
+            | Call::Record { port, session, .. }
+            | Call::List { port, session, .. }
+            | Call::Kill { port, session, .. }
+            | Call::SetWord { port, session, .. } => Some((port, session)),
+            _ => None,
+        }
+    };
+}
+
+/// The same, to be changed.
+pub fn session_mut(call: &mut Call) -> Option<(&mut u32, &mut u32)> {
+    session_in!(call)
+}
+
+/// The session that a call names. Where a number of it is wrong, no process is active in it.
+pub fn session_of(call: &Call) -> Option<Session> {
+    let (port, session) = session_in!(call)?;
+    Some(Session::of(*port as usize, *session as usize))
+}
+
+/// The call in this session.
+pub fn moved(mut call: Call, to: (u32, u32)) -> Call {
+    if let Some((port, session)) = session_mut(&mut call) {
+        (*port, *session) = to;
+    }
+    call
+}
+
+/// The port and the handle of a session, as they are handed in.
+pub fn numbers_of(session: Session) -> (u32, u32) {
+    (session.port as u32, session.handle as u32)
+}
+
+/// The session, the credential and the number of a user claim.
+pub fn user_claim(call: &Call) -> Option<(Session, u32, u16)> {
+    let session = session_of(call)?;
+    match *call {
+        Call::End {
+            credential, number, ..
+        } => Some((session, credential, number)),
+        Call::Record { claim, .. }
+        | Call::List { claim, .. }
+        | Call::Kill { claim, .. }
+        | Call::SetWord { claim, .. }
+            if claim.kind == 0 =>
+        {
+            Some((session, claim.credential, claim.number))
+        }
         _ => None,
     }
 }
 
-/// The session handle, the credential and the number of a user claim.
-pub fn user_claim(call: &Call) -> Option<(u32, u32, u16)> {
-    match *call {
-        Call::End {
-            session,
-            credential,
-            number,
-            ..
-        } => Some((session, credential, number)),
-        Call::Record { session, claim, .. }
-        | Call::List { session, claim, .. }
-        | Call::Kill { session, claim, .. }
-        | Call::SetWord { session, claim, .. }
-            if claim.kind == 0 =>
+/// The session of an elevated claim.
+pub fn elevated_claim(call: &Call) -> Option<Session> {
+    match call {
+        Call::Record { claim, .. }
+        | Call::List { claim, .. }
+        | Call::Kill { claim, .. }
+        | Call::SetWord { claim, .. }
+            if claim.kind == 1 =>
         {
-            Some((session, claim.credential, claim.number))
+            session_of(call)
         }
         _ => None,
     }
@@ -154,13 +194,14 @@ mod tests {
     #[test]
     fn a_call_is_printed_on_one_line() {
         let call = Call::Record {
+            port: 1,
             session: 3,
             claim: RawClaim::user(1, 2),
             class: 4,
         };
         assert_eq!(
             call.to_string(),
-            "record session 3 user credential 1 number 2 verdict 1 class 4"
+            "record port 1 session 3 user credential 1 number 2 verdict 1 class 4"
         );
     }
 

@@ -7,12 +7,13 @@ use crate::random::Random;
 use crate::report::{Report, Singles};
 use crate::sequence::{run, Plan};
 use slavotuk_model::layout::{self, STATE_LENGTH};
-use slavotuk_model::module::{Credential, Kind, CREDENTIALS, PLACES};
+use slavotuk_model::module::{Credential, Kind, Phase, Process, Session};
+use slavotuk_model::module::{CREDENTIALS, NAME_LENGTH, PLACES, PORTS, SESSIONS};
 use slavotuk_model::Module;
 
 /// How many states of twelve processes are damaged, beside the plain ones.
-const DEEP_STATES: usize = 5;
-const PLAIN_STATES: usize = 3;
+const DEEP_STATES: usize = 4;
+const PLAIN_STATES: usize = 4;
 
 /// Sequences that are drawn to reach them.
 const DRAWN: usize = 2_000;
@@ -57,6 +58,7 @@ fn states(random: &mut Random) -> Vec<(String, Vec<u8>)> {
         ("all zero".to_string(), vec![0; STATE_LENGTH]),
         ("fresh".to_string(), layout::write(&fresh)),
         ("example of docs/STATE.md".to_string(), layout::example()),
+        ("the same on both ports".to_string(), alike_on_both_ports()),
     ];
     let reached = (0..DRAWN).filter_map(|_| deep_state(random.next()));
     for (at, module) in reached.take(DEEP_STATES).enumerate() {
@@ -66,7 +68,27 @@ fn states(random: &mut Random) -> Vec<(String, Vec<u8>)> {
     states
 }
 
-/// The state that the seed's sequence ends in, if it has twelve processes of all three types, and second words.
+/// Every session has a version and a user process of one credential, and those with handle 0 an elevation: where the slot of one becomes another's, two are rivals.
+fn alike_on_both_ports() -> Vec<u8> {
+    let mut module = Module::fresh([Credential::with(0x0f0f_0f0f, 0x3333_3333); CREDENTIALS]);
+    module.sessions = [[Phase::OpenWithVersion; SESSIONS]; PORTS];
+    let mut names = (1..).map(|byte| [byte; NAME_LENGTH]);
+    let users = Session::all().zip(names.by_ref());
+    module.processes = users
+        .map(|(session, name)| Process::user(session, 5, 0x0102, name))
+        .collect();
+    let elevated = Session::all().filter(|session| session.handle == 0);
+    let elevations = elevated.zip(names.by_ref());
+    module
+        .processes
+        .extend(elevations.map(|(session, name)| Process::elevation(session, 6, name)));
+    module
+        .processes
+        .extend(names.take(1).map(|name| Process::saved(5, 0x0304, name)));
+    layout::write(&module)
+}
+
+/// The state that the seed's sequence ends in, if it has twelve processes of all three types, active ones on both ports, and second words.
 fn deep_state(seed: u64) -> Option<Module> {
     let plan = Plan {
         calls: 300,
@@ -88,7 +110,18 @@ fn is_deep(module: &Module) -> bool {
         Kind::ActiveElevation { .. } => false,
     });
     let marked = module.credentials.iter().any(|held| held.second != 0);
-    module.processes.len() == PLACES && (0..3).all(of_type) && counted && marked
+    let on_port = |port| {
+        let mut sessions = module
+            .processes
+            .iter()
+            .filter_map(|process| process.kind.session());
+        sessions.any(|session| session.port == port)
+    };
+    module.processes.len() == PLACES
+        && (0..3).all(of_type)
+        && (0..PORTS).all(on_port)
+        && counted
+        && marked
 }
 
 /// The trial of slices made from one state.

@@ -1,9 +1,10 @@
 //! How deep the sequences went.
 
-use crate::call::{Answer, Call, ENTRIES};
+use crate::across::Across;
+use crate::call::{elevated_claim, session_of, Answer, Call, ENTRIES};
 use crate::claim::{passed, refusal_after, AFTER_THE_CLAIM};
 use crate::images;
-use slavotuk_model::module::{Grant, Kind, Name, Process, PLACES, SPENT};
+use slavotuk_model::module::{Grant, Kind, Name, Process, Session, PLACES, SPENT};
 use slavotuk_model::Module;
 use std::collections::{HashMap, HashSet};
 
@@ -61,7 +62,9 @@ pub struct Depth {
     spent: [u64; 2],
     saved: u64,
     continued: u64,
+    /// Of these, those in another session than the save, and on the other port.
     continued_elsewhere: u64,
+    continued_across: u64,
     elevated: u64,
     /// Of these, the records of a class that is granted only so.
     only_elevated: u64,
@@ -76,6 +79,7 @@ pub struct Depth {
     /// Those of the processes from an image that were continued, and the claims that passed under them.
     restored_continued: u64,
     restored_claims: u64,
+    across: Across,
 }
 
 /// What has to be remembered within one sequence.
@@ -84,7 +88,7 @@ pub struct Trail {
     /// How many places were used so far.
     used: usize,
     /// The session that a saved process was saved in.
-    saved_in: HashMap<Name, u32>,
+    saved_in: HashMap<Name, Session>,
     /// The images that were written, the newest at the end.
     images: Vec<Vec<u8>>,
     /// The processes that came from an image.
@@ -98,10 +102,11 @@ impl Depth {
         self.calls += 1;
         self.answered[call.entry()][answer.number as usize] += 1;
         self.note_claim(trail, answer, states);
+        let [before, after] = states;
+        self.across.note(call, answer.number, before);
         if answer.number != 0 {
             return;
         }
-        let [before, after] = states;
         if let Call::Restore { image } = call {
             return self.note_restore(trail, image, after);
         }
@@ -112,19 +117,9 @@ impl Depth {
                 self.images += 1;
                 trail.images.push(image.as_ref()[..*length].to_vec());
             }
-            Call::End {
-                session, keep: 1, ..
-            } => self.note_save(trail, *session, before, after),
-            Call::Continue { session, name, .. } => self.note_continue(trail, *session, name),
-            Call::Record { claim, .. }
-            | Call::List { claim, .. }
-            | Call::Kill { claim, .. }
-            | Call::SetWord { claim, .. }
-                if claim.kind == 1 =>
-            {
-                self.note_elevated(call, before)
-            }
-            _ => {}
+            Call::End { keep: 1, .. } => self.note_save(trail, before, after),
+            Call::Continue { name, .. } => self.note_continue(trail, session_of(call), name),
+            _ => self.note_elevated(call, before),
         }
     }
 
@@ -144,11 +139,14 @@ impl Depth {
         trail.restored.retain(stands);
     }
 
-    fn note_save(&mut self, trail: &mut Trail, session: u32, before: &Module, after: &Module) {
+    fn note_save(&mut self, trail: &mut Trail, before: &Module, after: &Module) {
         self.saved += 1;
         let changed = before.processes.iter().zip(&after.processes);
-        for (_, saved) in changed.filter(|(one, other)| one.kind != other.kind) {
-            trail.saved_in.insert(saved.name, session);
+        for (active, saved) in changed.filter(|(one, other)| one.kind != other.kind) {
+            let session = active.kind.session();
+            trail
+                .saved_in
+                .extend(session.map(|session| (saved.name, session)));
         }
     }
 
@@ -173,11 +171,14 @@ impl Depth {
     }
 
     fn note_elevated(&mut self, call: &Call, before: &Module) {
-        self.elevated += 1;
-        let Call::Record { session, class, .. } = call else {
+        let Some(session) = elevated_claim(call) else {
             return;
         };
-        let elevation = before.find_elevation(*session as usize);
+        self.elevated += 1;
+        let Call::Record { class, .. } = call else {
+            return;
+        };
+        let elevation = before.find_elevation(session);
         let owner = elevation.map(|place| before.processes[place].credential);
         let only_so = |owner| before.lookup(owner, *class) == Grant::OnlyUnderElevation;
         self.only_elevated += u64::from(owner.is_some_and(only_so));
@@ -196,11 +197,13 @@ impl Depth {
         self.restored_claims += u64::from(trail.restored.contains(name));
     }
 
-    fn note_continue(&mut self, trail: &mut Trail, session: u32, name: &[u8]) {
+    fn note_continue(&mut self, trail: &mut Trail, session: Option<Session>, name: &[u8]) {
         self.continued += 1;
         self.restored_continued += u64::from(trail.restored.contains(name));
-        let saved_in = trail.saved_in.get(name);
-        self.continued_elsewhere += u64::from(saved_in.is_some_and(|saved| *saved != session));
+        if let (Some(session), Some(saved_in)) = (session, trail.saved_in.get(name)) {
+            self.continued_elsewhere += u64::from(*saved_in != session);
+            self.continued_across += u64::from(saved_in.port != session.port);
+        }
     }
 
     /// Adds what another run counted.
@@ -223,6 +226,7 @@ impl Depth {
         self.saved += other.saved;
         self.continued += other.continued;
         self.continued_elsewhere += other.continued_elsewhere;
+        self.continued_across += other.continued_across;
         self.elevated += other.elevated;
         self.only_elevated += other.only_elevated;
         self.images += other.images;
@@ -231,6 +235,7 @@ impl Depth {
         self.restored_rows += other.restored_rows;
         self.restored_continued += other.restored_continued;
         self.restored_claims += other.restored_claims;
+        self.across.add(&other.across);
     }
 
     /// How many images were restored.
@@ -279,7 +284,7 @@ impl Depth {
         };
         let (filled, [spent, spent_refused]) = (self.filled, self.spent);
         let (saved, continued) = (self.saved, self.continued);
-        let elsewhere = self.continued_elsewhere;
+        let (elsewhere, across) = (self.continued_elsewhere, self.continued_across);
         let [newest, older, others] = self.restored;
         let (images, rows) = (self.images, self.restored_rows);
         let (back, claims) = (self.restored_continued, self.restored_claims);
@@ -297,9 +302,9 @@ impl Depth {
             ),
             self.judge_refused(least),
             reached(
-                elsewhere,
+                elsewhere.min(across),
                 format!(
-                    "{saved} saves, {continued} continues, {elsewhere} in another session than the save"
+                    "{saved} saves, {continued} continues, {elsewhere} in another session than the save, {across} on the other port"
                 ),
             ),
             reached(
@@ -323,6 +328,7 @@ impl Depth {
                     "{rows} processes came from an image, {back} were continued, {claims} claims passed under them"
                 ),
             ),
+            self.across.judge(least),
         ]
     }
 

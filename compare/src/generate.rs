@@ -1,19 +1,21 @@
 //! Draws the calls of a sequence, with an eye on the state so that deep ones are reached.
 
-use crate::call::{Answer, Call, ENTRIES};
+use crate::call::{numbers_of, Answer, Call, ENTRIES};
 use crate::images;
 use crate::random::Random;
 use slavotuk::entries::RawClaim;
 use slavotuk::layout::image as places;
 use slavotuk::layout::listing::{row_at, FULL_LENGTH, ROWS_AT};
 use slavotuk_model::layout::{self, STATE_LENGTH};
-use slavotuk_model::module::{Credential, Grant, Kind, Name, Process, Session, Wanted};
-use slavotuk_model::module::{CREDENTIALS, NAME_LENGTH, PLACES, SESSIONS, SPENT};
+use slavotuk_model::module::{Credential, Grant, Kind, Name, Phase, Process, Session, Wanted};
+use slavotuk_model::module::{CREDENTIALS, NAME_LENGTH, PLACES, PORTS, SESSIONS, SPENT};
 use slavotuk_model::{image, messages, Module};
 
-/// Handles, credentials, classes and flags on both sides of each width.
-const BOUNDS: [u32; 12] = [
+/// Ports, handles, credentials, classes and flags on both sides of each width.
+const BOUNDS: [u32; 14] = [
     0,
+    1,
+    2,
     3,
     4,
     7,
@@ -108,23 +110,20 @@ impl Generator {
             let image = newest.clone();
             return Call::Restore { image };
         }
-        if !module.sessions.contains(&Session::OpenWithVersion) && self.random.percent(60) {
+        if !has_session(module, Phase::OpenWithVersion) && self.random.percent(60) {
             return self.entering(module);
         }
         match Call::ENTRIES[self.random.weighted(&weights(self.style))] {
             "fresh" => self.wrong_fresh(),
             "holds" => Call::Holds {},
-            "open" => {
-                let session = self.session_in(module, Session::Closed);
-                Call::Open { session }
-            }
+            "open" => self.open(module),
             "close" => {
-                let session = self.session(module);
-                Call::Close { session }
+                let (port, session) = self.session(module);
+                Call::Close { port, session }
             }
             "drop" => {
-                let session = self.elevated_session(module);
-                Call::Drop { session }
+                let (port, session) = self.elevated_session(module);
+                Call::Drop { port, session }
             }
             "select" => self.select(module),
             "start" => self.start(module),
@@ -166,7 +165,7 @@ impl Generator {
     /// A state of many processes whose next numbers are near the last one.
     fn nearly_spent(&mut self) -> Module {
         let mut module = Module {
-            sessions: [Session::OpenWithVersion; SESSIONS],
+            sessions: [[Phase::OpenWithVersion; SESSIONS]; PORTS],
             ..Module::fresh([Credential::UNPROVISIONED; CREDENTIALS])
         };
         for credential in &mut module.credentials {
@@ -187,7 +186,7 @@ impl Generator {
     }
 
     fn nearly_spent_process(&mut self, place: usize) -> Process {
-        let session = self.random.below(SESSIONS);
+        let session = self.any_session();
         let next = SPENT - self.random.pick(&[0, 0, 1, 1, 2, 3, 10, 100]);
         Process {
             credential: self.random.below(CREDENTIALS),
@@ -237,15 +236,19 @@ impl Generator {
 
     /// Towards a session with a version.
     fn entering(&mut self, module: &Module) -> Call {
-        if module.sessions.contains(&Session::OpenWithoutVersion) {
-            return self.select(module);
+        match has_session(module, Phase::OpenWithoutVersion) {
+            true => self.select(module),
+            false => self.open(module),
         }
-        let session = self.session_in(module, Session::Closed);
-        Call::Open { session }
+    }
+
+    fn open(&mut self, module: &Module) -> Call {
+        let (port, session) = self.session_in(module, Phase::Closed);
+        Call::Open { port, session }
     }
 
     fn select(&mut self, module: &Module) -> Call {
-        let session = self.session_in(module, Session::OpenWithoutVersion);
+        let (port, session) = self.session_in(module, Phase::OpenWithoutVersion);
         let version = match self.random.percent(80) {
             true => 0x10,
             false => {
@@ -253,14 +256,19 @@ impl Generator {
                 self.random.pick(&others)
             }
         };
-        Call::Select { session, version }
+        Call::Select {
+            port,
+            session,
+            version,
+        }
     }
 
     fn start(&mut self, module: &Module) -> Call {
-        let session = self.session(module);
+        let (port, session) = self.session(module);
         let credential = self.credential(module);
         let name = self.new_name(module);
         Call::Start {
+            port,
             session,
             credential,
             name,
@@ -268,7 +276,7 @@ impl Generator {
     }
 
     fn continue_saved(&mut self, module: &Module) -> Call {
-        let session = self.session(module);
+        let (port, session) = self.session(module);
         let saved = self.process(module, |kind| matches!(kind, Kind::SavedUser { .. }));
         let (credential, name) = match saved {
             Some(saved) if self.random.percent(85) => {
@@ -278,6 +286,7 @@ impl Generator {
             _ => (self.credential(module), self.standing_name(module)),
         };
         Call::Continue {
+            port,
             session,
             credential,
             name,
@@ -285,11 +294,12 @@ impl Generator {
     }
 
     fn elevate(&mut self, module: &Module) -> Call {
-        let session = self.session(module);
+        let (port, session) = self.session(module);
         let credential = self.credential(module);
         let name = self.new_name(module);
         let verdict = self.flag(90);
         Call::Elevate {
+            port,
             session,
             credential,
             name,
@@ -298,12 +308,13 @@ impl Generator {
     }
 
     fn end(&mut self, module: &Module) -> Call {
-        let (session, claim) = self.user_claim(module);
+        let ((port, session), claim) = self.user_claim(module);
         let keep = match self.style {
             Style::Crowded => self.flag(95),
             _ => self.flag(70),
         };
         Call::End {
+            port,
             session,
             credential: claim.credential,
             number: claim.number,
@@ -313,8 +324,8 @@ impl Generator {
     }
 
     fn record(&mut self, module: &Module) -> Call {
-        let (session, claim) = self.claim(module);
-        let credential = claimant(module, session, claim);
+        let ((port, session), claim) = self.claim(module);
+        let credential = claimant(module, (port, session), claim);
         let granted: Vec<u32> = (4..32)
             .filter(|class| module.lookup(credential, *class) != Grant::No)
             .collect();
@@ -327,6 +338,7 @@ impl Generator {
             false => self.near(class),
         };
         Call::Record {
+            port,
             session,
             claim,
             class,
@@ -334,16 +346,17 @@ impl Generator {
     }
 
     fn list(&mut self, module: &Module) -> Call {
-        let (session, claim) = self.claim(module);
+        let ((port, session), claim) = self.claim(module);
         let wanted = match self.random.below(10) {
             0..=3 => 65_535,
-            4..=7 => claimant(module, session, claim) as u32,
+            4..=7 => claimant(module, (port, session), claim) as u32,
             8 => self.random.pick(&[65_534, 65_536, 131_071, 8, 7, 0]),
             _ => self.random.below(CREDENTIALS) as u32,
         };
         let wanted = self.near(wanted);
         let room = self.room(module, wanted);
         Call::List {
+            port,
             session,
             claim,
             wanted,
@@ -376,9 +389,10 @@ impl Generator {
     }
 
     fn kill(&mut self, module: &Module) -> Call {
-        let (session, claim) = self.claim(module);
+        let ((port, session), claim) = self.claim(module);
         let name = self.standing_name(module);
         Call::Kill {
+            port,
             session,
             claim,
             name,
@@ -386,13 +400,14 @@ impl Generator {
     }
 
     fn set_word(&mut self, module: &Module) -> Call {
-        let (session, claim) = self.claim(module);
+        let ((port, session), claim) = self.claim(module);
         let target = self.credential(module);
         let (word, second) = match self.random.percent(30) {
             true => self.near_words(module.credentials[target as usize % CREDENTIALS]),
             false => draw_words(&mut self.random),
         };
         Call::SetWord {
+            port,
             session,
             claim,
             target,
@@ -511,7 +526,7 @@ impl Generator {
     }
 
     /// A claim and the session it is made in.
-    fn claim(&mut self, module: &Module) -> (u32, RawClaim) {
+    fn claim(&mut self, module: &Module) -> ((u32, u32), RawClaim) {
         let elevation = self.process(module, |kind| matches!(kind, Kind::ActiveElevation { .. }));
         let elevated = if elevation.is_some() { 35 } else { 5 };
         let (session, mut claim) = match self.random.percent(elevated) {
@@ -532,12 +547,12 @@ impl Generator {
         }
     }
 
-    fn user_claim(&mut self, module: &Module) -> (u32, RawClaim) {
+    fn user_claim(&mut self, module: &Module) -> ((u32, u32), RawClaim) {
         let user = self.process(module, |kind| matches!(kind, Kind::ActiveUser { .. }));
         let (session, credential, next) = match user.map(|user| (user.credential, user.kind)) {
             Some((credential, Kind::ActiveUser { session, next })) if self.random.percent(90) => {
                 let session = match self.random.percent(92) {
-                    true => self.near(session as u32),
+                    true => self.near_session(session),
                     false => self.session(module),
                 };
                 (session, credential as u32, next)
@@ -572,28 +587,44 @@ impl Generator {
         self.random.pick(&others)
     }
 
-    /// A session handle, mostly of a session with a version.
-    fn session(&mut self, module: &Module) -> u32 {
-        self.session_in(module, Session::OpenWithVersion)
+    /// A session in numbers, mostly one with a version.
+    fn session(&mut self, module: &Module) -> (u32, u32) {
+        self.session_in(module, Phase::OpenWithVersion)
     }
 
-    fn session_in(&mut self, module: &Module, phase: Session) -> u32 {
-        let such: Vec<u32> = (0..SESSIONS)
-            .filter(|session| module.sessions[*session] == phase)
-            .map(|session| session as u32)
+    fn session_in(&mut self, module: &Module, phase: Phase) -> (u32, u32) {
+        let such: Vec<Session> = Session::all()
+            .filter(|session| module.phase(*session) == phase)
             .collect();
         let session = match such.is_empty() || self.random.percent(12) {
-            true => self.random.below(SESSIONS) as u32,
+            true => self.any_session(),
             false => self.random.pick(&such),
         };
-        self.near(session)
+        self.near_session(session)
     }
 
-    fn elevated_session(&mut self, module: &Module) -> u32 {
+    fn any_session(&mut self) -> Session {
+        let (port, handle) = (self.random.below(PORTS), self.random.below(SESSIONS));
+        Session::of(port, handle)
+    }
+
+    fn elevated_session(&mut self, module: &Module) -> (u32, u32) {
         let elevation = self.process(module, |kind| matches!(kind, Kind::ActiveElevation { .. }));
         match elevation.and_then(|process| process.kind.session()) {
-            Some(session) if self.random.percent(85) => self.near(session as u32),
+            Some(session) if self.random.percent(85) => self.near_session(session),
             _ => self.session(module),
+        }
+    }
+
+    /// The session; now and then that of the same handle on the other port, or numbers that are wrong: the handle counted over both ports, or a port that is the same
+    /// in its lowest bit.
+    fn near_session(&mut self, session: Session) -> (u32, u32) {
+        let (port, handle) = numbers_of(session);
+        match self.random.below(120) {
+            0..=5 => (1 - port, handle),
+            6 => (0, SESSIONS as u32 * port + handle),
+            7 => (port + PORTS as u32, handle),
+            _ => (self.near(port), self.near(handle)),
         }
     }
 
@@ -723,9 +754,14 @@ fn draw_word(random: &mut Random) -> u32 {
     }
 }
 
+/// Whether a session of either port is in that phase.
+fn has_session(module: &Module, phase: Phase) -> bool {
+    Session::all().any(|session| module.phase(session) == phase)
+}
+
 /// The credential a claim speaks for; 0 where it speaks for none.
-fn claimant(module: &Module, session: u32, claim: RawClaim) -> usize {
-    let elevation = module.find_elevation(session as usize);
+fn claimant(module: &Module, (port, handle): (u32, u32), claim: RawClaim) -> usize {
+    let elevation = module.find_elevation(Session::of(port as usize, handle as usize));
     match elevation {
         Some(place) if claim.kind == 1 => module.processes[place].credential,
         _ if claim.credential < CREDENTIALS as u32 => claim.credential as usize,

@@ -7,10 +7,13 @@ use crate::sides::Pair;
 use slavotuk::entries::RawClaim;
 use slavotuk::layout::listing::{row_at, FULL_LENGTH};
 use slavotuk_model::layout;
-use slavotuk_model::module::{Credential, Kind, Module, Process, Session};
+use slavotuk_model::module::{Credential, Module, Phase, Process, Session};
 use slavotuk_model::module::{CREDENTIALS, NAME_LENGTH};
 
 const CLASSES: u32 = 32;
+
+/// Where all of it is.
+const SESSION: Session = Session::of(0, 0);
 
 /// Sets words, and has no other class.
 const SETTER: usize = 0;
@@ -116,7 +119,7 @@ impl Counted {
         // an end or a kill may have removed the claimant's process
         let stands = pair
             .module()
-            .and_then(|module| module.find_active_user(0, CLAIMANT));
+            .and_then(|module| module.find_active_user(SESSION, CLAIMANT));
         self.expect(&mut pair, call, if stands.is_some() { 9 } else { 6 })?;
         match right {
             18 => self.granted_plainly(&mut pair, call, plain),
@@ -212,22 +215,17 @@ fn state(words: Credential, way: Way) -> Vec<u8> {
     credentials[CLAIMANT] = words;
     credentials[OTHER] = PLAIN;
     let mut module = Module::fresh(credentials);
-    module.sessions[0] = Session::OpenWithVersion;
-    let (session, next) = (0, NEXT);
-    let mut push = |credential, kind, name| {
-        module.processes.push(Process {
-            credential,
-            kind,
-            name: [name; NAME_LENGTH],
-        });
-    };
-    for user in [SETTER, CLAIMANT, OTHER] {
-        push(user, Kind::ActiveUser { session, next }, user as u8);
-    }
-    push(CLAIMANT, Kind::SavedUser { next }, SAVED);
-    if let Some(owner) = way.elevation() {
-        push(owner, Kind::ActiveElevation { session }, ELEVATION);
-    }
+    module.set_phase(SESSION, Phase::OpenWithVersion);
+    let name = |byte: u8| [byte; NAME_LENGTH];
+    let users = [SETTER, CLAIMANT, OTHER].into_iter();
+    module.processes = users
+        .map(|user| Process::user(SESSION, user, NEXT, name(user as u8)))
+        .chain([Process::saved(CLAIMANT, NEXT, name(SAVED))])
+        .chain(
+            way.elevation()
+                .map(|owner| Process::elevation(SESSION, owner, name(ELEVATION))),
+        )
+        .collect();
     layout::write(&module)
 }
 

@@ -3,9 +3,7 @@
 use crate::random::Random;
 use slavotuk::layout::image::*;
 use slavotuk_model::image;
-use slavotuk_model::module::{
-    Credential, Kind, Module, Name, Process, CREDENTIALS, NAME_LENGTH, SPENT,
-};
+use slavotuk_model::module::{Credential, Module, Name, Process, CREDENTIALS, NAME_LENGTH, SPENT};
 
 /// An image with these credentials provisioned, and a row for each of the names.
 pub fn draw(mask: u8, names: &[Name], random: &mut Random) -> Vec<u8> {
@@ -21,11 +19,8 @@ pub fn draw(mask: u8, names: &[Name], random: &mut Random) -> Vec<u8> {
     for name in names {
         let drawn = (random.word() as u16).max(1);
         let next = random.pick(&[1, 1, 2, 255, 256, SPENT - 1, SPENT, drawn]);
-        module.processes.push(Process {
-            credential: random.pick(&owners),
-            kind: Kind::SavedUser { next },
-            name: *name,
-        });
+        let owner = random.pick(&owners);
+        module.processes.push(Process::saved(owner, next, *name));
     }
     image::write(&module)
 }

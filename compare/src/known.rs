@@ -3,6 +3,7 @@
 use crate::call::{Answer, Call};
 use crate::protected::{end, kill, list, name_of, record, set_words};
 use crate::sides::Pair;
+use crate::unprotected::{close, continue_saved, open, select, start};
 use slavotuk::entries::RawClaim;
 use slavotuk::layout::listing::row_at;
 use slavotuk_model::image::LONGEST;
@@ -16,7 +17,7 @@ struct Known {
 }
 
 impl Known {
-    /// A module of credentials 0 to 6, with session 0 open and a process of credential 1 in it.
+    /// A module of credentials 0 to 6, with session 0 of port 0 open and a process of credential 1 in it.
     fn started(word: u32, second: u32) -> Result<Known, String> {
         let mut known = Known {
             pair: Pair::of(&[0; STATE_LENGTH]),
@@ -31,14 +32,13 @@ impl Known {
         };
         known.expect(fresh, 0)?;
         known.enter()?;
-        known.expect(start(1), 0)?;
+        known.expect(start_of(1), 0)?;
         Ok(known)
     }
 
     fn enter(&mut self) -> Result<(), String> {
-        let (session, version) = (0, 0x10);
-        self.expect(Call::Open { session }, 0)?;
-        self.expect(Call::Select { session, version }, 0)?;
+        self.expect(open(), 0)?;
+        self.expect(select(0x10), 0)?;
         Ok(())
     }
 
@@ -53,13 +53,7 @@ impl Known {
         self.expect(keep(number), 0)?;
         self.restore_the_newest()?;
         self.enter()?;
-        let (session, credential, name) = (0, 1, name_of(1));
-        let taken_up = Call::Continue {
-            session,
-            credential,
-            name,
-        };
-        self.expect(taken_up, 0)?;
+        self.expect(continue_saved(1, name_of(1)), 0)?;
         Ok(())
     }
 
@@ -82,12 +76,8 @@ impl Known {
 const UNPROVISIONED: u32 = 7;
 
 /// Starts the process of a credential, which is named for it.
-fn start(credential: u8) -> Call {
-    Call::Start {
-        session: 0,
-        credential: credential.into(),
-        name: name_of(credential),
-    }
+fn start_of(credential: u8) -> Call {
+    start(credential.into(), name_of(credential))
 }
 
 /// A claim of credential 1.
@@ -105,7 +95,7 @@ pub fn run_to_spent() -> Result<String, String> {
         (u32::MAX, !16, &ONLY_ELEVATED),
     ] {
         let mut known = Known::started(word, second)?;
-        known.expect(start(2), 0)?;
+        known.expect(start_of(2), 0)?;
         let call = |number: u16| calls[usize::from(number) % calls.len()];
         for number in 0..SPENT {
             let (answer, call) = call(number);
@@ -115,7 +105,7 @@ pub fn run_to_spent() -> Result<String, String> {
             let (_, call) = call(number);
             known.expect(call(number), 13)?;
         }
-        known.expect(Call::Close { session: 0 }, 0)?;
+        known.expect(close(), 0)?;
         made += known.made;
     }
     Ok(format!(
@@ -173,7 +163,7 @@ pub fn run_the_relays_attack() -> Result<String, String> {
         if power_cycle {
             known.power_cycle(1)?;
         }
-        known.expect(start(2), 0)?;
+        known.expect(start_of(2), 0)?;
         known.expect(kill(by(0), 2), 9)?;
         let next = if power_cycle { 2 } else { 1 };
         known.expect(kill(by(next), 2), 0)?;

@@ -1,6 +1,7 @@
 //! Runs the compiled archive and the program of order 6 beside the model of documents 01 and 02, and tells where they differ.
 #![forbid(unsafe_code)]
 
+mod across;
 mod call;
 mod claim;
 mod damage;
@@ -19,6 +20,9 @@ mod image_test;
 mod images;
 mod known;
 mod messages;
+mod port_pairs;
+mod port_steps;
+mod ports;
 mod protected;
 mod random;
 mod report;
@@ -26,6 +30,7 @@ mod run;
 mod sequence;
 mod shrink;
 mod sides;
+mod unprotected;
 mod wire;
 mod wire_bounds;
 mod wire_generate;
@@ -46,8 +51,9 @@ usage: slavotuk-compare test [--calls N] [--seed S]
        slavotuk-compare figures [--drawers N] [--seed S] [--program FILE]
 
 test    all tests: N calls in random sequences over 20 entries (5000000 unless given, at least 200000), with power cycles between
-        them, claims that passed sent again, every pair of bits of a class in both words, damaged states, fresh modules, images, the
-        listing messages, and all messages of 004 clause 9.2. The same seed makes the same calls; it is 1 unless given.
+        them, claims that passed sent again, every pair of bits of a class in both words, every pair of sessions of both ports,
+        damaged states, fresh modules, images, the listing messages, and all messages of 004 clause 9.2. The same seed makes the
+        same calls; it is 1 unless given.
 soak    random sequences, damaged states and damaged images for N seconds (60 unless given), with a line now and then. The seed
         is taken from the clock unless given, and printed.
 replay  one sequence again, by the seed that a failure printed. The failure is printed with its sequence shrunk.

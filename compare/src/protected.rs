@@ -1,4 +1,4 @@
-//! The protected calls of tests that know their numbers, all in session 0.
+//! The protected calls of tests that know their numbers, all in session 0 of port 0.
 
 use crate::call::Call;
 use slavotuk::entries::RawClaim;
@@ -11,6 +11,7 @@ pub fn name_of(byte: u8) -> Vec<u8> {
 
 pub fn record(claim: RawClaim, class: u32) -> Call {
     Call::Record {
+        port: 0,
         session: 0,
         claim,
         class,
@@ -19,6 +20,7 @@ pub fn record(claim: RawClaim, class: u32) -> Call {
 
 pub fn list(claim: RawClaim, wanted: u32, room: usize) -> Call {
     Call::List {
+        port: 0,
         session: 0,
         claim,
         wanted,
@@ -29,6 +31,7 @@ pub fn list(claim: RawClaim, wanted: u32, room: usize) -> Call {
 
 pub fn kill(claim: RawClaim, name: u8) -> Call {
     Call::Kill {
+        port: 0,
         session: 0,
         claim,
         name: name_of(name),
@@ -37,6 +40,7 @@ pub fn kill(claim: RawClaim, name: u8) -> Call {
 
 pub fn set_words(claim: RawClaim, target: u32, words: Credential) -> Call {
     Call::SetWord {
+        port: 0,
         session: 0,
         claim,
         target,
@@ -48,6 +52,7 @@ pub fn set_words(claim: RawClaim, target: u32, words: Credential) -> Call {
 /// An end has a user's claim always.
 pub fn end(claim: RawClaim, keep: u32) -> Call {
     Call::End {
+        port: 0,
         session: 0,
         credential: claim.credential,
         number: claim.number,

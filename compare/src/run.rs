@@ -10,7 +10,7 @@ use crate::random::Random;
 use crate::report::Report;
 use crate::sequence::{self, Failure, Plan};
 use crate::shrink::{describe, shrink};
-use crate::{wire, wire_test};
+use crate::{port_pairs, port_steps, ports, wire, wire_test};
 use std::process::ExitCode;
 use std::sync::atomic::{AtomicBool, AtomicUsize, Ordering};
 use std::thread;
@@ -19,8 +19,8 @@ use std::time::{Duration, Instant};
 /// Calls of a sequence.
 const SEQUENCE: usize = 1_000;
 
-/// Sequences whose claims are sent again after each call. They are shorter: each call brings some hundred others.
-const REPLAYED: usize = 600;
+/// Sequences whose claims are sent again after each call, in every session of both ports. They are shorter: each call brings some hundred others.
+const REPLAYED: usize = 300;
 const REPLAYED_PLAN: Plan = Plan {
     calls: 400,
     replays: true,
@@ -44,6 +44,12 @@ pub fn test(calls: usize, seed: u64) -> ExitCode {
     report.judge(known::run_the_kept_record());
     report.judge(grants::every_pair_of_bits());
     report.judge(grants::every_class_of_a_record());
+    report.judge(port_steps::order_10());
+    report.judge(port_steps::document_01_on_either_port());
+    report.judge(port_steps::power_cycles());
+    report.judge(ports::every_port_and_handle());
+    report.judge(port_pairs::every_pair_of_sessions());
+    report.judge(port_pairs::names_places_and_words());
     damage::test(seed, &mut report);
     damage::test_fresh(seed, &mut report);
     image_test::test(seed, &mut report);

@@ -1,13 +1,13 @@
 //! Sequences of calls: drawn and run on both sides, with the claims that passed their check sent again.
 
-use crate::call::{session_mut, user_claim, Call};
+use crate::call::{numbers_of, session_mut, user_claim, Call};
 use crate::claim::passed;
 use crate::depth::{outcome, Depth, Trail};
 use crate::generate::Generator;
 use crate::random::Random;
 use crate::sides::Pair;
 use slavotuk::entries::RawClaim;
-use slavotuk_model::module::{Kind, Name, Process};
+use slavotuk_model::module::{Kind, Name, Process, Session};
 use slavotuk_model::Module;
 
 /// The bytes that are lent, and the calls on them.
@@ -199,6 +199,7 @@ impl Claims {
             for number in [0, next - 1] {
                 self.passed.push(Passed {
                     call: Call::Kill {
+                        port: 0,
                         session: 0,
                         claim: RawClaim::user(process.credential as u32, number),
                         name: process.name.to_vec(),
@@ -222,7 +223,8 @@ impl Claims {
         chosen
     }
 
-    /// Sends the chosen claims in each session to a copy of the archive's state, after a call of this entry; none may pass its check, and the copy stays as it was.
+    /// Sends the chosen claims in each session of both ports to a copy of the archive's state, after a call of this entry; none may pass its check, and the copy stays
+    /// as it was.
     fn send_again(
         &mut self,
         chosen: &[usize],
@@ -234,9 +236,9 @@ impl Claims {
         let mut copy = pair.archive.clone();
         for place in chosen {
             let claim = &mut self.passed[*place];
-            for session in 0..4 {
-                if let Some(handle) = session_mut(&mut claim.call) {
-                    *handle = session;
+            for session in Session::all() {
+                if let Some((port, handle)) = session_mut(&mut claim.call) {
+                    (*port, *handle) = numbers_of(session);
                 }
                 let number = copy.answer(&claim.call).number;
                 depth.replays += 1;
@@ -247,7 +249,7 @@ impl Claims {
                     if copy.state() != pair.archive.state() {
                         return Err(format!("{number}, but the state changed: {}", claim.call));
                     }
-                } else if claim.is_due_to_another(module, session as usize) {
+                } else if claim.is_due_to_another(module, session) {
                     depth.replays_of_others += 1;
                     copy = pair.archive.clone();
                 } else {
@@ -265,7 +267,7 @@ impl Claims {
 impl Passed {
     /// A claim has no name in it: where the credential has another process in that session whose next number this is, it is that process's claim. That the
     /// signature is made for one process alone is the key unit's concern.
-    fn is_due_to_another(&self, module: &Module, session: usize) -> bool {
+    fn is_due_to_another(&self, module: &Module, session: Session) -> bool {
         match module.find_active_user(session, self.credential) {
             Some((place, next)) => module.processes[place].name != self.name && next == self.number,
             None => false,

@@ -1,13 +1,13 @@
 //! Makes a sequence that shows an error as short and as plain as it gets, while it still shows one.
 
-use crate::call::{name_mut, number_mut, session_mut, user_claim, Bytes, Call};
+use crate::call::{name_mut, number_mut, numbers_of, session_mut, user_claim, Bytes, Call};
 use crate::images;
 use crate::sequence::{Failure, Sequence};
 use crate::sides::Pair;
 use slavotuk::entries::RawClaim;
 use slavotuk::layout::{image, listing};
 use slavotuk_model::layout::{self, STATE_LENGTH};
-use slavotuk_model::module::{Credential, Module, NAME_LENGTH, SESSIONS};
+use slavotuk_model::module::{Credential, Module, Session, NAME_LENGTH};
 
 /// The failure with its sequence made short and plain.
 pub fn shrink(mut failure: Failure) -> Failure {
@@ -146,13 +146,16 @@ fn with_name(sequence: &Sequence, from: &[u8], to: &[u8]) -> Sequence {
     changed
 }
 
+/// Each session becomes one of those before it, port 0's first.
 fn plainer_sessions(failure: &mut Failure) {
-    for from in (1..SESSIONS as u32).rev() {
-        for to in 0..from {
+    let sessions: Vec<(u32, u32)> = Session::all().map(numbers_of).collect();
+    for (at, from) in sessions.iter().enumerate().rev() {
+        for to in &sessions[..at] {
             let mut tried = failure.sequence.clone();
-            let sessions = tried.calls.iter_mut().filter_map(session_mut);
-            for session in sessions.filter(|session| **session == from) {
-                *session = to;
+            for (port, session) in tried.calls.iter_mut().filter_map(session_mut) {
+                if (*port, *session) == *from {
+                    (*port, *session) = *to;
+                }
             }
             if accept(failure, tried) {
                 break;
@@ -414,6 +417,7 @@ mod tests {
     #[test]
     fn later_numbers_are_lowered_with_the_records_before_them() {
         let record = |credential, number| Call::End {
+            port: 0,
             session: 0,
             credential,
             number,

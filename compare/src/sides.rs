@@ -178,18 +178,16 @@ mod tests {
 
     #[test]
     fn a_pair_with_other_states_differs() {
+        let open = |session| Call::Open { port: 1, session };
         let mut pair = Pair::of(&[0; layout::STATE_LENGTH]);
-        assert!(pair.call(&Call::Open { session: 0 }).is_ok());
+        assert!(pair.call(&open(0)).is_ok());
         assert_eq!(pair.read_back(), Ok(()));
         pair.archive = Archive::of(&[0; layout::STATE_LENGTH]);
         assert_eq!(pair.read_back(), Err(Difference::ReadBack));
         assert!(matches!(
-            pair.call(&Call::Open { session: 1 }),
+            pair.call(&open(1)),
             Err(Difference::States { .. })
         ));
-        assert!(matches!(
-            pair.call(&Call::Open { session: 0 }),
-            Err(Difference::Answers(_))
-        ));
+        assert!(matches!(pair.call(&open(0)), Err(Difference::Answers(_))));
     }
 }

@@ -3,7 +3,8 @@
 use crate::image;
 use crate::layout::{self, STATE_LENGTH};
 use crate::messages;
-use crate::module::{Claim, Credential, Module, Name, UserClaim, Wanted, CREDENTIALS, SESSIONS};
+use crate::module::{Claim, Credential, Module, Name, Session, UserClaim, Wanted};
+use crate::module::{CREDENTIALS, PORTS, SESSIONS};
 use crate::number::{refuse_unless, refuse_when, Number};
 
 /// The wanted credential that stands for all.
@@ -89,46 +90,65 @@ pub fn holds(lent: &mut Lent) -> u32 {
 }
 
 /// Open.
-pub fn open(lent: &mut Lent, session: u32) -> u32 {
-    number_of(|| lent.module()?.open(handle(session)?))
+pub fn open(lent: &mut Lent, port: u32, session: u32) -> u32 {
+    number_of(|| lent.module()?.open(session_of(port, session)?))
 }
 
 /// Close.
-pub fn close(lent: &mut Lent, session: u32) -> u32 {
-    number_of(|| lent.module()?.close(handle(session)?))
+pub fn close(lent: &mut Lent, port: u32, session: u32) -> u32 {
+    number_of(|| lent.module()?.close(session_of(port, session)?))
 }
 
 /// Drop.
-pub fn drop(lent: &mut Lent, session: u32) -> u32 {
-    number_of(|| lent.module()?.drop_elevation(handle(session)?))
+pub fn drop(lent: &mut Lent, port: u32, session: u32) -> u32 {
+    number_of(|| lent.module()?.drop_elevation(session_of(port, session)?))
 }
 
 /// Select. Document 01 has no argument error for a version: every value but 0x10 is 4.
-pub fn select(lent: &mut Lent, session: u32, version: u32) -> u32 {
-    number_of(|| lent.module()?.select(handle(session)?, version))
+pub fn select(lent: &mut Lent, port: u32, session: u32, version: u32) -> u32 {
+    number_of(|| lent.module()?.select(session_of(port, session)?, version))
 }
 
 /// Start.
-pub fn start(lent: &mut Lent, session: u32, credential: u32, name: &[u8]) -> u32 {
+pub fn start(lent: &mut Lent, port: u32, session: u32, credential: u32, name: &[u8]) -> u32 {
     number_of(|| {
-        lent.module()?
-            .start(handle(session)?, owner(credential)?, whole_name(name)?)
+        lent.module()?.start(
+            session_of(port, session)?,
+            owner(credential)?,
+            whole_name(name)?,
+        )
     })
 }
 
 /// Continue.
-pub fn continue_saved(lent: &mut Lent, session: u32, credential: u32, name: &[u8]) -> u32 {
+pub fn continue_saved(
+    lent: &mut Lent,
+    port: u32,
+    session: u32,
+    credential: u32,
+    name: &[u8],
+) -> u32 {
     number_of(|| {
-        lent.module()?
-            .continue_saved(handle(session)?, owner(credential)?, whole_name(name)?)
+        lent.module()?.continue_saved(
+            session_of(port, session)?,
+            owner(credential)?,
+            whole_name(name)?,
+        )
     })
 }
 
 /// Elevate.
-pub fn elevate(lent: &mut Lent, session: u32, credential: u32, name: &[u8], verdict: u32) -> u32 {
+pub fn elevate(
+    lent: &mut Lent,
+    port: u32,
+    session: u32,
+    credential: u32,
+    name: &[u8],
+    verdict: u32,
+) -> u32 {
     number_of(|| {
         lent.module()?.elevate(
-            handle(session)?,
+            session_of(port, session)?,
             owner(credential)?,
             whole_name(name)?,
             flag(verdict)?,
@@ -139,6 +159,7 @@ pub fn elevate(lent: &mut Lent, session: u32, credential: u32, name: &[u8], verd
 /// End.
 pub fn end(
     lent: &mut Lent,
+    port: u32,
     session: u32,
     credential: u32,
     number: u16,
@@ -151,22 +172,24 @@ pub fn end(
             number,
             verdict: flag(verdict)?,
         };
-        lent.module()?.end(handle(session)?, claim, flag(keep)?)
+        lent.module()?
+            .end(session_of(port, session)?, claim, flag(keep)?)
     })
 }
 
 /// Record.
-pub fn record(lent: &mut Lent, session: u32, claim: RawClaim, class: u32) -> u32 {
+pub fn record(lent: &mut Lent, port: u32, session: u32, claim: RawClaim, class: u32) -> u32 {
     number_of(|| {
         refuse_when(!(4..=31).contains(&class), Number::Argument)?;
         lent.module()?
-            .record(handle(session)?, claimed(claim)?, class)
+            .record(session_of(port, session)?, claimed(claim)?, class)
     })
 }
 
 /// List. The length handed out is the message's; 0 on a refusal.
 pub fn list(
     lent: &mut Lent,
+    port: u32,
     session: u32,
     claim: RawClaim,
     wanted: u32,
@@ -179,9 +202,12 @@ pub fn list(
             ALL => Wanted::All,
             credential => Wanted::Of(owner(credential)?),
         };
-        let message =
-            lent.module()?
-                .list(handle(session)?, claimed(claim)?, wanted, response.len())?;
+        let message = lent.module()?.list(
+            session_of(port, session)?,
+            claimed(claim)?,
+            wanted,
+            response.len(),
+        )?;
         response[..message.len()].copy_from_slice(&message);
         *length = message.len();
         Ok(())
@@ -189,16 +215,20 @@ pub fn list(
 }
 
 /// Kill.
-pub fn kill(lent: &mut Lent, session: u32, claim: RawClaim, name: &[u8]) -> u32 {
+pub fn kill(lent: &mut Lent, port: u32, session: u32, claim: RawClaim, name: &[u8]) -> u32 {
     number_of(|| {
-        lent.module()?
-            .kill(handle(session)?, claimed(claim)?, whole_name(name)?)
+        lent.module()?.kill(
+            session_of(port, session)?,
+            claimed(claim)?,
+            whole_name(name)?,
+        )
     })
 }
 
 /// Set word.
 pub fn set_word(
     lent: &mut Lent,
+    port: u32,
     session: u32,
     claim: RawClaim,
     target: u32,
@@ -208,7 +238,7 @@ pub fn set_word(
     number_of(|| {
         let (claim, target) = (claimed(claim)?, owner(target)?);
         lent.module()?
-            .set_word(handle(session)?, claim, target, word, second)
+            .set_word(session_of(port, session)?, claim, target, word, second)
     })
 }
 
@@ -281,8 +311,12 @@ pub(crate) fn number_of(call: impl FnOnce() -> Result<(), Number>) -> u32 {
     call().err().unwrap_or(Number::Done) as u32
 }
 
-fn handle(session: u32) -> Result<usize, Number> {
-    below(session, SESSIONS)
+/// Both in their ranges: a handle of 4 on port 0 is no session of port 1.
+fn session_of(port: u32, handle: u32) -> Result<Session, Number> {
+    Ok(Session {
+        port: below(port, PORTS)?,
+        handle: below(handle, SESSIONS)?,
+    })
 }
 
 fn owner(credential: u32) -> Result<usize, Number> {

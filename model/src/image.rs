@@ -55,7 +55,7 @@ pub fn write(module: &Module) -> Vec<u8> {
     image
 }
 
-/// The module that an image makes: a fresh one with the image's credentials and words, all sessions closed, and its processes saved ones in the image's order.
+/// The module that an image makes: a fresh one with the image's credentials and words, all sessions of both ports closed, and its processes saved ones in the image's order.
 /// The offset of the rows tells the layout; second words are zero in the old one. 14 for every other bytes.
 pub fn read(image: &[u8]) -> Result<Module, Number> {
     let mut reader = Reader::of(image);
@@ -113,11 +113,7 @@ fn read_row(reader: &mut Reader, module: &Module) -> Result<Process, Number> {
     refuse_unless(owner.provisioned, Number::Message)?;
     let next = reader.u16()?;
     refuse_when(next == 0, Number::Message)?;
-    Ok(Process {
-        credential,
-        kind: Kind::SavedUser { next },
-        name: reader.array()?,
-    })
+    Ok(Process::saved(credential, next, reader.array()?))
 }
 
 #[cfg(test)]
@@ -125,7 +121,7 @@ mod tests {
     use super::*;
     use crate::entries::{self, Lent};
     use crate::layout::{self, STATE_LENGTH};
-    use crate::module::Session;
+    use crate::module::Phase;
 
     /// What is before the rows: of these credentials and so many rows, with words 15 and 16 for 0 and 1, and second words zero.
     fn head(mask: u8, count: u8) -> Vec<u8> {
@@ -135,9 +131,11 @@ mod tests {
         image
     }
 
-    /// The image of docs/STATE.md's example: credentials 0 and 1 with words 15 and 16, and of its three processes the saved one, Q of credential 1 at 300.
+    /// The image of docs/STATE.md's example: credentials 0 and 1 with words 15 and 16, the second word of 1 the same, and of its three processes the saved one, Q of
+    /// credential 1 at 300.
     fn example() -> Vec<u8> {
         let mut image = head(3, 1);
+        image[46] = 16;
         image.extend([1, 0, 0x2c, 1]);
         image.extend([0; 16]);
         image.extend([0x22; 32]);
@@ -181,7 +179,7 @@ mod tests {
         let lent = layout::read(&layout::example()).expect("the example holds a state");
         assert_eq!(write(&lent), example());
         let module = restored(&example());
-        assert_eq!(module.sessions, [Session::Closed; 4]);
+        assert_eq!(module.sessions, [[Phase::Closed; 4]; 2]);
         assert_eq!(module.credentials, lent.credentials);
         assert_eq!(module.processes, [lent.processes[1]]);
         assert_eq!(write(&module), example());

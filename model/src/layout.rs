@@ -1,31 +1,31 @@
-//! The state in a slice of 713 bytes, as docs/STATE.md draws it.
+//! The state in a slice of 717 bytes, as docs/STATE.md draws it.
 
 use crate::module::{
-    same_name, Credential, Kind, Module, Name, Process, Session, CREDENTIALS, NAME_LENGTH, PLACES,
-    SESSIONS,
+    same_name, Credential, Kind, Module, Name, Phase, Process, Session, CREDENTIALS, NAME_LENGTH,
+    PLACES, PORTS, SESSIONS,
 };
 
 /// Bytes of a state.
-pub const STATE_LENGTH: usize = 713;
+pub const STATE_LENGTH: usize = 717;
 /// Where the credentials begin.
-pub const CREDENTIALS_AT: usize = 4;
+pub const CREDENTIALS_AT: usize = 8;
 /// Bytes of a credential.
 pub const CREDENTIAL_LENGTH: usize = 9;
 /// Where the count of processes stands.
-pub const COUNT_AT: usize = 76;
+pub const COUNT_AT: usize = 80;
 /// Where the places begin.
-pub const PLACES_AT: usize = 77;
+pub const PLACES_AT: usize = 81;
 /// Bytes of a place.
 pub const PLACE_LENGTH: usize = 53;
 
 /// The bytes of a module.
 pub fn write(module: &Module) -> Vec<u8> {
     let mut bytes = Vec::with_capacity(STATE_LENGTH);
-    for session in module.sessions {
-        bytes.push(match session {
-            Session::Closed => 0,
-            Session::OpenWithoutVersion => 1,
-            Session::OpenWithVersion => 2,
+    for phase in module.sessions.iter().flatten() {
+        bytes.push(match phase {
+            Phase::Closed => 0,
+            Phase::OpenWithoutVersion => 1,
+            Phase::OpenWithVersion => 2,
         });
     }
     for credential in module.credentials {
@@ -35,14 +35,14 @@ pub fn write(module: &Module) -> Vec<u8> {
     }
     bytes.push(module.processes.len() as u8);
     for process in &module.processes {
-        let (session, next) = match process.kind {
-            Kind::ActiveUser { session, next } => (session, next),
-            Kind::ActiveElevation { session } => (session, 0),
+        let (slot, next) = match process.kind {
+            Kind::ActiveUser { session, next } => (slot_of(session), next),
+            Kind::ActiveElevation { session } => (slot_of(session), 0),
             Kind::SavedUser { next } => (0, next),
         };
         bytes.push(process.credential as u8);
         bytes.push(process.kind.type_number());
-        bytes.push(session as u8);
+        bytes.push(slot);
         bytes.extend(next.to_le_bytes());
         bytes.extend(process.name);
     }
@@ -63,17 +63,29 @@ pub fn read(bytes: &[u8]) -> Option<Module> {
     keeps_the_rules(&module).then_some(module)
 }
 
-fn read_sessions(bytes: &[u8]) -> Option<[Session; SESSIONS]> {
-    let mut sessions = [Session::Closed; SESSIONS];
-    for (handle, session) in sessions.iter_mut().enumerate() {
-        *session = match bytes[handle] {
-            0 => Session::Closed,
-            1 => Session::OpenWithoutVersion,
-            2 => Session::OpenWithVersion,
+fn read_sessions(bytes: &[u8]) -> Option<[[Phase; SESSIONS]; PORTS]> {
+    let mut sessions = [[Phase::Closed; SESSIONS]; PORTS];
+    for (phase, byte) in sessions.iter_mut().flatten().zip(bytes) {
+        *phase = match byte {
+            0 => Phase::Closed,
+            1 => Phase::OpenWithoutVersion,
+            2 => Phase::OpenWithVersion,
             _ => return None,
         };
     }
     Some(sessions)
+}
+
+/// The byte that stands for a session, its slot: port 0's sessions are 0 to 3, and port 1's are 4 to 7.
+fn slot_of(session: Session) -> u8 {
+    (SESSIONS * session.port + session.handle) as u8
+}
+
+/// The session that the byte stands for, if it stands for one.
+fn session_in(slot: u8) -> Option<Session> {
+    let slot = usize::from(slot);
+    let session = Session::of(slot / SESSIONS, slot % SESSIONS);
+    (session.port < PORTS).then_some(session)
 }
 
 fn read_credentials(bytes: &[u8]) -> Option<[Credential; CREDENTIALS]> {
@@ -105,17 +117,17 @@ fn read_processes(bytes: &[u8]) -> Option<Vec<Process>> {
 
 fn read_process(place: &[u8]) -> Option<Process> {
     let credential = usize::from(place[0]);
-    let session = usize::from(place[2]);
+    let session = session_in(place[2])?;
     let next = u16::from_le_bytes([place[3], place[4]]);
     let mut name: Name = [0; NAME_LENGTH];
     name.copy_from_slice(&place[5..]);
-    if credential >= CREDENTIALS || session >= SESSIONS {
+    if credential >= CREDENTIALS {
         return None;
     }
-    let kind = match (place[1], session, next) {
-        (0, session, next) => Kind::ActiveUser { session, next },
-        (1, session, 0) => Kind::ActiveElevation { session },
-        // a save has counted one
+    let kind = match (place[1], place[2], next) {
+        (0, _, next) => Kind::ActiveUser { session, next },
+        (1, _, 0) => Kind::ActiveElevation { session },
+        // a save has counted one; what is saved has neither port nor session, and its byte is kept zero
         (2, 0, next) if next > 0 => Kind::SavedUser { next },
         _ => return None,
     };
@@ -141,7 +153,7 @@ fn keeps_the_rules(module: &Module) -> bool {
 
 fn stands_in_a_version(module: &Module, process: &Process) -> bool {
     match process.kind.session() {
-        Some(session) => module.sessions[session] == Session::OpenWithVersion,
+        Some(session) => module.phase(session) == Phase::OpenWithVersion,
         None => true,
     }
 }
@@ -159,20 +171,21 @@ fn may_stand_together(one: &Process, other: &Process) -> bool {
     !rivals && !same_name(&one.name, &other.name)
 }
 
-/// The example of docs/STATE.md: sessions 0 and 1 open, session 0 with a version; credentials 0 and 1; three processes with the names P, Q and R.
+/// The example of docs/STATE.md: sessions 0 and 1 of port 0 and session 0 of port 1 open, both sessions 0 with a version; credentials 0 and 1; three processes with the
+/// names P, Q and R.
 pub fn example() -> Vec<u8> {
     let mut bytes = vec![0; STATE_LENGTH];
-    bytes[..4].copy_from_slice(&[2, 1, 0, 0]);
-    bytes[4..13].copy_from_slice(&[1, 0x0f, 0, 0, 0, 0, 0, 0, 0]);
-    bytes[13..22].copy_from_slice(&[1, 0x10, 0, 0, 0, 0, 0, 0, 0]);
-    bytes[76] = 3;
-    bytes[77..82].copy_from_slice(&[0, 0, 0, 3, 0]);
-    bytes[98..130].fill(0x11);
-    bytes[130..135].copy_from_slice(&[1, 2, 0, 0x2c, 1]);
-    bytes[151..183].fill(0x22);
-    bytes[183..188].copy_from_slice(&[1, 1, 0, 0, 0]);
-    bytes[204..235].fill(0x11);
-    bytes[235] = 0x12;
+    bytes[..8].copy_from_slice(&[2, 1, 0, 0, 2, 0, 0, 0]);
+    bytes[8..17].copy_from_slice(&[1, 0x0f, 0, 0, 0, 0, 0, 0, 0]);
+    bytes[17..26].copy_from_slice(&[1, 0x10, 0, 0, 0, 0x10, 0, 0, 0]);
+    bytes[80] = 3;
+    bytes[81..86].copy_from_slice(&[0, 0, 0, 3, 0]);
+    bytes[102..134].fill(0x11);
+    bytes[134..139].copy_from_slice(&[1, 2, 0, 0x2c, 1]);
+    bytes[155..187].fill(0x22);
+    bytes[187..192].copy_from_slice(&[1, 1, 4, 0, 0]);
+    bytes[208..239].fill(0x11);
+    bytes[239] = 0x12;
     bytes
 }
 
@@ -193,12 +206,17 @@ mod tests {
                 (
                     0,
                     Kind::ActiveUser {
-                        session: 0,
+                        session: Session::of(0, 0),
                         next: 3
                     }
                 ),
                 (1, Kind::SavedUser { next: 300 }),
-                (1, Kind::ActiveElevation { session: 0 }),
+                (
+                    1,
+                    Kind::ActiveElevation {
+                        session: Session::of(1, 0)
+                    }
+                ),
             ]
         );
         assert_eq!(write(&module), example());
@@ -208,19 +226,27 @@ mod tests {
     fn each_changed_byte_of_the_page_makes_no_state() {
         let changes = [
             (3, 0, 3),
-            (4, 1, 2),
-            (23, 0, 1),
-            (36, 0, 1),
-            (76, 3, 2),
-            (76, 3, 4),
-            (76, 3, 0x0d),
-            (77, 0, 2),
-            (79, 0, 1),
-            (79, 0, 2),
-            (132, 0, 1),
-            (187, 0, 1),
-            (235, 0x12, 0x11),
-            (712, 0, 1),
+            (7, 0, 3),
+            (8, 1, 2),
+            (30, 0, 1),
+            (40, 0, 1),
+            (79, 0, 0x80),
+            (80, 3, 2),
+            (80, 3, 4),
+            (80, 3, 0x0d),
+            (81, 0, 2),
+            (83, 0, 1),
+            (83, 0, 2),
+            (83, 0, 5),
+            (83, 0, 8),
+            (136, 0, 1),
+            (136, 0, 4),
+            (189, 4, 1),
+            (189, 4, 5),
+            (189, 4, 8),
+            (191, 0, 1),
+            (239, 0x12, 0x11),
+            (716, 0, 1),
         ];
         for (at, from, to) in changes {
             let mut bytes = example();
@@ -230,11 +256,57 @@ mod tests {
         }
     }
 
+    /// Of active processes, all sessions having a version; a saved one has none.
+    #[test]
+    fn a_slot_is_a_session_of_a_port() {
+        let slots = [[0, 1, 2, 3], [4, 5, 6, 7]];
+        let mut bytes = example();
+        bytes[..8].fill(2);
+        for slot in 0..=255 {
+            let its_slot = |session: &Session| slots[session.port][session.handle] == slot;
+            let session = Session::all().find(its_slot);
+            let right = [
+                session.map(Some),
+                (slot == 0).then_some(None),
+                session.map(Some),
+            ];
+            for (place, right) in right.into_iter().enumerate() {
+                let mut changed = bytes.clone();
+                changed[PLACES_AT + PLACE_LENGTH * place + 2] = slot;
+                let held = read(&changed);
+                let found = held
+                    .as_ref()
+                    .map(|module| module.processes[place].kind.session());
+                assert_eq!(found, right, "slot {slot} of place {place}");
+                assert!(held.map_or(true, |module| write(&module) == changed));
+            }
+        }
+    }
+
+    #[test]
+    fn a_port_has_its_own_limits() {
+        let [p, q, r] = [[1; NAME_LENGTH], [2; NAME_LENGTH], [3; NAME_LENGTH]];
+        let mut module = Module::fresh([Credential::with(0, 0); CREDENTIALS]);
+        module.sessions = [[Phase::OpenWithVersion; SESSIONS]; PORTS];
+        for one in Session::all() {
+            for other in Session::all() {
+                let users = [(one, p), (other, q)]
+                    .map(|(session, name)| Process::user(session, 1, 0, name));
+                let elevations = [(one, p), (other, q)]
+                    .map(|(session, name)| Process::elevation(session, 1, name));
+                for two in [users, elevations] {
+                    module.processes = [&two[..], &[Process::saved(1, 1, r)]].concat();
+                    assert_eq!(read(&write(&module)).is_some(), one != other, "{two:?}");
+                }
+            }
+        }
+    }
+
     #[test]
     fn a_saved_process_has_counted_one() {
         let mut bytes = example();
         for (next, holds) in [([0, 0], false), ([1, 0], true), ([0, 1], true)] {
-            bytes[133..135].copy_from_slice(&next);
+            bytes[137..139].copy_from_slice(&next);
             assert_eq!(read(&bytes).is_some(), holds, "{next:?}");
         }
     }
@@ -261,8 +333,8 @@ mod tests {
     fn all_zero_is_a_state_and_another_length_is_none() {
         let unprovisioned = Module::fresh([Credential::UNPROVISIONED; 8]);
         assert_eq!(read(&[0; STATE_LENGTH]), Some(unprovisioned));
-        // 681 bytes were a state before there were second words
-        for length in [0, 681, STATE_LENGTH - 1, STATE_LENGTH + 1] {
+        // 681 bytes were a state before there were second words, and 713 before there was a second port
+        for length in [0, 681, 713, STATE_LENGTH - 1, STATE_LENGTH + 1] {
             assert_eq!(read(&vec![0; length]), None);
         }
     }

@@ -7,7 +7,9 @@
 use crate::messages::{self, Row};
 use crate::number::{refuse_unless, refuse_when, Number};
 
-/// There are four sessions, handles 0 to 3.
+/// There are two ports, 0 and 1.
+pub const PORTS: usize = 2;
+/// Each port has its own four sessions, handles 0 to 3.
 pub const SESSIONS: usize = 4;
 /// There are eight credentials, 0 to 7.
 pub const CREDENTIALS: usize = 8;
@@ -26,9 +28,31 @@ const SET_WORDS: u32 = 3;
 /// What the hash unit works out for a process.
 pub type Name = [u8; NAME_LENGTH];
 
+/// A session of a port. Wherever document 01 says session, it is both together.
+#[derive(Clone, Copy, Debug, PartialEq, Eq)]
+pub struct Session {
+    /// The port.
+    pub port: usize,
+    /// The handle among the port's sessions.
+    pub handle: usize,
+}
+
+impl Session {
+    /// The session of that port with that handle.
+    pub const fn of(port: usize, handle: usize) -> Session {
+        Session { port, handle }
+    }
+
+    /// The sessions of both ports, port 0's first.
+    pub fn all() -> impl DoubleEndedIterator<Item = Session> {
+        let handles = |port| (0..SESSIONS).map(move |handle| Session::of(port, handle));
+        (0..PORTS).flat_map(handles)
+    }
+}
+
 /// A session's phase.
 #[derive(Clone, Copy, Debug, PartialEq, Eq)]
-pub enum Session {
+pub enum Phase {
     /// Closed.
     Closed,
     /// Open without a version.
@@ -83,14 +107,14 @@ pub enum Kind {
     /// Type 0.
     ActiveUser {
         /// The session it is active in.
-        session: usize,
+        session: Session,
         /// Its next number.
         next: u16,
     },
     /// Type 1.
     ActiveElevation {
         /// The session it is active in.
-        session: usize,
+        session: Session,
     },
     /// Type 2.
     SavedUser {
@@ -110,7 +134,7 @@ impl Kind {
     }
 
     /// The session of an active process.
-    pub fn session(self) -> Option<usize> {
+    pub fn session(self) -> Option<Session> {
         match self {
             Kind::ActiveUser { session, .. } | Kind::ActiveElevation { session } => Some(session),
             Kind::SavedUser { .. } => None,
@@ -127,6 +151,35 @@ pub struct Process {
     pub kind: Kind,
     /// Its name.
     pub name: Name,
+}
+
+impl Process {
+    /// A user process that is active in the session.
+    pub const fn user(session: Session, credential: usize, next: u16, name: Name) -> Process {
+        Process {
+            credential,
+            kind: Kind::ActiveUser { session, next },
+            name,
+        }
+    }
+
+    /// The elevation of the session.
+    pub const fn elevation(session: Session, credential: usize, name: Name) -> Process {
+        Process {
+            credential,
+            kind: Kind::ActiveElevation { session },
+            name,
+        }
+    }
+
+    /// A saved one, which has neither port nor session.
+    pub const fn saved(credential: usize, next: u16, name: Name) -> Process {
+        Process {
+            credential,
+            kind: Kind::SavedUser { next },
+            name,
+        }
+    }
 }
 
 /// A claim of a protected call.
@@ -161,11 +214,11 @@ pub enum Wanted {
 /// The module.
 #[derive(Clone, Debug, PartialEq, Eq)]
 pub struct Module {
-    /// The sessions by handle.
-    pub sessions: [Session; SESSIONS],
-    /// The credentials.
+    /// The phases of each port's sessions, by handle.
+    pub sessions: [[Phase; SESSIONS]; PORTS],
+    /// The credentials, which both ports share.
     pub credentials: [Credential; CREDENTIALS],
-    /// The processes in the order of their starts.
+    /// The processes of both ports in the order of their starts.
     pub processes: Vec<Process>,
 }
 
@@ -175,10 +228,10 @@ pub fn same_name(one: &Name, other: &Name) -> bool {
 }
 
 impl Module {
-    /// A fresh module: all sessions closed and no process. Both words of an unprovisioned credential are taken as zero.
+    /// A fresh module: all sessions of both ports closed and no process. Both words of an unprovisioned credential are taken as zero.
     pub fn fresh(credentials: [Credential; CREDENTIALS]) -> Module {
         Module {
-            sessions: [Session::Closed; SESSIONS],
+            sessions: [[Phase::Closed; SESSIONS]; PORTS],
             credentials: credentials.map(|given| match given.provisioned {
                 true => Credential::with(given.word, given.second),
                 false => Credential::UNPROVISIONED,
@@ -188,48 +241,46 @@ impl Module {
     }
 
     /// Open.
-    pub fn open(&mut self, session: usize) -> Result<(), Number> {
-        refuse_unless(self.sessions[session] == Session::Closed, Number::Session)?;
-        self.sessions[session] = Session::OpenWithoutVersion;
+    pub fn open(&mut self, session: Session) -> Result<(), Number> {
+        refuse_unless(self.phase(session) == Phase::Closed, Number::Session)?;
+        self.set_phase(session, Phase::OpenWithoutVersion);
         Ok(())
     }
 
-    /// Close: the session's active processes are removed; saved ones stay.
-    pub fn close(&mut self, session: usize) -> Result<(), Number> {
+    /// Close: the session's active processes are removed; saved ones stay, and so do those of the port's other sessions and of the other port.
+    pub fn close(&mut self, session: Session) -> Result<(), Number> {
         self.check_open(session)?;
-        self.sessions[session] = Session::Closed;
+        self.set_phase(session, Phase::Closed);
         self.processes
             .retain(|process| process.kind.session() != Some(session));
         Ok(())
     }
 
     /// Select: 4. A second choice changes nothing.
-    pub fn select(&mut self, session: usize, version: u32) -> Result<(), Number> {
+    pub fn select(&mut self, session: Session, version: u32) -> Result<(), Number> {
         self.check_open(session)?;
         refuse_unless(version == 0x10, Number::Version)?;
-        self.sessions[session] = Session::OpenWithVersion;
+        self.set_phase(session, Phase::OpenWithVersion);
         Ok(())
     }
 
     /// Start: 5; 7 if that credential has an active user process in that session; 12; 11.
-    pub fn start(&mut self, session: usize, credential: usize, name: Name) -> Result<(), Number> {
+    pub fn start(&mut self, session: Session, credential: usize, name: Name) -> Result<(), Number> {
         self.check_version(session)?;
         self.check_provisioned(credential)?;
         self.check_no_active_user(session, credential)?;
         self.check_new_name(&name)?;
         self.check_place()?;
-        self.processes.push(Process {
-            credential,
-            kind: Kind::ActiveUser { session, next: 0 },
-            name,
-        });
+        self.processes
+            .push(Process::user(session, credential, 0, name));
         Ok(())
     }
 
-    /// Continue: 5; 6 unless a saved process has that credential and that name; 7 as for start. It keeps its place and its next number.
+    /// Continue: 5; 6 unless a saved process has that credential and that name; 7 as for start. It keeps its place and its next number, on whichever port it was
+    /// saved.
     pub fn continue_saved(
         &mut self,
-        session: usize,
+        session: Session,
         credential: usize,
         name: Name,
     ) -> Result<(), Number> {
@@ -246,7 +297,7 @@ impl Module {
     /// Elevate: 5; 8; 7 if the session has an elevation; 12; 11.
     pub fn elevate(
         &mut self,
-        session: usize,
+        session: Session,
         credential: usize,
         name: Name,
         verdict: bool,
@@ -260,16 +311,13 @@ impl Module {
         )?;
         self.check_new_name(&name)?;
         self.check_place()?;
-        self.processes.push(Process {
-            credential,
-            kind: Kind::ActiveElevation { session },
-            name,
-        });
+        self.processes
+            .push(Process::elevation(session, credential, name));
         Ok(())
     }
 
     /// Drop: 6; removes the elevation, and the session stays open.
-    pub fn drop_elevation(&mut self, session: usize) -> Result<(), Number> {
+    pub fn drop_elevation(&mut self, session: Session) -> Result<(), Number> {
         self.check_version(session)?;
         let place = self.find_elevation(session).ok_or(Number::NoProcess)?;
         self.processes.remove(place);
@@ -277,7 +325,7 @@ impl Module {
     }
 
     /// End: claim; if keep, 10 and 18 by class 2. The process, its claim counted, is saved, or removed when not kept.
-    pub fn end(&mut self, session: usize, claim: UserClaim, keep: bool) -> Result<(), Number> {
+    pub fn end(&mut self, session: Session, claim: UserClaim, keep: bool) -> Result<(), Number> {
         self.check_version(session)?;
         let (place, next) = self.take_user_claim(session, claim)?;
         if keep {
@@ -290,7 +338,7 @@ impl Module {
     }
 
     /// Record: claim; 10; 18.
-    pub fn record(&mut self, session: usize, claim: Claim, class: u32) -> Result<(), Number> {
+    pub fn record(&mut self, session: Session, claim: Claim, class: u32) -> Result<(), Number> {
         self.check_version(session)?;
         let credential = self.take_claim(session, claim)?;
         self.check_granted(claim, credential, class)
@@ -299,7 +347,7 @@ impl Module {
     /// List: claim; if wanted differs from the claim's credential, 10 and 18 by class 0; 15. Answers with the message.
     pub fn list(
         &mut self,
-        session: usize,
+        session: Session,
         claim: Claim,
         wanted: Wanted,
         room: usize,
@@ -316,7 +364,7 @@ impl Module {
 
     /// Kill: claim; 6 if no process that this claim may kill has the name. It may kill its own credential's processes of every type, and all where class 1 is
     /// granted to it.
-    pub fn kill(&mut self, session: usize, claim: Claim, name: Name) -> Result<(), Number> {
+    pub fn kill(&mut self, session: Session, claim: Claim, name: Name) -> Result<(), Number> {
         self.check_version(session)?;
         let credential = self.take_claim(session, claim)?;
         let reaches_all = self.check_granted(claim, credential, KILL_OTHERS).is_ok();
@@ -333,7 +381,7 @@ impl Module {
     /// Set word: claim; 10 and 18 by class 3; 5. Sets both words.
     pub fn set_word(
         &mut self,
-        session: usize,
+        session: Session,
         claim: Claim,
         target: usize,
         word: u32,
@@ -364,8 +412,18 @@ impl Module {
             .collect()
     }
 
+    /// The phase of a session.
+    pub fn phase(&self, session: Session) -> Phase {
+        self.sessions[session.port][session.handle]
+    }
+
+    /// Puts a session into a phase.
+    pub fn set_phase(&mut self, session: Session, phase: Phase) {
+        self.sessions[session.port][session.handle] = phase;
+    }
+
     /// The active user process of that credential in that session: its place and its next number.
-    pub fn find_active_user(&self, session: usize, credential: usize) -> Option<(usize, u16)> {
+    pub fn find_active_user(&self, session: Session, credential: usize) -> Option<(usize, u16)> {
         self.processes
             .iter()
             .enumerate()
@@ -380,7 +438,7 @@ impl Module {
     }
 
     /// The place of the session's elevation.
-    pub fn find_elevation(&self, session: usize) -> Option<usize> {
+    pub fn find_elevation(&self, session: Session) -> Option<usize> {
         self.processes
             .iter()
             .position(|process| process.kind == Kind::ActiveElevation { session })
@@ -411,14 +469,14 @@ impl Module {
             })
     }
 
-    fn check_open(&self, session: usize) -> Result<(), Number> {
-        refuse_when(self.sessions[session] == Session::Closed, Number::Session)
+    fn check_open(&self, session: Session) -> Result<(), Number> {
+        refuse_when(self.phase(session) == Phase::Closed, Number::Session)
     }
 
-    fn check_version(&self, session: usize) -> Result<(), Number> {
+    fn check_version(&self, session: Session) -> Result<(), Number> {
         self.check_open(session)?;
         refuse_when(
-            self.sessions[session] == Session::OpenWithoutVersion,
+            self.phase(session) == Phase::OpenWithoutVersion,
             Number::NoVersion,
         )
     }
@@ -427,7 +485,7 @@ impl Module {
         refuse_unless(self.credentials[credential].provisioned, Number::Credential)
     }
 
-    fn check_no_active_user(&self, session: usize, credential: usize) -> Result<(), Number> {
+    fn check_no_active_user(&self, session: Session, credential: usize) -> Result<(), Number> {
         refuse_when(
             self.find_active_user(session, credential).is_some(),
             Number::AlreadyActive,
@@ -459,7 +517,7 @@ impl Module {
 
     /// The check of a claim, by which a user's is counted. Elevated: 6 unless the session has an active elevation; the credential is that process's, and
     /// nothing is counted. Answers with the claim's credential.
-    fn take_claim(&mut self, session: usize, claim: Claim) -> Result<usize, Number> {
+    fn take_claim(&mut self, session: Session, claim: Claim) -> Result<usize, Number> {
         match claim {
             Claim::Elevated => {
                 let place = self.find_elevation(session).ok_or(Number::NoProcess)?;
@@ -476,7 +534,7 @@ impl Module {
     /// number, even if the call is refused afterwards; one that does not adds nothing. Answers with the process's place and the number that is next then.
     fn take_user_claim(
         &mut self,
-        session: usize,
+        session: Session,
         claim: UserClaim,
     ) -> Result<(usize, u16), Number> {
         self.check_provisioned(claim.credential)?;

@@ -1,60 +1,14 @@
 //! Document 01's thirteen steps, "Sequences on both sides of each bound", with the numbers that document 02 corrects, through the model's entries. They run on
 //! from each other, so each test begins with the steps before its own. Behind them stands what document 02 asks of a refused claim, and then the steps of its
-//! order 7, with second words; the words of document 01's steps have none.
+//! order 7, with second words; the words of document 01's steps have none. All of them are on port 0; [`crate::port_steps`] has those on both ports.
 
 use crate::entries::{self, Lent, RawClaim};
 use crate::figures::figures;
 use crate::layout::STATE_LENGTH;
-use crate::module::{Credential, Kind, Module};
+use crate::module::{Credential, Kind, Module, Session, SPENT};
+use crate::port_steps::{denied, name_of, user, ELEVATED, P, Q, R};
 
-const SPENT: u16 = 65_535;
-
-fn p() -> [u8; 48] {
-    name_of(0x11)
-}
-
-fn q() -> [u8; 48] {
-    name_of(0x22)
-}
-
-fn r() -> [u8; 48] {
-    let mut name = p();
-    name[47] = 0x12;
-    name
-}
-
-/// 16 zero bytes, then 32 of the byte.
-fn name_of(byte: u8) -> [u8; 48] {
-    let mut name = [0; 48];
-    name[16..].fill(byte);
-    name
-}
-
-fn user(credential: u32, number: u16) -> RawClaim {
-    RawClaim {
-        kind: 0,
-        credential,
-        number,
-        verdict: 1,
-    }
-}
-
-/// What it carries beside its kind is ignored.
-const ELEVATED: RawClaim = RawClaim {
-    kind: 1,
-    credential: 99,
-    number: 99,
-    verdict: 99,
-};
-
-fn denied(credential: u32, number: u16) -> RawClaim {
-    RawClaim {
-        verdict: 0,
-        ..user(credential, number)
-    }
-}
-
-/// The module of the steps, and the calls as the steps write them: the session is 0 where a step doesn't say.
+/// The module of the steps, and the calls as the steps write them: the session is port 0's, and 0 where a step doesn't say.
 struct Steps {
     lent: Lent,
 }
@@ -83,20 +37,20 @@ impl Steps {
         assert_eq!(steps.open(4), 1);
         assert_eq!(steps.open(0), 0);
         assert_eq!(steps.open(0), 2);
-        assert_eq!(steps.start(0, p()), 3);
+        assert_eq!(steps.start(0, P), 3);
         assert_eq!(steps.select(0x20), 4);
         assert_eq!(steps.select(0x10), 0);
         assert_eq!(steps.select(0x10), 0);
-        assert_eq!(steps.start(2, p()), 5);
-        assert_eq!(steps.start(0, p()), 0);
-        assert_eq!(steps.start(1, p()), 12);
+        assert_eq!(steps.start(2, P), 5);
+        assert_eq!(steps.start(0, P), 0);
+        assert_eq!(steps.start(1, P), 12);
         steps
     }
 
     fn after_step_8() -> Steps {
         let mut steps = Steps::after_step_3();
-        assert_eq!(steps.start(1, r()), 0);
-        assert_eq!(steps.start(1, p()), 7);
+        assert_eq!(steps.start(1, R), 0);
+        assert_eq!(steps.start(1, P), 7);
         assert_eq!(steps.record(user(1, 0), 4), 0);
         assert_eq!(steps.record(user(1, 0), 4), 9);
         assert_eq!(steps.record(denied(1, 1), 4), 8);
@@ -104,15 +58,15 @@ impl Steps {
         assert_eq!(steps.record(user(1, 2), 4), 0);
         assert_eq!(steps.record(user(1, 3), 3), 1);
         assert_eq!(steps.record(user(1, 3), 31), 10);
-        assert_eq!(steps.kill(user(1, 4), p()), 6);
-        assert_eq!(steps.kill(user(1, 5), q()), 6);
+        assert_eq!(steps.kill(user(1, 4), P), 6);
+        assert_eq!(steps.kill(user(1, 5), Q), 6);
         steps
     }
 
     /// Step 11 up to its end, which saves P.
     fn after_the_save() -> Steps {
         let mut steps = Steps::after_step_8();
-        assert_eq!(steps.kill(user(0, 0), r()), 0);
+        assert_eq!(steps.kill(user(0, 0), R), 0);
         assert_eq!(steps.record(user(1, 2), 4), 6);
         assert_eq!(steps.list(user(0, 1), 65_535, &mut [0; 54]), (15, 0));
         assert_eq!(steps.list(user(0, 2), 65_535, &mut [0; 55]), (0, 55));
@@ -129,9 +83,9 @@ impl Steps {
     /// Step 11 from there on.
     fn continue_p(&mut self) {
         assert_eq!(self.open(1), 0);
-        assert_eq!(entries::select(&mut self.lent, 1, 0x10), 0);
-        assert_eq!(entries::continue_saved(&mut self.lent, 1, 0, &q()), 6);
-        assert_eq!(entries::continue_saved(&mut self.lent, 1, 0, &p()), 0);
+        assert_eq!(entries::select(&mut self.lent, 0, 1, 0x10), 0);
+        assert_eq!(entries::continue_saved(&mut self.lent, 0, 1, 0, &Q), 6);
+        assert_eq!(entries::continue_saved(&mut self.lent, 0, 1, 0, &P), 0);
     }
 
     /// Writes an image and restores it into a slice that holds no state.
@@ -152,28 +106,28 @@ impl Steps {
     }
 
     fn open(&mut self, session: u32) -> u32 {
-        entries::open(&mut self.lent, session)
+        entries::open(&mut self.lent, 0, session)
     }
 
     fn select(&mut self, version: u32) -> u32 {
-        entries::select(&mut self.lent, 0, version)
+        entries::select(&mut self.lent, 0, 0, version)
     }
 
     fn start(&mut self, credential: u32, name: [u8; 48]) -> u32 {
-        entries::start(&mut self.lent, 0, credential, &name)
+        entries::start(&mut self.lent, 0, 0, credential, &name)
     }
 
     fn record(&mut self, claim: RawClaim, class: u32) -> u32 {
-        entries::record(&mut self.lent, 0, claim, class)
+        entries::record(&mut self.lent, 0, 0, claim, class)
     }
 
     fn kill(&mut self, claim: RawClaim, name: [u8; 48]) -> u32 {
-        entries::kill(&mut self.lent, 0, claim, &name)
+        entries::kill(&mut self.lent, 0, 0, claim, &name)
     }
 
     fn list(&mut self, claim: RawClaim, wanted: u32, response: &mut [u8]) -> (u32, usize) {
         let mut length = 999;
-        let number = entries::list(&mut self.lent, 0, claim, wanted, response, &mut length);
+        let number = entries::list(&mut self.lent, 0, 0, claim, wanted, response, &mut length);
         (number, length)
     }
 
@@ -182,12 +136,13 @@ impl Steps {
     }
 
     fn set_words(&mut self, claim: RawClaim, target: u32, word: u32, second: u32) -> u32 {
-        entries::set_word(&mut self.lent, 0, claim, target, word, second)
+        entries::set_word(&mut self.lent, 0, 0, claim, target, word, second)
     }
 
     fn end(&mut self, claim: RawClaim, keep: u32) -> u32 {
         entries::end(
             &mut self.lent,
+            0,
             0,
             claim.credential,
             claim.number,
@@ -201,7 +156,7 @@ impl Steps {
 fn steps_1_to_3() {
     let steps = Steps::after_step_3();
     assert_eq!(steps.module().processes.len(), 1);
-    assert_eq!(steps.module().processes[0].name, p());
+    assert_eq!(steps.module().processes[0].name, P);
     assert_eq!(steps.module().credentials[2], Credential::UNPROVISIONED);
 }
 
@@ -211,7 +166,7 @@ fn steps_4_to_8() {
     assert_eq!(
         steps.module().processes[1].kind,
         Kind::ActiveUser {
-            session: 0,
+            session: Session::of(0, 0),
             next: 6
         }
     );
@@ -220,7 +175,7 @@ fn steps_4_to_8() {
 #[test]
 fn step_9() {
     let mut steps = Steps::after_step_8();
-    assert_eq!(steps.kill(user(0, 0), r()), 0);
+    assert_eq!(steps.kill(user(0, 0), R), 0);
     assert_eq!(steps.record(user(1, 2), 4), 6);
     assert_eq!(steps.module().processes.len(), 1);
 }
@@ -228,7 +183,7 @@ fn step_9() {
 #[test]
 fn step_10() {
     let mut steps = Steps::after_step_8();
-    assert_eq!(steps.kill(user(0, 0), r()), 0);
+    assert_eq!(steps.kill(user(0, 0), R), 0);
     let mut response = [0xee; 54];
     assert_eq!(steps.list(user(0, 1), 65_535, &mut response), (15, 0));
     assert_eq!(response, [0xee; 54]);
@@ -236,7 +191,7 @@ fn step_10() {
     assert_eq!(steps.list(user(0, 1), 65_535, &mut response), (9, 0));
     assert_eq!(steps.list(user(0, 2), 65_535, &mut response), (0, 55));
     assert_eq!(response[..7], [0x0e, 0, 1, 0, 0, 0, 0]);
-    assert_eq!(response[7..55], p());
+    assert_eq!(response[7..55], P);
     assert_eq!(response[55..], [0xee; 2]);
 }
 
@@ -246,7 +201,7 @@ fn step_11() {
     assert_eq!(
         steps.module().processes[0].kind,
         Kind::ActiveUser {
-            session: 1,
+            session: Session::of(0, 1),
             next: 4
         }
     );
@@ -262,11 +217,11 @@ fn step_11_with_power_cycles() {
     assert_eq!(image[10..18], [15, 0, 0, 0, 16, 0, 0, 0]);
     assert_eq!(image[18..74], [0; 56]);
     assert_eq!(image[74..78], [0, 0, 4, 0]);
-    assert_eq!(image[78..], p());
-    assert_eq!(steps.start(0, r()), 2);
+    assert_eq!(image[78..], P);
+    assert_eq!(steps.start(0, R), 2);
     steps.continue_p();
     let mut uninterrupted = Steps::after_step_11();
-    assert_eq!(entries::close(&mut uninterrupted.lent, 0), 0);
+    assert_eq!(entries::close(&mut uninterrupted.lent, 0, 0), 0);
     assert_eq!(steps.module(), uninterrupted.module());
     assert_eq!(steps.power_cycle().len(), 74);
     assert!(steps.module().processes.is_empty());
@@ -278,24 +233,24 @@ fn step_12() {
     for byte in 1..=11 {
         assert_eq!(steps.start(1, name_of(byte)), 0);
         let claim = user(0, 3 + u16::from(byte));
-        let set = entries::set_word(&mut steps.lent, 1, claim, 1, 0x14, 0);
+        let set = entries::set_word(&mut steps.lent, 0, 1, claim, 1, 0x14, 0);
         assert_eq!(set, 0);
         assert_eq!(steps.end(user(1, 0), 1), 0);
     }
     assert_eq!(steps.module().processes.len(), 12);
-    assert_eq!(steps.start(2, q()), 5);
-    assert_eq!(steps.start(1, p()), 12);
-    assert_eq!(steps.start(1, q()), 11);
-    let killed = entries::kill(&mut steps.lent, 1, user(0, 15), &name_of(5));
+    assert_eq!(steps.start(2, Q), 5);
+    assert_eq!(steps.start(1, P), 12);
+    assert_eq!(steps.start(1, Q), 11);
+    let killed = entries::kill(&mut steps.lent, 0, 1, user(0, 15), &name_of(5));
     assert_eq!(killed, 0);
-    assert_eq!(steps.start(1, q()), 0);
-    assert_eq!(steps.module().processes[11].name, q());
+    assert_eq!(steps.start(1, Q), 0);
+    assert_eq!(steps.module().processes[11].name, Q);
 }
 
 /// Numbers 0 to 65,534 of credential 1 in turn, each answered so; then every number gets 13.
 fn spent_by(class: u32, answer: u32) -> Steps {
     let mut steps = Steps::after_step_3();
-    assert_eq!(steps.start(1, r()), 0);
+    assert_eq!(steps.start(1, R), 0);
     for number in 0..SPENT {
         assert_eq!(
             steps.record(user(1, number), class),
@@ -324,12 +279,12 @@ fn step_13_by_refusals() {
 #[test]
 fn the_relays_attack() {
     let mut steps = Steps::after_step_3();
-    assert_eq!(steps.kill(user(0, 0), r()), 6);
-    assert_eq!(steps.start(1, r()), 0);
+    assert_eq!(steps.kill(user(0, 0), R), 6);
+    assert_eq!(steps.start(1, R), 0);
     let before = steps.lent.clone();
-    assert_eq!(steps.kill(user(0, 0), r()), 9);
+    assert_eq!(steps.kill(user(0, 0), R), 9);
     assert_eq!(steps.lent, before);
-    assert_eq!(steps.kill(user(0, 1), r()), 0);
+    assert_eq!(steps.kill(user(0, 1), R), 0);
 }
 
 /// A refusal after the claim: whose user claim it is, the answer, and the call.
@@ -341,7 +296,7 @@ const AFTER_THE_CLAIM: [Refused; 7] = [
     (1, 10, |steps, claim| steps.record(claim, 5)),
     (1, 10, |steps, claim| steps.list(claim, 0, &mut [0; 616]).0),
     (1, 15, |steps, claim| steps.list(claim, 1, &mut [0; 54]).0),
-    (1, 6, |steps, claim| steps.kill(claim, q())),
+    (1, 6, |steps, claim| steps.kill(claim, Q)),
     (1, 10, |steps, claim| steps.set_word(claim, 1)),
     (0, 5, |steps, claim| steps.set_word(claim, 2)),
 ];
@@ -349,7 +304,7 @@ const AFTER_THE_CLAIM: [Refused; 7] = [
 /// P and R stand, of credentials 0 and 1.
 fn two_standing() -> Steps {
     let mut steps = Steps::after_step_3();
-    assert_eq!(steps.start(1, r()), 0);
+    assert_eq!(steps.start(1, R), 0);
     steps
 }
 
@@ -359,7 +314,7 @@ fn a_refusal_after_the_claim_spends_the_number_and_nothing_else() {
         let mut steps = two_standing();
         let mut expected = steps.module().clone();
         expected.processes[credential as usize].kind = Kind::ActiveUser {
-            session: 0,
+            session: Session::of(0, 0),
             next: 1,
         };
         assert_eq!(call(&mut steps, user(credential, 0)), number);
@@ -389,7 +344,7 @@ fn an_argument_error_leaves_everything() {
     assert_eq!(steps.end(user(1, 0), 2), 1);
     assert_eq!(steps.record(user(1, 0), 32), 1);
     assert_eq!(steps.list(user(1, 0), 8, &mut [0; 616]), (1, 0));
-    let short = entries::kill(&mut steps.lent, 0, user(1, 0), &p()[..47]);
+    let short = entries::kill(&mut steps.lent, 0, 0, user(1, 0), &P[..47]);
     assert_eq!(short, 1);
     assert_eq!(steps.set_word(user(0, 0), 8), 1);
     assert_eq!(steps.lent, before);
@@ -400,7 +355,7 @@ fn an_elevated_claim_counts_nothing() {
     for (credential, number, call) in &AFTER_THE_CLAIM[1..] {
         let mut steps = two_standing();
         let lent = &mut steps.lent;
-        assert_eq!(entries::elevate(lent, 0, *credential, &name_of(3), 1), 0);
+        assert_eq!(entries::elevate(lent, 0, 0, *credential, &name_of(3), 1), 0);
         let before = steps.lent.clone();
         assert_eq!(call(&mut steps, ELEVATED), *number);
         assert_eq!(steps.lent, before);
@@ -414,9 +369,9 @@ impl Steps {
         let mut steps = Steps::of(&[(15, 0), (0x30, 0x60), (15, 15)]);
         assert_eq!(steps.open(0), 0);
         assert_eq!(steps.select(0x10), 0);
-        assert_eq!(steps.start(0, p()), 0);
-        assert_eq!(steps.start(1, r()), 0);
-        assert_eq!(steps.start(2, q()), 0);
+        assert_eq!(steps.start(0, P), 0);
+        assert_eq!(steps.start(1, R), 0);
+        assert_eq!(steps.start(2, Q), 0);
         steps
     }
 
@@ -445,7 +400,7 @@ impl Steps {
 
     fn after_the_refused_words() -> Steps {
         let mut steps = Steps::after_the_lists();
-        assert_eq!(steps.kill(user(2, 4), p()), 6);
+        assert_eq!(steps.kill(user(2, 4), P), 6);
         assert_eq!(steps.kill(user(2, 5), name_of(9)), 6);
         assert_eq!(steps.end(user(2, 6), 1), 18);
         assert_eq!(steps.set_word(user(2, 7), 1), 18);
@@ -457,7 +412,7 @@ impl Steps {
 
     fn after_the_elevation() -> Steps {
         let mut steps = Steps::after_the_refused_words();
-        let elevated = entries::elevate(&mut steps.lent, 0, 2, &name_of(3), 1);
+        let elevated = entries::elevate(&mut steps.lent, 0, 0, 2, &name_of(3), 1);
         assert_eq!(elevated, 0);
         assert_eq!(steps.set_word(ELEVATED, 3), 5);
         assert_eq!(steps.set_words(ELEVATED, 1, 0x30, 0x10), 0);
@@ -470,7 +425,7 @@ impl Steps {
         let mut steps = Steps::after_the_elevation();
         assert_eq!(steps.list(ELEVATED, 65_535, &mut [0; 207]), (15, 0));
         assert_eq!(steps.list(ELEVATED, 65_535, &mut [0; 208]), (0, 208));
-        assert_eq!(steps.kill(ELEVATED, p()), 0);
+        assert_eq!(steps.kill(ELEVATED, P), 0);
         assert_eq!(steps.record(ELEVATED, 5), 10);
         assert_eq!(steps.set_words(ELEVATED, 2, 0x2f, 0x2f), 0);
         assert_eq!(steps.record(ELEVATED, 5), 0);
@@ -515,9 +470,9 @@ fn order_7_steps_6_and_7() {
 #[test]
 fn order_7_step_8() {
     let mut steps = Steps::after_the_elevated_calls();
-    assert_eq!(entries::drop(&mut steps.lent, 0), 0);
+    assert_eq!(entries::drop(&mut steps.lent, 0, 0), 0);
     assert_eq!(steps.record(ELEVATED, 5), 6);
-    assert_eq!(steps.kill(user(2, 10), q()), 0);
+    assert_eq!(steps.kill(user(2, 10), Q), 0);
     assert_eq!(steps.module().processes.len(), 1);
 }
 
@@ -591,9 +546,9 @@ fn order_7_step_10() {
     let held = Steps::after_the_starts().lent.bytes();
     let holds = |bytes: &[u8]| entries::holds(&mut Lent::of(bytes));
     assert_eq!(holds(&held), 0);
-    assert_eq!(holds(&changed(&held, 9 + 9 * 3, 1)), 1);
+    assert_eq!(holds(&changed(&held, 13 + 9 * 3, 1)), 1);
     let longer = [&held[..], &[0]].concat();
-    for length in [681, 712, 714] {
+    for length in [681, 713, 716, 718] {
         assert_eq!(holds(&longer[..length]), 1);
     }
 }
@@ -614,7 +569,7 @@ fn an_18_spends_the_number_and_nothing_else() {
         assert_eq!(steps.set_words(claim, 2, 0x2f, 0x2f), 0);
         let mut expected = steps.module().clone();
         expected.processes[2].kind = Kind::ActiveUser {
-            session: 0,
+            session: Session::of(0, 0),
             next: 1,
         };
         assert_eq!(call(&mut steps, user(2, 0)), 18);
