@@ -85,7 +85,7 @@ isKept which call p = isActiveOf which p && spares call p
 
 -- ---- one change after another, and each by itself
 module _ {which : Session → Bool} {call : Call} where
-  kept-same : {st : State} → Untouched which call st st
+  pub kept-same : {st : State} → Untouched which call st st
   kept-same = record { phases = λ s h. refl; processes = refl; grants = λ h. refl }
 
   kept-then : {st mid next : State} → Untouched which call st mid → Untouched which call mid next → Untouched which call st next
