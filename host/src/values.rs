@@ -198,7 +198,7 @@ impl TryFrom<(u32, u32)> for Session {
 
 impl fmt::Display for Session {
     fn fmt(&self, f: &mut fmt::Formatter<'_>) -> fmt::Result {
-        write!(f, "{}.{}", self.port, self.handle)
+        f.pad(&format!("{}.{}", self.port, self.handle))
     }
 }
 
