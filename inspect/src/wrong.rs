@@ -1,7 +1,7 @@
 //! Tries the wrong builds. Each is made by itself in a copy of its crate, and the prover has to refuse the copy, at the fact that the edit names.
 //!
-//! The copies of a crate are checked one after another over what was checked before of them, so that one costs what its edit changes and not the whole
-//! crate. That can't let a wrong build pass for a refused one: a refusal is an error of this very check, and the crate as it stands was proved from nothing by
+//! The copies of a crate are checked one after another over what was checked of it before, when it was proved and of the copies so far, so that one costs what
+//! its edit changes and not the whole crate. That can't let a wrong build pass for a refused one: a refusal is an error of this very check, and the crate as it stands was proved from nothing by
 //! `rt ci`. Those that documents 01 and 02 name `rt ci` tries itself, from nothing; of these the log is read here.
 
 use crate::edit::{Edit, Fact, Shelf};
