@@ -264,7 +264,7 @@ impl Module {
         Ok(())
     }
 
-    /// Start: 5; 7 if that credential has an active user process in that session; 12; 11.
+    /// Start: 5; 7 if that credential has an active user process in that session; 12; 11. Names are unique over both ports, and the places serve both.
     pub fn start(&mut self, session: Session, credential: usize, name: Name) -> Result<(), Number> {
         self.check_version(session)?;
         self.check_provisioned(credential)?;
@@ -363,7 +363,7 @@ impl Module {
     }
 
     /// Kill: claim; 6 if no process that this claim may kill has the name. It may kill its own credential's processes of every type, and all where class 1 is
-    /// granted to it.
+    /// granted to it, on either port.
     pub fn kill(&mut self, session: Session, claim: Claim, name: Name) -> Result<(), Number> {
         self.check_version(session)?;
         let credential = self.take_claim(session, claim)?;
@@ -396,7 +396,7 @@ impl Module {
         Ok(())
     }
 
-    /// The rows of a listing: every process of the wanted credential, or all, in table order.
+    /// The rows of a listing: every process of the wanted credential, or all, of both ports in table order.
     pub fn rows(&self, wanted: Wanted) -> Vec<Row> {
         self.processes
             .iter()
