@@ -6,6 +6,7 @@
 
 use crate::messages::{self, Row};
 use crate::number::{refuse_unless, refuse_when, Number};
+use std::fmt;
 
 /// There are two ports, 0 and 1.
 pub const PORTS: usize = 2;
@@ -47,6 +48,13 @@ impl Session {
     pub fn all() -> impl DoubleEndedIterator<Item = Session> {
         let handles = |port| (0..SESSIONS).map(move |handle| Session::of(port, handle));
         (0..PORTS).flat_map(handles)
+    }
+}
+
+/// Its port and its handle, with a dot between them.
+impl fmt::Display for Session {
+    fn fmt(&self, out: &mut fmt::Formatter) -> fmt::Result {
+        write!(out, "{}.{}", self.port, self.handle)
     }
 }
 
