@@ -62,8 +62,8 @@ impl Across {
             Some(session) => {
                 let counted_over = session.port == 0 && session.handle < PORTS * SESSIONS;
                 let one_bit = session.port < 2 * PORTS && session.handle < SESSIONS;
-                self.count(Met::HandleOfBothPorts, counted_over);
-                self.count(Met::PortOfOneBit, one_bit);
+                self.count(Met::HandleOfBothPorts, number == 1 && counted_over);
+                self.count(Met::PortOfOneBit, number == 1 && one_bit);
             }
             None => {
                 let made_anew = matches!(call, Call::Fresh { .. } | Call::Restore { .. });
@@ -76,11 +76,14 @@ impl Across {
 
     fn note_session(&mut self, call: &Call, number: u32, before: &Module, session: Session) {
         let twin = Session::of(1 - session.port, session.handle);
-        let is_of_the_other = |process: &&Process| {
-            let its = process.kind.session();
-            its.is_some_and(|its| its.port != session.port)
+        let of_port = |port| {
+            let is_there = move |process: &&Process| {
+                let its = process.kind.session();
+                its.is_some_and(|its| its.port == port)
+            };
+            before.processes.iter().filter(is_there)
         };
-        let others: Vec<&Process> = before.processes.iter().filter(is_of_the_other).collect();
+        let others: Vec<&Process> = of_port(twin.port).collect();
         let is_named = |name: &[u8]| others.iter().any(|process| process.name == name);
         let is_used = |session| {
             let mut processes = before.processes.iter();
@@ -92,8 +95,8 @@ impl Across {
                 self.count(Met::NameTaken, is_named(name))
             }
             (Call::Start { .. } | Call::Elevate { .. }, 11) => {
-                let both = !others.is_empty() && others.len() < before.processes.len();
-                self.count(Met::Full, both)
+                let own = of_port(session.port).next();
+                self.count(Met::Full, own.is_some() && !others.is_empty())
             }
             (Call::Start { credential, .. }, 0) => {
                 let beside = before.find_active_user(twin, *credential as usize);

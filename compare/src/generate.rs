@@ -617,13 +617,16 @@ impl Generator {
     }
 
     /// The session; now and then that of the same handle on the other port, or numbers that are wrong: the handle counted over both ports, or a port that is the same
-    /// in its lowest bit.
+    /// in its lowest bits, or would be if it were multiplied by four.
     fn near_session(&mut self, session: Session) -> (u32, u32) {
         let (port, handle) = numbers_of(session);
         match self.random.below(120) {
             0..=5 => (1 - port, handle),
             6 => (0, SESSIONS as u32 * port + handle),
-            7 => (port + PORTS as u32, handle),
+            7 => (
+                port + self.random.pick(&[2, 1 << 6, 1 << 14, 1 << 30]),
+                handle,
+            ),
             _ => (self.near(port), self.near(handle)),
         }
     }

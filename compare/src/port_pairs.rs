@@ -222,7 +222,10 @@ pub fn every_pair_of_sessions() -> Result<String, String> {
                 continue;
             }
             let outcome = counted.tried(sessions, standings);
-            outcome.map_err(|what| format!("{sessions:?} {standings:?}: {what}"))?;
+            outcome.map_err(|what| {
+                let [one, other] = sessions;
+                format!("{one} and {other}, {standings:?}: {what}")
+            })?;
         }
     }
     let Counted { calls, pairs } = counted;
@@ -401,7 +404,10 @@ pub fn names_places_and_words() -> Result<String, String> {
                 let session = sessions[*which as usize];
                 let call = moved(call.clone(), numbers_of(session));
                 let outcome = pair.expect(&call, *right);
-                outcome.map_err(|what| format!("{sessions:?}: {what}"))?;
+                outcome.map_err(|what| {
+                    let [one, other] = sessions;
+                    format!("{one} and {other}: {what}")
+                })?;
                 calls += 1;
             }
         }

@@ -128,7 +128,7 @@ pub fn power_cycles() -> Result<String, String> {
     for from in Session::all() {
         for (slot, to) in Session::all().enumerate() {
             let outcome = cycled.through(from, to, slot as u8);
-            outcome.map_err(|what| format!("saved in {from:?}, taken up in {to:?}: {what}"))?;
+            outcome.map_err(|what| format!("saved in {from}, taken up in {to}: {what}"))?;
         }
     }
     Ok(format!(
@@ -151,19 +151,19 @@ impl Cycled {
             return Err(format!("the image is {image:02x?}"));
         }
         self.expect(&mut pair, Call::Restore { image }, from, 0)?;
-        has(&pair, [0; 8], [1, 2, 0, SAVED_AT as u8, 0])?;
+        check_bytes(&pair, [0; 8], [1, 2, 0, SAVED_AT as u8, 0])?;
         self.expect(&mut pair, open(), to, 0)?;
         self.expect(&mut pair, select(0x10), to, 0)?;
         self.expect(&mut pair, continue_saved(1, name_of(NAME)), to, 0)?;
         let mut phases = [0; 8];
         phases[usize::from(slot)] = 2;
-        has(&pair, phases, [1, 0, slot, SAVED_AT as u8, 0])?;
+        check_bytes(&pair, phases, [1, 0, slot, SAVED_AT as u8, 0])?;
         self.expect(&mut pair, record(by(NEXT), 4), to, 9)?;
         if from != to {
             self.expect(&mut pair, record(by(SAVED_AT), 4), from, 2)?;
         }
         self.expect(&mut pair, record(by(SAVED_AT), 4), to, 0)?;
-        has(&pair, phases, [1, 0, slot, SAVED_AT as u8 + 1, 0])
+        check_bytes(&pair, phases, [1, 0, slot, SAVED_AT as u8 + 1, 0])
     }
 
     fn expect(
@@ -217,7 +217,7 @@ fn expected_image() -> Vec<u8> {
 }
 
 /// Whether the sessions and the one process have these bytes.
-fn has(pair: &Pair, phases: [u8; 8], fields: [u8; 5]) -> Result<(), String> {
+fn check_bytes(pair: &Pair, phases: [u8; 8], fields: [u8; 5]) -> Result<(), String> {
     let state = pair.archive.state();
     let place = [&fields[..], &[NAME; NAME_LENGTH]].concat();
     let is_right = state[..8] == phases

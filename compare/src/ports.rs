@@ -11,23 +11,31 @@ use slavotuk_model::layout;
 use slavotuk_model::module::{Credential, Module, Phase, Process, Session};
 use slavotuk_model::module::{CREDENTIALS, NAME_LENGTH};
 
-const PORTS: [u32; 14] = [
+/// Four times some of these is 0 or 4 in 8, 16 and 32 bits.
+const PORTS: [u32; 20] = [
     0,
     1,
     2,
     3,
     4,
+    64,
+    65,
     255,
     256,
     257,
+    16_384,
+    16_385,
     65_536,
     65_537,
+    1 << 30,
+    (1 << 30) + 1,
     1 << 31,
     (1 << 31) + 1,
     u32::MAX - 1,
     u32::MAX,
 ];
 
+/// The last are small in 32 bits with 4 added, as port 1 might.
 const HANDLES: [u32; 19] = [
     0,
     1,
@@ -45,7 +53,6 @@ const HANDLES: [u32; 19] = [
     65_539,
     1 << 31,
     (1 << 31) + 3,
-    // with a port of 1 these are 0 and 3 in 32 bits
     u32::MAX - 3,
     u32::MAX - 1,
     u32::MAX,

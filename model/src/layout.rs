@@ -254,6 +254,12 @@ mod tests {
             bytes[at] = to;
             assert_eq!(read(&bytes), None, "at {at}");
         }
+        // session 0 of the other port
+        for (at, slot) in [(83, 4), (189, 0)] {
+            let mut bytes = example();
+            bytes[at] = slot;
+            assert!(read(&bytes).is_some(), "at {at}");
+        }
     }
 
     /// Of active processes, all sessions having a version; a saved one has none.

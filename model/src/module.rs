@@ -6,6 +6,7 @@
 
 use crate::messages::{self, Row};
 use crate::number::{refuse_unless, refuse_when, Number};
+use std::fmt;
 
 /// There are two ports, 0 and 1.
 pub const PORTS: usize = 2;
@@ -47,6 +48,13 @@ impl Session {
     pub fn all() -> impl DoubleEndedIterator<Item = Session> {
         let handles = |port| (0..SESSIONS).map(move |handle| Session::of(port, handle));
         (0..PORTS).flat_map(handles)
+    }
+}
+
+/// Its port and its handle, with a dot between them.
+impl fmt::Display for Session {
+    fn fmt(&self, out: &mut fmt::Formatter) -> fmt::Result {
+        write!(out, "{}.{}", self.port, self.handle)
     }
 }
 
@@ -264,7 +272,7 @@ impl Module {
         Ok(())
     }
 
-    /// Start: 5; 7 if that credential has an active user process in that session; 12; 11.
+    /// Start: 5; 7 if that credential has an active user process in that session; 12; 11. Names are unique over both ports, and the places serve both.
     pub fn start(&mut self, session: Session, credential: usize, name: Name) -> Result<(), Number> {
         self.check_version(session)?;
         self.check_provisioned(credential)?;
@@ -363,7 +371,7 @@ impl Module {
     }
 
     /// Kill: claim; 6 if no process that this claim may kill has the name. It may kill its own credential's processes of every type, and all where class 1 is
-    /// granted to it.
+    /// granted to it, on either port.
     pub fn kill(&mut self, session: Session, claim: Claim, name: Name) -> Result<(), Number> {
         self.check_version(session)?;
         let credential = self.take_claim(session, claim)?;
@@ -396,7 +404,7 @@ impl Module {
         Ok(())
     }
 
-    /// The rows of a listing: every process of the wanted credential, or all, in table order.
+    /// The rows of a listing: every process of the wanted credential, or all, of both ports in table order.
     pub fn rows(&self, wanted: Wanted) -> Vec<Row> {
         self.processes
             .iter()

@@ -163,7 +163,9 @@ impl Row {
             let read = messages::read_row(bytes, at);
             read.is_ok_and(|row| row.name == *name)
         };
+        // a row has no port, and the reserved byte is written zero
         messages::read_count(bytes) == Ok(names.len() as u16)
+            && bytes[1] == 0
             && names.iter().enumerate().all(is_named)
     }
 }
