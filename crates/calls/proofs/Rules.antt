@@ -28,7 +28,7 @@ use Rattle.table.specs.declared.Table.{Table}
 use Rattle.table.proofs.Laws.{count-few}
 use Rattle.table.proofs.Searched.{found-at, found-none}
 use Rattle.module_state.specs.Numbers.{_when_, _unless_, _▸_}
-use Rattle.module_state.specs.Module.{sessionCount, credentialCount, isCredential, granted, unprovisioned, wordsOf, closedModule, hasActive, activePlace, activeProcess}
+use Rattle.module_state.specs.Module.{sessionCount, credentialCount, isCredential, granted, unprovisioned, wordsOf, closedModule, hasActive, activePlace, activeProcess, taken}
 use Rattle.module_state.specs.Claim.{isSpent, sought, placed, checked, grantNumber}
 use Rattle.module_state.specs.declared.Checked.{Checked}
 use Rattle.module_state.specs.declared.Claim.{Claim}
@@ -50,7 +50,7 @@ use Rattle.calls.specs.declared.Outcome.{Outcome}
 use Rattle.calls.specs.declared.Wanted.{Wanted}
 use Rattle.calls.specs.declared.Wanted.the-variants.{Every, Only}
 use Rattle.calls.specs.Listing.{headLength, amongOf, rowsOf, messageLength}
-use Rattle.calls.specs.Calls.{Call, Open, Close, Select, Start, Continue, Elevate, Drop, End, Record, ListProcesses, Kill, SetWord, killOthers, isDevice, isVersion, isWanted, isFull, hasNamed, namedPlace, isOwn, isShort, reach, Protection, Free, protection, Tests, endTests, recordTests, listTests, killTests, setWordTests, tests, asked, number, withTable, withPhase, withGrants, userProcess, elevation, activated, saved, oneMore, counted, ended, effect, left, refusal, outcome, measured, listed, taken, fresh}
+use Rattle.calls.specs.Calls.{Call, Open, Close, Select, Start, Continue, Elevate, Drop, End, Record, ListProcesses, Kill, SetWord, killOthers, isDevice, isVersion, isWanted, isFull, hasNamed, namedPlace, isOwn, isShort, reach, Protection, Free, protection, Tests, endTests, recordTests, listTests, killTests, setWordTests, tests, asked, number, withTable, withPhase, withGrants, userProcess, elevation, activated, saved, oneMore, counted, ended, effect, left, refusal, outcome, measured, listed, fresh}
 use Rattle.calls.proofs.Cut.{left-free}
 use Rattle.calls.proofs.Laws.{outcome-done, outcome-refused, number-by}
 

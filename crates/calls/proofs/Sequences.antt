@@ -14,7 +14,7 @@ use Rattle.names.specs.declared.Name.{Name}
 use Rattle.names.specs.declared.Session.{Session}
 use Rattle.table.specs.Table.{standing, size, tableOf, processAt, firstPlace, isActive, isActiveIn, isAmong, isNamed, appended, replaced, removed, withoutSession}
 use Rattle.module_state.specs.Numbers.{_when_, _unless_, _▸_}
-use Rattle.module_state.specs.Module.{isPort, isHandle, isSession, slotOf, phaseOf, isClosed, isChosen, isCredential, grantsOf, bothWords, granted, unprovisioned, wordsOf, provisioned, hasBit, lookup, hasActive, activePlace, activeProcess}
+use Rattle.module_state.specs.Module.{isPort, isHandle, isSession, slotOf, phaseOf, isClosed, isChosen, isCredential, grantsOf, bothWords, granted, unprovisioned, wordsOf, provisioned, hasBit, lookup, hasActive, activePlace, activeProcess, taken}
 use Rattle.module_state.specs.Claim.{phaseNumber, entered, sought, speaker, claimView, isInRange, isSpent, turnNumber, claimNumber, checkNumber, placed, checkOf, checked, admitted, lookupNumber, grantNumber}
 use Rattle.module_state.specs.declared.Claim.{Claim}
 use Rattle.module_state.specs.declared.Claim.the-variants.{ByUser}
@@ -24,7 +24,7 @@ use Rattle.module_state.specs.declared.State.{State}
 use Rattle.module_state.specs.declared.UserClaim.{UserClaim}
 use Rattle.module_state.specs.declared.Words.{Words}
 use Rattle.calls.specs.Listing.{rowsOf, messageLength, listing}
-use Rattle.calls.specs.Calls.{Call, isDevice, isVersion, isWanted, isFull, hasNamed, namedPlace, isOwn, isShort, reach, endTests, recordTests, listTests, killTests, setWordTests, tests, asked, numberUnder, number, counted, ended, effect, protection, aheadNumber, protectedNumber, passes, refusedAfter, charged, left, refusal, outcome, taken, fresh}
+use Rattle.calls.specs.Calls.{Call, isDevice, isVersion, isWanted, isFull, hasNamed, namedPlace, isOwn, isShort, reach, endTests, recordTests, listTests, killTests, setWordTests, tests, asked, numberUnder, number, counted, ended, effect, protection, aheadNumber, protectedNumber, passes, refusedAfter, charged, left, refusal, outcome, fresh}
 use Rattle.calls.specs.Run.{step, run, numbers}
 
 -- "P is 16 zero bytes then 32 of 0x11; Q is 16 zero bytes then 32 of 0x22; R is P with its last byte 0x12."

@@ -17,7 +17,7 @@ use Rattle.table.specs.declared.Process.{Process}
 use Rattle.table.specs.declared.Table.{Table}
 use Rattle.module_state.specs.Numbers as No
 use Rattle.module_state.specs.Numbers.{_when_, _unless_, _▸_}
-use Rattle.module_state.specs.Module.{isSession, phaseOf, isClosed, isCredential, provisioned, wordsOf, granted, closedModule, hasActive, activePlace, activeProcess}
+use Rattle.module_state.specs.Module.{isSession, phaseOf, isClosed, isCredential, provisioned, taken, granted, closedModule, hasActive, activePlace, activeProcess}
 use Rattle.module_state.specs.Claim.{entered, checked, admitted, grantNumber}
 use Rattle.module_state.specs.declared.Checked.{Checked}
 use Rattle.module_state.specs.declared.Claim.{Claim}
@@ -350,8 +350,5 @@ listed st s claim wanted room =
 
 -- ---- "A fresh module is made from eight such pairs; an unprovisioned credential's word is taken as zero. It has all sessions closed and no
 -- process."
-unfoldable pub taken : Grants → Grants
-taken pair = record { provisioned = pair .provisioned; words = wordsOf pair }
-
 unfoldable pub fresh : List Grants → State
 fresh pairs = closedModule (map taken pairs) (tableOf [])

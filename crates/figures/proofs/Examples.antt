@@ -4,10 +4,11 @@ use Prim.Native.Nat.{ℕ}
 use mathlib.Core.Path.{_≡_, refl}
 use mathlib.Core.List.{List, [], _∷_, _++_, map}
 use lib.ListN.{replicate, take}
+use Rattle.lists.specs.Lists.{sum}
 use Rattle.rows.specs.Rows.{rows}
 use Rattle.module_state.specs.Module.{provisioned, hasBit}
 use Rattle.image.proofs.Examples.{computed as image-computed}
-use Rattle.image_figures.specs.Figures.{sum, largest, classesBelow, classesHeld, classesGranted, largestNext, figuresIn, isSaid, sizeSaid, isGood, lineOf}
+use Rattle.image_figures.specs.Figures.{largest, classesBelow, classesHeld, classesGranted, largestNext, figuresIn, isSaid, sizeSaid, isGood, lineOf}
 use Rattle.image_figures.specs.declared.Line.the-variants.{Bad, Good}
 use Rattle.figures.specs.Drawer.{firstSheet, afterSheet, firstSheets, linesOf, goodOnes, totalsOf, isPast, printedOf}
 use Rattle.figures.specs.Text.{digitsUpTo, numberText, numberThen, threeText, lineText, textOf}

@@ -14,12 +14,13 @@ use lib.Dec.{eqb}
 use lib.IntN.{ℤ, pos, negsuc}
 use lib.Signed.{ltZ}
 use lib.ListN.{length, take, drop, length-append, length-map}
+use Rattle.lists.specs.Lists.{sum}
 use Rattle.lists.proofs.Tests.{split, and-right}
 use Rattle.io.proofs.Counting.{front}
 use Rattle.rows.proofs.Rows.{map-append}
 use Rattle.table.specs.Table.{places}
 use Rattle.module_state.specs.Module.{credentialCount}
-use Rattle.image_figures.specs.Figures.{sum, classCount, lineOf, sizeSaid}
+use Rattle.image_figures.specs.Figures.{classCount, lineOf, sizeSaid}
 use Rattle.image_figures.specs.declared.Figures.{Figures}
 use Rattle.image_figures.specs.declared.Line.{Line}
 use Rattle.image_figures.specs.declared.Line.the-variants.{Bad, Good}

@@ -21,7 +21,7 @@ use Rattle.table.specs.declared.Process.{Process}
 use Rattle.table.specs.declared.Table.{Table}
 use Rattle.table.proofs.Laws.{standing-of, whole-of, standing-appended, standing-replaced, standing-removed, standing-without-session}
 use Rattle.table.proofs.Searched.{user-of, named-among, saved-of}
-use Rattle.module_state.specs.Module.{closedSession, wordsOf, phaseOf, isChosen, activePlace, activeProcess, sessionCount}
+use Rattle.module_state.specs.Module.{closedSession, wordsOf, phaseOf, isChosen, activePlace, activeProcess, sessionCount, taken}
 use Rattle.module_state.specs.Claim.{checked}
 use Rattle.module_state.specs.declared.Claim.{Claim}
 use Rattle.module_state.specs.declared.Claim.the-variants.{Elevated, ByUser}
@@ -29,7 +29,7 @@ use Rattle.module_state.specs.declared.Grants.{Grants}
 use Rattle.module_state.specs.declared.Phase.{Phase}
 use Rattle.module_state.specs.declared.State.{State}
 use Rattle.module_state.specs.declared.UserClaim.{UserClaim}
-use Rattle.calls.specs.Calls.{Call, Open, Close, Drop, Select, Start, Continue, Elevate, End, Record, ListProcesses, Kill, SetWord, withTable, withPhase, withGrants, userProcess, elevation, activated, saved, oneMore, namedPlace, reach, counted, ended, effect, taken, fresh}
+use Rattle.calls.specs.Calls.{Call, Open, Close, Drop, Select, Start, Continue, Elevate, End, Record, ListProcesses, Kill, SetWord, withTable, withPhase, withGrants, userProcess, elevation, activated, saved, oneMore, namedPlace, reach, counted, ended, effect, fresh}
 use Rattle.calls.specs.Run.{step, run}
 use Rattle.module_rules.specs.Facts.{AreWords, processes, Rules, FormedGrants, FormedProcess, IsState}
 use Rattle.module_rules.proofs.Laws.{provisioned-low, chosen-low}

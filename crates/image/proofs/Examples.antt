@@ -6,7 +6,7 @@ use mathlib.Core.Bool.{Bool, true, false}
 use mathlib.Core.List.{List, [], _∷_, _++_}
 use lib.ListN.{length, replicate, set, take, drop}
 use Rattle.lists.specs.Lists.{join, padded, select}
-use Rattle.rows.specs.Bytes.{bytesOf, numberOf, numberAt}
+use Rattle.rows.specs.Bytes.{bytesOf, numberOf, numberAt, bitsNumber}
 use Rattle.rows.specs.Rows.{rows, every, pairwise}
 use Rattle.names.proofs.Examples.{P, Q, R}
 use Rattle.names.specs.Names.{nameLength, sameBytes, sameName}
@@ -19,11 +19,11 @@ use Rattle.module_state.specs.declared.Grants.{Grants}
 use Rattle.module_state.specs.declared.Phase.the-variants.{Chosen}
 use Rattle.module_state.specs.declared.State.{State}
 use Rattle.image.specs.declared.SavedRow.{SavedRow}
-use Rattle.image.specs.Image.{maskAt, wordCountAt, wordOffsetAt, rowCountAt, rowOffsetAt, wordsAt, secondsAt, savedAt, oldSavedAt, savedOwnerAt, savedNextAt, savedNameAt, savedSize, hasSeconds, isRowOffset, imageLong, numbersBytes, numbersIn, maskOf, grantIn, secondIn, secondsBytes, savedBytes, imageBytes, headIn, secondsFrom, grantsSaid, grantsIn, savedFrom, savedIn, imageIn, isOwner, isKeepable, differ, keep, headFits, wordsFit, imageFits, isImage, savedProcess, restored, savedRow, savedOf, imageOf, stateImage, renewed, cycled}
+use Rattle.image.specs.Image.{maskAt, wordCountAt, wordOffsetAt, rowCountAt, rowOffsetAt, wordsAt, secondsAt, savedAt, oldSavedAt, savedOwnerAt, savedNextAt, savedNameAt, savedSize, hasSeconds, isRowOffset, imageLong, numbersBytes, numbersIn, maskOf, grantIn, secondIn, secondsBytes, savedBytes, imageBytes, headIn, secondsFrom, grantsSaid, grantsIn, savedFrom, savedIn, imageIn, isOwner, isKeepable, differ, headFits, wordsFit, imageFits, isImage, savedProcess, restored, savedRow, savedOf, imageOf, stateImage, renewed, cycled}
 
 -- all that an example computes with: who says `unfolding computed` has it open
 unfoldable pub computed : Type 1
-unfolding join padded select bytesOf numberOf numberAt rows every pairwise sameBytes sameName standing tableOf wordsOf hasSeconds isRowOffset imageLong numbersBytes numbersIn maskOf grantIn secondIn secondsBytes savedBytes imageBytes headIn secondsFrom grantsSaid grantsIn savedFrom savedIn imageIn isOwner isKeepable differ headFits wordsFit imageFits isImage savedProcess restored savedRow savedOf imageOf stateImage renewed cycled
+unfolding join padded select bytesOf numberOf numberAt bitsNumber rows every pairwise sameBytes sameName standing tableOf wordsOf hasSeconds isRowOffset imageLong numbersBytes numbersIn maskOf grantIn secondIn secondsBytes savedBytes imageBytes headIn secondsFrom grantsSaid grantsIn savedFrom savedIn imageIn isOwner isKeepable differ headFits wordsFit imageFits isImage savedProcess restored savedRow savedOf imageOf stateImage renewed cycled
 computed = Type 0
 
 abbrev process : ℕ → Kind → ℕ → List ℕ → Process
@@ -224,14 +224,3 @@ pub record Lengths : Type 0 where
 pub lengths : Lengths
 unfolding computed
 lengths = record { written = refl; read-old = refl; none = refl; none-old = refl; one = refl; one-old = refl; most = refl }
-
--- which rows are kept: the first of two with one name; one whose name only a row has that was not kept; none of a credential that is not provisioned, none at 0
-pub record KeptRows : Type 0 where
-  pub all : keep two [] (row 0 3 P ∷ row 1 300 Q ∷ []) ≡ row 0 3 P ∷ row 1 300 Q ∷ []
-  pub first : keep two [] (row 0 3 P ∷ row 1 300 P ∷ row 1 1 Q ∷ []) ≡ row 0 3 P ∷ row 1 1 Q ∷ []
-  pub free : keep two [] (row 0 0 P ∷ row 1 300 P ∷ []) ≡ row 1 300 P ∷ []
-  pub owners : keep two [] (row 2 3 P ∷ row 8 3 Q ∷ row 256 3 R ∷ []) ≡ []
-
-pub kept-rows : KeptRows
-unfolding every sameBytes sameName isOwner isKeepable differ keep
-kept-rows = record { all = refl; first = refl; free = refl; owners = refl }

@@ -40,7 +40,7 @@ use Rattle.module_rules.specs.Facts.{processes, Owned, Apart, FormedGrants, For
 use Rattle.module_rules.proofs.Laws.{provisioned-low}
 use Rattle.image.specs.declared.ImageHead.{ImageHead}
 use Rattle.image.specs.declared.SavedRow.{SavedRow}
-use Rattle.image.specs.Image.{maskAt, wordCountAt, wordOffsetAt, rowCountAt, rowOffsetAt, wordsAt, wordsSize, secondsAt, savedAt, oldSavedAt, savedSize, hasSeconds, isRowOffset, imageLong, Image, numbersBytes, numbersIn, headNumbers, maskOf, grantIn, secondIn, secondsBytes, savedBytes, imageBytes, headIn, wordsFrom, secondsFrom, grantsSaid, grantsIn, savedFrom, savedIn, imageIn, isOwner, isKeepable, differ, keep, headFits, wordsFit, imageFits, isImage, savedProcess, moduleOf, restored, savedRow, isSavedOne, savedOf, imageOf, stateImage, renewed, cycled, imageRoom, SavedLie}
+use Rattle.image.specs.Image.{maskAt, wordCountAt, wordOffsetAt, rowCountAt, rowOffsetAt, wordsAt, wordsSize, secondsAt, savedAt, oldSavedAt, savedSize, hasSeconds, isRowOffset, imageLong, Image, numbersBytes, numbersIn, headNumbers, maskOf, grantIn, secondIn, secondsBytes, savedBytes, imageBytes, headIn, wordsFrom, secondsFrom, grantsSaid, grantsIn, savedFrom, savedIn, imageIn, isOwner, isKeepable, differ, headFits, wordsFit, imageFits, isImage, savedProcess, moduleOf, restored, savedRow, isSavedOne, savedOf, imageOf, stateImage, renewed, cycled, imageRoom, SavedLie}
 use Rattle.image.proofs.Rows.{every-anything, Small, number-codec, numbers-long, mask-small, grant-is, second-is, words-fit, grants-back, grants-length, mask-back, words-back, grants-formed, NoSecond, said-zero, seconds-zero, RowFits, rows-long, saved-codec, each-select, pairs-select}
 
 -- ---- lists made by a function
@@ -151,84 +151,6 @@ module _ (b : List ℕ) {offset n i : ℕ} (v : SavedLie b offset n) (k : i < n)
 
   pub saved-ends : Fits w64 (offset + i * savedSize + savedSize)
   saved-ends = omega (arith, offset-low offset (v .from), v .few)
-
--- ---- the rows that are kept are all rows exactly where each may be and all names differ
-module _ (grants : List Grants) where
-  abbrev isNewTo : List SavedRow → SavedRow → Bool
-  isNewTo kept r = every (λ q. differ q r) kept
-
-  record AllKept (kept l : List SavedRow) : Type 0 where
-    pub keepable : Each (λ r. isKeepable grants r ≡ true) l
-    pub new : Each (λ r. isNewTo kept r ≡ true) l
-    pub names : Pairs (λ p q. differ p q ≡ true) l
-
-  new-snoc : (kept : List SavedRow) (r x : SavedRow) → isNewTo (kept ++ (r ∷ [])) x ≡ (isNewTo kept x && differ r x)
-  unfolding every
-  new-snoc [] r x = and-true (differ r x)
-  new-snoc (q ∷ kept) r x = rw (new-snoc kept r x) (sym (and-assoc (differ q x) (isNewTo kept x) (differ r x)))
-
-  all-keep : (kept l : List SavedRow) → Each (λ r. isKeepable grants r ≡ true) l → Each (λ r. isNewTo kept r ≡ true) l → Pairs (λ p q. differ p q ≡ true) l → keep grants kept l ≡ l
-  unfolding keep
-  all-keep kept [] each-nil each-nil pairs-nil = refl
-  all-keep kept (r ∷ l) (each-cons k ks) (each-cons n ns) (pairs-cons p ps) =
-      rw (k, n, all-keep (kept ++ (r ∷ [])) l ks (each-imp₂ (λ x a d. new-snoc kept r x ∙ and-both a d) ns p) ps)
-
-  pub keep-few : (kept l : List SavedRow) → length (keep grants kept l) ≤ length l
-  unfolding keep
-  keep-few kept [] = omega arith
-  keep-few kept (r ∷ l) =
-      split (isKeepable grants r && isNewTo kept r)
-      (λ t. rw t (omega (arith, keep-few (kept ++ (r ∷ [])) l)))
-      (λ t. rw t (omega (arith, keep-few kept l)))
-
-  keep-all : (kept l : List SavedRow) → keep grants kept l ≡ l → AllKept kept l
-  unfolding keep
-  keep-all kept [] e = record { keepable = each-nil; new = each-nil; names = pairs-nil }
-  keep-all kept (r ∷ l) e =
-      split (isKeepable grants r && isNewTo kept r)
-      (λ t.
-      let rest : AllKept (kept ++ (r ∷ [])) l = keep-all (kept ++ (r ∷ [])) l (ap (λ (m : List SavedRow). drop 1 m) (rw t at e)) in
-      let both : Each (λ x. (isNewTo kept x && differ r x) ≡ true) l = each-imp (λ x h. sym (new-snoc kept r x) ∙ h) (rest .new) in
-      record {
-        keepable = each-cons (and-left (isKeepable grants r) _ t) (rest .keepable);
-        new = each-cons (and-right (isKeepable grants r) _ t) (each-imp (λ x h. and-left (isNewTo kept x) (differ r x) h) both);
-        names = pairs-cons (each-imp (λ x h. and-right (isNewTo kept x) (differ r x) h) both) (rest .names);
-      })
-      (λ t. absurd (omega (arith, keep-few kept l, ap length (rw t at e))))
-
-  pub kept-all : (l : List SavedRow) → (keep grants [] l ≡ l) ↔ ((every (isKeepable grants) l && pairwise differ l) ≡ true)
-  unfolding every
-  kept-all l = (
-    λ e. and-both (by-every (λ r q. q) (keep-all [] l e .keepable)) (by-pairwise (λ p q d. d) (keep-all [] l e .names)),
-    λ e.
-        all-keep [] l
-        (every-by (λ r q. q) l (and-left (every (isKeepable grants) l) _ e))
-        (each-all l (λ r. refl))
-        (pairwise-by (λ p q d. d) l (and-right (every (isKeepable grants) l) _ e)),
-  )
-
--- so the reader takes bytes exactly where the head, the length and the words fit and every row is kept
-pub record AllKeptIn (b : List ℕ) : Type 0 where
-  pub head : headFits (headIn b) ≡ true
-  pub long : length b ≡ imageLong (headIn b .offset) (headIn b .rows)
-  pub words : every wordsFit (grantsIn b) ≡ true
-  pub rows : keep (grantsIn b) [] (savedIn b) ≡ savedIn b
-
-pub kept-image : (b : List ℕ) → (isImage b ≡ true) ↔ AllKeptIn b
-unfolding isImage imageFits imageIn
-kept-image b = (
-  λ e.
-      record {
-        head = and-left (headFits (headIn b)) _ e;
-        long = image b e .long;
-        words = sound (imageIn b) (image b e .fits) .words;
-        rows = kept-all (grantsIn b) (savedIn b) .1 (and-right (every wordsFit (grantsIn b)) _ (image b e .fits));
-      },
-  λ v.
-      and-both (v .head)
-      (and-both (eq-eqb (length b) (imageLong (headIn b .offset) (headIn b .rows)) (v .long))
-      (and-both (v .words) (kept-all (grantsIn b) (savedIn b) .0 (v .rows)))),
-)
 
 -- ---- how long the bytes of an image are
 head-long : (mask n offset : ℕ) → length (numbersBytes 2 (headNumbers mask n offset)) ≡ wordsAt

@@ -1,26 +1,27 @@
 -- The codecs of an image: a number of k bytes, a mask with words, a row.
 -- Assumes nothing.
-use Prim.Native.Nat.{ℕ, zero, suc, _*_, _/_, _%_, _^_, _<_}
+use Prim.Native.Nat.{ℕ, zero, suc, _+_, _*_, _/_, _%_, _^_, _<_, _≤_}
 use mathlib.Core.Path.{_≡_, refl, sym, ap}
 use mathlib.Core.Bool.{Bool, true, false, cond, not, _&&_}
 use mathlib.Core.List.{List, [], _∷_, _++_, map}
-use native.Mathlib.Nat.{pow-suc, div-lt-iff-lt-mul, div-add-mod', zero-mul, suc-mul, add-comm}
+use native.Mathlib.Nat.{pow-suc, div-lt-iff-lt-mul, div-add-mod', zero-mul, suc-mul, mul-le-mul-right, add-comm}
+use native.Mathlib.Numerals.{add-one}
 use native.Mathlib.Omega.{arith}
-use lib.Arith.{digits-lt, digits-div, digits-mod}
 use lib.Dec.{eqb}
-use lib.ListN.{length, take, drop, replicate, length-append, length-drop}
+use lib.ListN.{length, getD, take, drop, replicate, length-append, length-drop, length-map}
 use borrow.Author.Tests.{eqb-true, not-false}
-use Rattle.lists.specs.Lists.{join, select, reject}
+use Rattle.lists.specs.Lists.{join, select, reject, sum}
 use Rattle.lists.specs.Each.{Each, each-nil, each-cons, Pairs}
 use Rattle.lists.proofs.Tests.{split, and-left, and-right}
+use Rattle.lists.proofs.Loops.{Summed, summed-none, summed-few, summed-more, summed-all}
 use Rattle.lists.proofs.Each.{each-imp₂, each-reject, each-left, pairs-reject}
-use Rattle.rows.specs.Bytes.{Bytes, bytesOf, numberOf, numberAt}
+use Rattle.rows.specs.Bytes.{Bytes, bytesOf, numberOf, numberAt, bitsNumber}
 use Rattle.rows.specs.Rows.{every}
-use Rattle.rows.proofs.Bytes.{length-bytes, number-back, number-forth, number-small, number-in, number-low, number-taken, part-front}
+use Rattle.rows.proofs.Bytes.{length-bytes, number-back, number-forth, number-small, number-in, number-low, number-taken, part-front, bit-forth, bits-small, bits-first, bits-rest}
 use Rattle.rows.proofs.Rows.{Codec}
 use Rattle.names.specs.Names.{nameLength, readName}
 use Rattle.names.proofs.Laws.{name-last}
-use Rattle.module_state.specs.Module.{wordSize, noWords, wordsOf}
+use Rattle.module_state.specs.Module.{unprovisioned, credentialCount, wordSize, noWords, wordsOf}
 use Rattle.module_state.specs.declared.Grants.{Grants}
 use Rattle.module_state.specs.declared.Words.{Words}
 use Rattle.module_rules.specs.Facts.{FormedGrants}
@@ -59,23 +60,9 @@ numbers-long k [] = sym (zero-mul k)
 numbers-long k (n ∷ l) = rw (length-append, length-bytes, suc-mul) (omega (arith, numbers-long k l))
 
 -- ---- a mask with words
-bit-low : (f : Bool) → cond f 1 0 < 2
-bit-low true = omega arith
-bit-low false = omega arith
-
-bit-back : (f : Bool) → eqb (cond f 1 0) 1 ≡ f
-bit-back true = refl
-bit-back false = refl
-
-bit-forth : (x : ℕ) → x < 2 → cond (eqb x 1) 1 0 ≡ x
-bit-forth zero h = refl
-bit-forth (suc zero) h = refl
-bit-forth (suc (suc x)) h = absurd (omega arith)
-
 pub mask-small : (l : List Grants) → maskOf l < 2 ^ length l
 unfolding maskOf
-mask-small [] = omega arith
-mask-small (g ∷ l) = rw pow-suc (digits-lt (mask-small l) (bit-low (g .provisioned)))
+mask-small l = rw length-map at (bits-small (map (λ (g : Grants). g .provisioned) l))
 
 -- the words of a credential that is not provisioned are written as 0, and were 0
 words-is : (g : Grants) → FormedGrants g → wordsOf g ≡ g .words
@@ -109,8 +96,8 @@ pub grants-back : {l : List Grants} → Each FormedGrants l → grantsSaid (mask
 unfolding grantsSaid maskOf
 grants-back each-nil = refl
 grants-back (each-cons {x = g} {l = l} v h) =
-    let f = bit-low (g .provisioned) in
-    rw (digits-mod (maskOf l) f, digits-div (maskOf l) f, bit-back (g .provisioned), grant-is g v, second-is g v, grants-back h)
+    let flags : List Bool = map (λ (g : Grants). g .provisioned) l in
+    rw (bits-first (g .provisioned) flags, bits-rest (g .provisioned) flags, grant-is g v, second-is g v, grants-back h)
 
 -- where there are as many words of each kind
 pub grants-length : (m : ℕ) (ws ss : List ℕ) → length ss ≡ length ws → length (grantsSaid m ws ss) ≡ length ws
@@ -120,7 +107,7 @@ grants-length m (w ∷ ws) [] l = absurd (omega arith)
 grants-length m (w ∷ ws) (s ∷ ss) l = rw (grants-length (m / 2) ws ss (omega arith))
 
 pub mask-back : (m : ℕ) (ws ss : List ℕ) → length ss ≡ length ws → m < 2 ^ length ws → maskOf (grantsSaid m ws ss) ≡ m
-unfolding grantsSaid maskOf
+unfolding grantsSaid maskOf bitsNumber
 mask-back m [] ss l h = omega arith
 mask-back m (w ∷ ws) [] l h = absurd (omega arith)
 mask-back m (w ∷ ws) (s ∷ ss) l h =
@@ -236,3 +223,24 @@ module _ {A : Type 0} (f : A → Bool) where
 
   pub pairs-select : {R : A → A → Type 0} {l : List A} → Pairs R l → Pairs R (select f l)
   pairs-select {l = l} h = rw (select-reject l) (pairs-reject (λ x. not (f x)) h)
+
+-- ---- numbers of the credentials, each small, summed up: s of the first i
+pub record SummedTo (f : Grants → ℕ) (most : ℕ) (grants : List Grants) (s i : ℕ) : Type 0 where
+  pub long : length grants ≡ credentialCount
+  pub summed : Summed f most grants s i
+
+pub sum-begin : (f : Grants → ℕ) (most : ℕ) (grants : List Grants) → length grants ≡ credentialCount → SummedTo f most grants 0 0
+sum-begin f most grants h = record { long = h; summed = summed-none f most grants }
+
+module _ {f : Grants → ℕ} {most : ℕ} {grants : List Grants} {s i : ℕ} (v : SummedTo f most grants s i) where
+  module _ (h : i < credentialCount) {x : ℕ} (e : x ≡ f (getD grants i unprovisioned)) (k : x ≤ most) where
+    pub sum-few : s + x ≤ credentialCount * most
+    sum-few =
+        let all : (i + 1) * most ≤ credentialCount * most = mul-le-mul-right most (rw add-one h) in
+        omega (arith, rw (← e) at (summed-few (v .summed) unprovisioned (rw (v .long) h) (rw (← e) k)))
+
+    pub sum-next : SummedTo f most grants (s + x) (i + 1)
+    sum-next = record { long = v .long; summed = rw e (summed-more (v .summed) unprovisioned (rw (v .long) h) (rw (← e) k)) }
+
+  pub sum-done : credentialCount ≤ i → s ≡ sum (map f grants)
+  sum-done h = summed-all (v .summed) (rw (v .long) h)

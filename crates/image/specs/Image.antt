@@ -7,9 +7,9 @@ use mathlib.Core.List.{List, [], _∷_, _++_, map}
 use lib.Dec.{eqb, leb, ltb}
 use lib.ListN.{length, getD, take, drop, replicate}
 use Rattle.lists.specs.Lists.{join, select}
-use Rattle.rows.specs.Bytes.{bytesOf, numberOf, numberAt}
+use Rattle.rows.specs.Bytes.{bytesOf, numberOf, numberAt, bitsNumber}
 use Rattle.rows.specs.Rows.{rows, every, pairwise, over}
-use Rattle.names.specs.Names.{nameLength, sameName}
+use Rattle.names.specs.Names.{nameLength, sameName, zeroName}
 use Rattle.names.specs.declared.Credential.{Credential}
 use Rattle.names.specs.declared.Kind.the-variants.{Saved}
 use Rattle.table.specs.Table.{standing, tableOf, isSaved, places}
@@ -20,6 +20,7 @@ use Rattle.module_state.specs.declared.State.{State}
 use Rattle.image.specs.declared.ImageHead.{ImageHead}
 use Rattle.image.specs.declared.ImageRead.{ImageRead}
 use Rattle.image.specs.declared.ImageTest.{ImageTest}
+use Rattle.image.specs.declared.SavedRead.{SavedRead}
 use Rattle.image.specs.declared.SavedRow.{SavedRow}
 
 -- ---- where its numbers, its words and its rows lie. `src/lib.rt` has these names for the code
@@ -99,8 +100,7 @@ headNumbers mask n offset = mask ∷ credentialCount ∷ wordsAt ∷ n ∷ offse
 
 -- bit i is credential i's
 unfoldable pub maskOf : List Grants → ℕ
-maskOf [] = 0
-maskOf (g ∷ l) = maskOf l * 2 + cond (g .provisioned) 1 0
+maskOf l = bitsNumber (map (λ (g : Grants). g .provisioned) l)
 
 -- ---- "Then eight 4-byte words, zero where unprovisioned", and "the eight second words after the first, zero where unprovisioned"
 unfoldable pub grantIn : Grants → ℕ
@@ -120,6 +120,13 @@ unfoldable pub imageBytes : Image → List ℕ
 imageBytes i =
     numbersBytes 2 (headNumbers (maskOf (i .grants)) (length (i .saved)) (i .offset))
     ++ (numbersBytes wordSize (map grantIn (i .grants)) ++ (secondsBytes (i .offset) (i .grants) ++ join (map savedBytes (i .saved))))
+
+-- what stands before the rows, and how long it is in either layout
+unfoldable pub frontBytes : List Grants → ℕ → ℕ → List ℕ
+frontBytes grants n offset = numbersBytes 2 (headNumbers (maskOf grants) n offset) ++ (numbersBytes wordSize (map grantIn grants) ++ secondsBytes offset grants)
+
+unfoldable pub frontLong : ℕ → ℕ
+frontLong offset = cond (hasSeconds offset) savedAt oldSavedAt
 
 -- ---- what bytes say, read so
 unfoldable pub headIn : List ℕ → ImageHead
@@ -167,6 +174,21 @@ savedIn b = savedAmong (headIn b .offset) (headIn b .rows) b
 unfoldable pub imageIn : List ℕ → Image
 imageIn b = record { offset = headIn b .offset; grants = grantsIn b; saved = savedIn b }
 
+-- ---- one part of bytes as a row. Order 8: "whole rows"
+unfoldable pub isWhole : List ℕ → Bool
+isWhole part = eqb (length part) savedSize
+
+-- a part that is not whole says no row
+abbrev pub noSaved : SavedRow
+noSaved = record { owner = record { 0 = 0 }; next = 0; name = zeroName }
+
+unfoldable pub readSaved : List ℕ → SavedRead
+readSaved part = cond (isWhole part) (record { fits = true; row = savedFrom part }) (record { fits = false; row = noSaved })
+
+-- and one after a row was written into it
+unfoldable pub savedOver : List ℕ → SavedRow → List ℕ
+savedOver part r = cond (isWhole part) (savedBytes r) part
+
 -- ---- which rows are kept. "provisioned owners .. and next numbers of at least 1 (a save has counted one)"
 unfoldable pub isOwner : List Grants → Credential → Bool
 isOwner grants c = getD grants (c .0) unprovisioned .provisioned
@@ -177,12 +199,6 @@ isKeepable grants r = isOwner grants (r .owner) && leb 1 (r .next)
 -- "different names"
 unfoldable pub differ : SavedRow → SavedRow → Bool
 differ r q = not (sameName (r .name) (q .name))
-
--- in order: a row is kept where it is such a one and its name differs from that of each kept before. The reader takes an image where all are (`kept-image` of the laws)
-unfoldable pub keep : List Grants → List SavedRow → List SavedRow → List SavedRow
-keep grants kept [] = []
-keep grants kept (r ∷ l) =
-    cond (isKeepable grants r && every (λ q. differ q r) kept) (r ∷ keep grants (kept ++ (r ∷ [])) l) (keep grants kept l)
 
 -- ---- "The reader accepts exactly these forms with provisioned owners, different names and next numbers of at least 1 (a save has counted one)"
 

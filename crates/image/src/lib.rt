@@ -52,6 +52,12 @@ pub struct SavedRow {
 
 // ---- what was read of bytes
 
+// A row that a part of bytes says, where the part is a whole one.
+pub struct SavedRead {
+    pub fits: bool,
+    pub row: SavedRow,
+}
+
 // The five numbers that bytes say at their head: the mask, how many words there are and from where on, how many rows and from where on.
 pub struct ImageHead {
     pub mask: u16,
@@ -72,4 +78,14 @@ pub struct ImageTest {
 pub struct ImageRead {
     pub fits: bool,
     pub state: State,
+}
+
+// What rescue answers: the length of the image that it wrote, how many nonzero words it cleared, how many rows it kept, and in the bits of a number the place of
+// each row that it dropped. All are 0 on a refusal.
+pub struct Rescued {
+    pub number: u8,
+    pub length: usize,
+    pub cleared: u16,
+    pub kept: u16,
+    pub dropped: u16,
 }

@@ -8,7 +8,7 @@ use native.Mathlib.Omega.{arith}
 use borrow.Author.Tests.{eqb-true}
 use lib.Dec.{eqb}
 use lib.ListN.{length}
-use Rattle.lists.specs.Lists.{select}
+use Rattle.lists.specs.Lists.{select, sum}
 use Rattle.lists.proofs.Tests.{split, and-left, and-right}
 use Rattle.rows.specs.Rows.{rows, every}
 use Rattle.table.specs.Table.{places}
@@ -16,7 +16,7 @@ use Rattle.module_state.specs.Module.{hasBit, credentialCount}
 use Rattle.module_state.specs.declared.Grants.{Grants}
 use Rattle.image.specs.Image.{grantsIn, imageIn, wordsFit, isImage}
 use Rattle.image.proofs.Laws.{sound, image, grants-eight}
-use Rattle.image_figures.specs.Figures.{sum, classCount, classesBelow, classesHeld, classesGranted, figuresIn, isGood, lineOf}
+use Rattle.image_figures.specs.Figures.{classCount, classesBelow, classesHeld, classesGranted, figuresIn, isGood, lineOf}
 use Rattle.image_figures.specs.declared.Figures.{Figures}
 use Rattle.image_figures.specs.declared.Line.{Line}
 use Rattle.image_figures.specs.declared.Line.the-variants.{Bad, Good}

@@ -22,42 +22,32 @@ use Rattle.module_state.specs.Module.{unprovisioned, credentialCount}
 use Rattle.module_state.specs.declared.Grants.{Grants}
 use Rattle.image.specs.declared.ImageTest.{ImageTest}
 use Rattle.image.specs.Image.{savedSize, savedNextAt, headIn, savedFrom, savedAmong, savedIn, headFits, isImage, imageTest, SavedLie}
+use Rattle.image.proofs.Rows.{SummedTo, sum-begin, sum-few, sum-next, sum-done}
 use Rattle.image.proofs.Laws.{image-lies, rowAt, saved-room, saved-fits, saved-ends}
 use Rattle.image_figures.proofs.Classes.{classes-counted, classes-few}
-use Rattle.image_figures.specs.Figures.{sum as Figures·sum, largest as Figures·largest}
+use Rattle.image_figures.specs.Figures.{largest as Figures·largest}
 use Rattle.image_figures.specs.Figures.{classCount, classesHeld, classesGranted, largestNext, figuresIn, lengthSize, isSaid, sizeSaid, isGood, lineOf}
 use Rattle.image_figures.specs.declared.Figures.{Figures}
 use Rattle.image_figures.specs.declared.Line.the-variants.{Bad, Good}
 
 -- ---- the sum over the credentials: the first i are in it
-pub record SummedTo (grants : List Grants) (sum i : ℕ) : Type 0 where
-  pub long : length grants ≡ credentialCount
-  pub few : sum ≤ i * classCount
-  pub rest : classesGranted grants ≡ sum + classesGranted (drop i grants)
+abbrev pub heldBy : Grants → ℕ
+heldBy g = classesHeld (g .words .grant)
 
-pub sum-begin : (grants : List Grants) → length grants ≡ credentialCount → SummedTo grants 0 0
-sum-begin grants h = record { long = h; few = omega arith; rest = omega arith }
+module _ {grants : List Grants} {s i : ℕ} (v : SummedTo heldBy classCount grants s i) where
+  module _ (h : i < credentialCount) {held : ℕ} (e : held ≡ heldBy (getD grants i unprovisioned)) where
+    held-few : held ≤ classCount
+    held-few = rw e (classes-few (getD grants i unprovisioned .words .grant))
 
-module _ {grants : List Grants} {sum i : ℕ} (v : SummedTo grants sum i) where
-  module _ (h : i < credentialCount) {held : ℕ} (e : held ≡ classesHeld (getD grants i unprovisioned .words .grant)) where
-    with-held : sum + held ≤ (i + 1) * classCount
-    with-held = let k : held ≤ classCount = rw e (classes-few (getD grants i unprovisioned .words .grant)) in omega (arith, v .few)
+    pub held-fits : Fits w32 (s + held)
+    held-fits = omega (arith, sum-few v h e held-few)
 
-    pub sum-fits : Fits w32 (sum + held)
-    sum-fits = let k : sum + held ≤ credentialCount * classCount = omega (arith, with-held) in omega arith
+    pub held-next : SummedTo heldBy classCount grants (s + held) (i + 1)
+    held-next = sum-next v h e held-few
 
-    pub sum-next : SummedTo grants (sum + held) (i + 1)
-    unfolding classesGranted Figures·sum
-    sum-next =
-        record {
-          long = v .long;
-          few = with-held;
-          rest = v .rest ∙ rw (drop-cons grants i unprovisioned (rw (v .long) h), add-one, e) (omega arith);
-        }
-
-  pub sum-done : credentialCount ≤ i → sum ≡ classesGranted grants
-  unfolding classesGranted Figures·sum
-  sum-done h = let k : length grants ≤ i = rw (v .long) h in sym (v .rest ∙ rw (drop-of-length-le grants k) (omega arith))
+  pub held-done : credentialCount ≤ i → s ≡ classesGranted grants
+  unfolding classesGranted
+  held-done h = sum-done v h
 
 -- ---- the largest next number: that of the first i rows
 pub record LargestTo (b : List ℕ) (offset n largest i : ℕ) : Type 0 where
@@ -143,4 +133,4 @@ module _ (said : List ℕ) where
         unfolding lineOf
         line-good n g = rw (← good-image (k ∙ e), line-image f n, g)
 
-pub ruleset rules = (needs, classes-counted, sum-begin, sum-fits, sum-next, sum-done, largest-begin, larger-next, larger-before, largest-done, saved-room, saved-fits, saved-ends, figures-lie, figures-all, size-none, size-whole, line-cut, line-bad, line-image, line-good)
+pub ruleset rules = (needs, classes-counted, sum-begin, held-fits, held-next, held-done, largest-begin, larger-next, larger-before, largest-done, saved-room, saved-fits, saved-ends, figures-lie, figures-all, size-none, size-whole, line-cut, line-bad, line-image, line-good)

@@ -1,11 +1,11 @@
 -- Document 02, order 6: "For each it prints a line with the row count, the sum over credentials of how many classes each grant word holds, and the
 -- largest next number (0 if there are no rows)". The figures of an image, and the line that a length and the bytes after it get.
-use Prim.Native.Nat.{ℕ, zero, suc, _+_, max}
+use Prim.Native.Nat.{ℕ, zero, suc, max}
 use mathlib.Core.Bool.{Bool, cond, _&&_}
 use mathlib.Core.List.{List, [], _∷_, map}
 use lib.Dec.{eqb}
 use lib.ListN.{length}
-use Rattle.lists.specs.Lists.{select}
+use Rattle.lists.specs.Lists.{select, sum}
 use Rattle.rows.specs.Bytes.{numberOf}
 use Rattle.module_state.specs.declared.Class.{Class}
 use Rattle.module_state.specs.Module.{hasBit}
@@ -15,10 +15,6 @@ use Rattle.image.specs.Image.{headIn, grantsIn, savedIn, isImage}
 use Rattle.image_figures.specs.declared.Figures.{Figures}
 use Rattle.image_figures.specs.declared.Line.{Line}
 use Rattle.image_figures.specs.declared.Line.the-variants.{Bad, Good}
-
-unfoldable pub sum : List ℕ → ℕ
-sum [] = 0
-sum (x ∷ l) = x + sum l
 
 -- 0 where there are none
 unfoldable pub largest : List ℕ → ℕ

@@ -1,16 +1,16 @@
 -- The loops that compute the functions on lists: for each, a record of what holds when its test is reached, that it holds at the
 -- start, that a turn keeps it, and what it says at the end.
 -- Assumes nothing.
-use Prim.Native.Nat.{ℕ, suc, _+_, _-_, _<_, _≤_}
+use Prim.Native.Nat.{ℕ, suc, _+_, _-_, _*_, _<_, _≤_}
 use mathlib.Core.Path.{_≡_, refl, sym, _∙_}
 use mathlib.Core.Bool.{Bool, true, false}
 use mathlib.Core.List.{List, [], _∷_, _++_, map, append-nil, append-assoc}
-use native.Mathlib.Nat.{add-zero}
+use native.Mathlib.Nat.{add-zero, suc-mul}
 use native.Mathlib.Numerals.{add-one}
 use native.Mathlib.Omega.{arith}
 use lib.ListN.{length, getD, take, drop, set, length-set, length-map, replicate, length-take, length-append, drop-of-length-le, take-append-drop, length-replicate, replicate-append-replicate}
 use lib.Seq.{drop-cons, getD-take, getD-drop, getD-append-add, length-take-le, take-take, take-suc, take-append-le, drop-append-le, append-snoc, set-at, take-at, take-all, getD-at}
-use Rattle.lists.specs.Lists.{firstIndex, reject, select, removeAt, padded}
+use Rattle.lists.specs.Lists.{firstIndex, reject, select, removeAt, padded, sum}
 use Rattle.lists.proofs.Lists.{length-remove, reject-snoc, select-snoc}
 
 map-snoc : {A B : Type 0} (f : A → B) (l : List A) (x : A) → map f (l ++ (x ∷ [])) ≡ map f l ++ (f x ∷ [])
@@ -255,6 +255,28 @@ module _ {A : Type 0} where
     pub counted-not : f (getD l i d) ≡ false → Counted f l n k (i + 1)
     counted-not e =
         record { low = omega arith; within = v .within; few = omega arith; is = rw (reached, select-snoc, e) (v .is) }
+
+  -- ---- the numbers that f makes of the elements, each small, summed up: s of the first i
+  pub record Summed (f : A → ℕ) (most : ℕ) (l : List A) (s i : ℕ) : Type 0 where
+    pub low : i ≤ length l
+    pub few : s ≤ i * most
+    pub rest : sum (map f l) ≡ s + sum (map f (drop i l))
+
+  pub summed-none : (f : A → ℕ) (most : ℕ) (l : List A) → Summed f most l 0 0
+  summed-none f most l = record { low = omega arith; few = omega arith; rest = omega arith }
+
+  module _ {f : A → ℕ} {most : ℕ} {l : List A} {s i : ℕ} (v : Summed f most l s i) where
+    module _ (d : A) (h : i < length l) (k : f (getD l i d) ≤ most) where
+      pub summed-few : s + f (getD l i d) ≤ (i + 1) * most
+      summed-few = rw (add-one, suc-mul i most) (omega (arith, v .few))
+
+      pub summed-more : Summed f most l (s + f (getD l i d)) (i + 1)
+      unfolding sum
+      summed-more = record { low = omega arith; few = summed-few; rest = v .rest ∙ rw (drop-cons l i d h, add-one) (omega arith) }
+
+    pub summed-all : length l ≤ i → s ≡ sum (map f l)
+    unfolding sum
+    summed-all h = sym (v .rest ∙ rw (drop-of-length-le l h) (omega arith))
 
   -- ---- each element replaced by what f makes of it: the first i are
   pub record Mapped (f : A → A) (l₀ l : List A) (i : ℕ) : Type 0 where

@@ -1,5 +1,5 @@
 -- Functions on lists that the contracts are made of. Their laws are in `proofs/Lists.antt`.
-use Prim.Native.Nat.{ℕ, suc, _-_}
+use Prim.Native.Nat.{ℕ, suc, _+_, _-_}
 use mathlib.Core.Bool.{Bool, false, cond, _||_}
 use mathlib.Core.List.{List, [], _∷_, _++_}
 use lib.ListN.{length, take, drop, replicate}
@@ -36,3 +36,7 @@ removeAt at l = take at l ++ drop (suc at) l
 -- the list, and after it as many z as make n elements
 unfoldable pub padded : {A : Type 0} → ℕ → A → List A → List A
 padded n z l = l ++ replicate (n - length l) z
+
+unfoldable pub sum : List ℕ → ℕ
+sum [] = 0
+sum (x ∷ xs) = x + sum xs

@@ -116,6 +116,9 @@ unprovisioned = record { provisioned = false; words = noWords }
 unfoldable pub wordsOf : Grants → Words
 wordsOf g = cond (g .provisioned) (g .words) noWords
 
+unfoldable pub taken : Grants → Grants
+taken g = record { provisioned = g .provisioned; words = wordsOf g }
+
 unfoldable pub grantsOf : State → Credential → Grants
 grantsOf st c = getD (st .credentials) (c .0) unprovisioned
 

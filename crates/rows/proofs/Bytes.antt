@@ -1,18 +1,19 @@
 -- Laws of bytes and of numbers of several bytes, for every width.
 -- Assumes nothing.
-use Prim.Native.Nat.{ℕ, zero, suc, _+_, _*_, _/_, _^_, _<_, _≤_}
+use Prim.Native.Nat.{ℕ, zero, suc, _+_, _*_, _/_, _%_, _^_, _<_, _≤_}
 use mathlib.Core.Path.{_≡_, refl, sym, ap, _∙_}
-use mathlib.Core.Bool.{true}
+use mathlib.Core.Bool.{Bool, true, false, cond}
 use mathlib.Core.List.{List, [], _∷_, _++_}
 use native.Mathlib.Nat.{pow-suc, zero-mul, mul-assoc, div-lt-iff-lt-mul, div-add-mod'}
 use native.Mathlib.Numerals.{add-one}
 use native.Mathlib.Omega.{arith}
 use borrow.Author.Tests.{eqb-true, lt-ltb, le-ltb, le-leb, lt-leb}
 use lib.Arith.{digits-lt, digits-div, digits-mod}
+use lib.Dec.{eqb}
 use lib.ListN.{length, getD, take, drop, length-take, length-drop, take-append-drop}
 use lib.Seq.{getD-drop, drop-drop, drop-cons, take-at, take-all}
 use Rattle.lists.proofs.Tests.{below, and-left, and-right}
-use Rattle.rows.specs.Bytes.{Bytes, isZero, bytesOf, numberOf, numberAt, byteOf, widthOf}
+use Rattle.rows.specs.Bytes.{Bytes, isZero, bytesOf, numberOf, numberAt, bitsNumber, byteOf, widthOf}
 use Rattle.rows.specs.Rows.{every}
 
 -- ---- bytes of a part
@@ -161,3 +162,40 @@ pub number-in : (k n : ℕ) (x y : List ℕ) → n < 256 ^ k → numberAt k (len
 unfolding numberAt
 number-in k n [] y h = rw (take-at (bytesOf k n) y k (length-bytes k n)) (number-back k n h)
 number-in k n (a ∷ x) y h = number-in k n x y h
+
+-- ---- flags as the bits of a number
+bit-low : (f : Bool) → cond f 1 0 < 2
+bit-low true = omega arith
+bit-low false = omega arith
+
+pub bit-back : (f : Bool) → eqb (cond f 1 0) 1 ≡ f
+bit-back true = refl
+bit-back false = refl
+
+pub bit-forth : (x : ℕ) → x < 2 → cond (eqb x 1) 1 0 ≡ x
+bit-forth zero h = refl
+bit-forth (suc zero) h = refl
+bit-forth (suc (suc x)) h = absurd (omega arith)
+
+pub bits-small : (l : List Bool) → bitsNumber l < 2 ^ length l
+unfolding bitsNumber
+bits-small [] = omega arith
+bits-small (f ∷ l) = rw pow-suc (digits-lt (bits-small l) (bit-low f))
+
+-- the first flag is the lowest bit, and the others are what is left
+module _ (f : Bool) (l : List Bool) where
+  pub bits-first : eqb (bitsNumber (f ∷ l) % 2) 1 ≡ f
+  unfolding bitsNumber
+  bits-first = rw (digits-mod (bitsNumber l) (bit-low f)) (bit-back f)
+
+  pub bits-rest : bitsNumber (f ∷ l) / 2 ≡ bitsNumber l
+  unfolding bitsNumber
+  bits-rest = digits-div (bitsNumber l) (bit-low f)
+
+-- one more is the highest
+pub bits-more : (l : List Bool) (f : Bool) → bitsNumber (l ++ (f ∷ [])) ≡ bitsNumber l + cond f (2 ^ length l) 0
+unfolding bitsNumber
+bits-more [] true = refl
+bits-more [] false = refl
+bits-more (x ∷ l) true = rw (bits-more l true, pow-suc) (omega arith)
+bits-more (x ∷ l) false = rw (bits-more l false) (omega arith)

@@ -27,6 +27,11 @@ numberOf (b ∷ bs) = numberOf bs * 256 + b
 unfoldable pub numberAt : ℕ → ℕ → List ℕ → ℕ
 numberAt k at b = numberOf (take k (drop at b))
 
+-- the number whose bit i is the flag at i
+unfoldable pub bitsNumber : List Bool → ℕ
+bitsNumber [] = 0
+bitsNumber (flag ∷ flags) = bitsNumber flags * 2 + cond flag 1 0
+
 -- how many bytes a number has that is asked for by a width: at most 8, which say every number of 64 bits. A width over 8 counts as 8
 unfoldable pub widthOf : ℕ → ℕ
 widthOf width = cond (leb width 8) width 8

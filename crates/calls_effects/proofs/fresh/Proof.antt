@@ -2,7 +2,7 @@
 use Rattle.lists.proofs.Loops.{Mapped}
 use Rattle.calls.specs.Calls.{taken}
 use Prim.Native.Nat.{_-_}
-use Rattle.module_state.specs.Module.{credentialCount}
+use Rattle.module_state.specs.Module.{credentialCount, taken}
 use Rattle.calls.proofs.Rules.{rules}
 use Rattle.calls_effects.proofs.fresh.Statement.{statement}
 use Rattle.calls_effects.proofs.fresh.Tie as tie

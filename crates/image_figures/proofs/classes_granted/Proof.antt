@@ -1,12 +1,14 @@
 -- written by tools/scaffold, which keeps the answers that are not a plain search
 use Prim.Native.Nat.{_-_}
 use Rattle.module_state.specs.Module.{credentialCount}
-use Rattle.image_figures.proofs.Rules.{SummedTo, rules}
+use Rattle.image.proofs.Rows.{SummedTo}
+use Rattle.image_figures.specs.Figures.{classCount}
+use Rattle.image_figures.proofs.Rules.{heldBy, rules}
 use Rattle.image_figures.proofs.classes_granted.Statement.{statement}
 use Rattle.image_figures.proofs.classes_granted.Tie as tie
 
 abbrev Inv-loop : tie.InvT-loop
-Inv-loop grants sum₀ i₀ sum i = SummedTo grants sum i
+Inv-loop grants sum₀ i₀ sum i = SummedTo heldBy classCount grants sum i
 
 abbrev μ-loop : tie.MeasureT-loop
 μ-loop grants sum₀ i₀ sum i = credentialCount - i
