@@ -76,7 +76,7 @@ offset-is offset e = split (hasSeconds offset) (λ n. inl (new-at offset n)) (λ
 pub offset-low : (offset : ℕ) → isRowOffset offset ≡ true → offset ≤ savedAt
 offset-low offset e = ⊎-elim (λ n. omega arith) (λ n. omega arith) (offset-is offset e)
 
-offset-high : (offset : ℕ) → isRowOffset offset ≡ true → oldSavedAt ≤ offset
+pub offset-high : (offset : ℕ) → isRowOffset offset ≡ true → oldSavedAt ≤ offset
 offset-high offset e = ⊎-elim (λ n. omega arith) (λ n. omega arith) (offset-is offset e)
 
 -- no length belongs to both
@@ -388,7 +388,7 @@ pub grants-eight : (b : List ℕ) → length (grantsIn b) ≡ credentialCount
 unfolding grantsIn
 grants-eight b = grants-length (headIn b .mask) (wordsFrom wordsAt b) (secondsFrom (headIn b .offset) b) (as-many (headIn b .offset) b) ∙ words-eight wordsAt b
 
-saved-length : (b : List ℕ) → length (savedIn b) ≡ headIn b .rows
+pub saved-length : (b : List ℕ) → length (savedIn b) ≡ headIn b .rows
 unfolding savedIn
 saved-length b = length-map (rows (headIn b .rows) savedSize (drop (headIn b .offset) b)) savedFrom ∙ rows-length (headIn b .rows) savedSize (drop (headIn b .offset) b)
 
