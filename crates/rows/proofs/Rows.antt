@@ -51,7 +51,6 @@ rows-whole (suc n) k b h =
     let enough : n * k + k ≤ length b = rw (suc-mul n k) at h in
     each-cons {x = take k b} (rw length-take (omega arith)) (rows-whole n k (drop k b) (rw length-drop (omega arith)))
 
-
 -- the i-th row
 pub row-at : (n k : ℕ) (b : List ℕ) (i : ℕ) (d : List ℕ) → i < n → getD (rows n k b) i d ≡ take k (drop (i * k) b)
 unfolding rows
