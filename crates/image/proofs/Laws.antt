@@ -5,7 +5,7 @@ use Prim.Native.Nat.{ℕ, _+_, _-_, _*_, _<_, _≤_}
 use mathlib.Core.Path.{_≡_, refl, sym, ap, _∙_}
 use mathlib.Core.Logic.{_↔_, _⊎_, inl, inr, ⊎-elim}
 use mathlib.Core.Bool.{Bool, true, false, _&&_}
-use mathlib.Core.List.{List, [], _∷_, _++_, map, append-nil}
+use mathlib.Core.List.{List, [], _∷_, _++_, map, append-nil, append-assoc}
 use native.Mathlib.Omega.{arith}
 use mir.Syntax.{w64}
 use mir.Val.{Fits}
@@ -40,7 +40,7 @@ use Rattle.module_rules.specs.Facts.{AreWords, processes, Owned, Apart, FormedG
 use Rattle.module_rules.proofs.Laws.{provisioned-low}
 use Rattle.image.specs.declared.ImageHead.{ImageHead}
 use Rattle.image.specs.declared.SavedRow.{SavedRow}
-use Rattle.image.specs.Image.{maskAt, wordCountAt, wordOffsetAt, rowCountAt, rowOffsetAt, wordsAt, wordsSize, secondsAt, savedAt, oldSavedAt, savedSize, hasSeconds, isRowOffset, imageLong, Image, numbersBytes, numbersIn, headNumbers, maskOf, grantIn, secondIn, secondsBytes, savedBytes, imageBytes, headIn, wordsFrom, secondsFrom, grantsSaid, grantsIn, savedFrom, savedIn, imageIn, isOwner, isKeepable, differ, headFits, wordsFit, imageFits, isImage, savedProcess, moduleOf, restored, savedRow, isSavedOne, savedOf, imageOf, stateImage, renewed, cycled, imageRoom, SavedLie}
+use Rattle.image.specs.Image.{maskAt, wordCountAt, wordOffsetAt, rowCountAt, rowOffsetAt, wordsAt, wordsSize, secondsAt, savedAt, oldSavedAt, savedSize, hasSeconds, isRowOffset, imageLong, Image, numbersBytes, numbersIn, headNumbers, maskOf, grantIn, secondIn, secondsBytes, savedBytes, imageBytes, frontBytes, frontLong, headIn, wordsFrom, secondsFrom, grantsSaid, grantsIn, savedFrom, savedIn, imageIn, isOwner, isKeepable, differ, headFits, wordsFit, imageFits, isImage, savedProcess, moduleOf, restored, savedRow, isSavedOne, savedOf, imageOf, stateImage, renewed, cycled, imageRoom, SavedLie}
 use Rattle.image.proofs.Rows.{every-anything, Small, number-codec, numbers-long, numbers-each, mask-small, grant-is, second-is, words-fit, grants-back, grants-length, mask-back, words-back, said-words, words-formed, NoSecond, said-zero, seconds-zero, RowFits, rows-long, saved-codec, each-select, pairs-select}
 
 -- ---- lists made by a function
@@ -174,27 +174,30 @@ module _ (offset : ℕ) (l : List Grants) where
   unfolding secondsBytes
   seconds-old n = rw n
 
-  -- in either layout the rows begin where the words before them end
-  seconds-long : isRowOffset offset ≡ true → length l ≡ credentialCount → secondsAt + length (secondsBytes offset l) ≡ offset
-  seconds-long o eight =
-      split (hasSeconds offset)
-      (λ n. rw (seconds-new n, numbers-long, length-map) (omega (arith, new-at offset n)))
-      (λ n. rw (seconds-old n) (omega (arith, old-at offset o n)))
+  seconds-long : length l ≡ credentialCount → secondsAt + length (secondsBytes offset l) ≡ frontLong offset
+  unfolding frontLong
+  seconds-long eight = split (hasSeconds offset) (λ n. rw (seconds-new n, n, numbers-long, length-map, eight)) (λ n. rw (seconds-old n, n))
+
+-- what stands before the rows
+pub front-long : (grants : List Grants) (n offset : ℕ) → length grants ≡ credentialCount → length (frontBytes grants n offset) ≡ frontLong offset
+unfolding frontBytes
+front-long grants n offset eight =
+    simp length-append
+    (omega (arith, head-long (maskOf grants) n offset, numbers-long wordSize (map grantIn grants), length-map grants grantIn, seconds-long offset grants eight, eight))
+
+-- in either layout they begin where it ends
+pub front-at : (offset : ℕ) → isRowOffset offset ≡ true → frontLong offset ≡ offset
+unfolding frontLong
+front-at offset o = split (hasSeconds offset) (λ n. rw n (sym (new-at offset n))) (λ n. rw n (sym (old-at offset o n)))
+
+pub front-rows : (i : Image) → imageBytes i ≡ frontBytes (i .grants) (length (i .saved)) (i .offset) ++ join (map savedBytes (i .saved))
+unfolding imageBytes frontBytes
+front-rows i = simp append-assoc
 
 image-long : (i : Image) → isRowOffset (i .offset) ≡ true → length (i .grants) ≡ credentialCount → Each (λ r. length (r .name .bytes) ≡ nameLength) (i .saved)
     → length (imageBytes i) ≡ imageLong (i .offset) (length (i .saved))
-unfolding imageBytes imageLong
-image-long i o eight n =
-    simp length-append
-    (omega (
-      arith,
-      head-long (maskOf (i .grants)) (length (i .saved)) (i .offset),
-      numbers-long wordSize (map grantIn (i .grants)),
-      length-map (i .grants) grantIn,
-      seconds-long (i .offset) (i .grants) o eight,
-      eight,
-      rows-long n,
-    ))
+unfolding imageLong
+image-long i o eight n = rw (front-rows i, length-append, front-long (i .grants) (length (i .saved)) (i .offset) eight, front-at (i .offset) o, rows-long n)
 
 -- the image of any state that a function has
 pub long-is : {st : State} → Wide st → length (stateImage st) ≡ imageRoom st
@@ -317,10 +320,9 @@ module _ {i : Image} (f : Fit i) where
 
   from-saved : drop (i .offset) b ≡ saved
   from-saved =
-      let long : ℕ = length (secondsBytes (i .offset) (i .grants)) in
-      ap (λ (o : ℕ). drop o b) (sym (seconds-long (i .offset) (i .grants) (f .offset) (f .eight)))
-      ∙ sym (drop-drop long secondsAt b)
-      ∙ rw from-seconds (drop-at (secondsBytes (i .offset) (i .grants)) saved long refl)
+      let front : List ℕ = frontBytes (i .grants) (length (i .saved)) (i .offset) in
+      let long : length front ≡ i .offset = front-long (i .grants) (length (i .saved)) (i .offset) (f .eight) ∙ front-at (i .offset) (f .offset) in
+      rw (front-rows i) (drop-at front saved (i .offset) long)
 
   firsts-are : wordsFrom wordsAt b ≡ firsts
   firsts-are = rw from-words (eight-back firsts behind firsts-many firsts-small)
