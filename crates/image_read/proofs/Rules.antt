@@ -12,13 +12,10 @@ use lib.ListN.{length, take, drop, getD, set, replicate, length-map, length-appe
 use lib.Seq.{take-all, take-suc, length-take-le, append-snoc, set-at}
 use Rattle.lists.specs.Lists.{padded}
 use Rattle.lists.proofs.Lists.{getD-any}
-use Rattle.rows.specs.Bytes.{numberAt}
 use Rattle.rows.specs.Rows.{rows}
 use Rattle.rows.proofs.Rows.{rows-length}
 use Rattle.rows.proofs.Loops.{map-part}
-use Rattle.names.specs.Names.{readName, nameLength}
 use Rattle.names.specs.declared.Kind.the-variants.{Saved}
-use Rattle.names.specs.declared.NameRead.{NameRead}
 use Rattle.table.specs.Table.{tableOf, places, freePlace}
 use Rattle.table.specs.declared.Process.{Process}
 use Rattle.table.specs.declared.Table.{Table}
@@ -26,18 +23,13 @@ use Rattle.module_state.specs.Module.{unprovisioned, credentialCount, closedMod
 use Rattle.module_state.specs.declared.State.{State}
 use Rattle.image.specs.declared.ImageRead.{ImageRead}
 use Rattle.image.specs.declared.ImageTest.{ImageTest}
+use Rattle.image.specs.declared.SavedRead.{SavedRead}
 use Rattle.image.specs.declared.SavedRow.{SavedRow}
-use Rattle.image.specs.Image.{savedOwnerAt, savedNextAt, savedNameAt, savedSize, savedFrom, savedAmong, savedIn, imageIn, isImage, imageTest, savedProcess, restored, readImage, SavedLie}
-use Rattle.image.proofs.Rows.{saved-name}
+use Rattle.image.specs.Image.{savedSize, savedFrom, savedAmong, savedIn, imageIn, readSaved, isImage, imageTest, savedProcess, restored, readImage, SavedLie}
 use Rattle.image.proofs.Laws.{image-lies, rowAt, saved-room, saved-part, saved-fits, saved-ends}
+use Rattle.image_row.proofs.Laws.{row-read}
 
 -- ---- a row
-pub saved-read : (x : List ℕ) {c n : ℕ} {read : NameRead}
-    → length x ≡ savedSize → c ≡ numberAt 2 savedOwnerAt x → n ≡ numberAt 2 savedNextAt x → read ≡ readName (take nameLength (drop savedNameAt x))
-    → _≡_ {A = SavedRow} (record { owner = record { 0 = c }; next = n; name = read .name }) (savedFrom x)
-unfolding savedFrom
-saved-read x h e f g = rw (e, f, g, saved-name x h)
-
 pub process-made : (r : SavedRow) → _≡_ {A = Process} (record { credential = r .owner; kind = Saved; session = record { 0 = 0 }; next = r .next; name = r .name }) (savedProcess r)
 unfolding savedProcess
 process-made r = refl
@@ -62,21 +54,23 @@ module _ {b : List ℕ} {offset n : ℕ} {out : List Process} {i : ℕ} (v : Rea
   pub read-low : i < n → i < places
   read-low h = omega (arith, v .lie .few)
 
-  pub read-next : {r : SavedRow} {p : Process} → i < n → r ≡ savedFrom (rowAt b offset i) → p ≡ savedProcess r → ReadTo b offset n (set out i p) (i + 1)
+  pub read-next : {read : SavedRead} {p : Process} → i < n → read ≡ readSaved (rowAt b offset i) → p ≡ savedProcess (read .row) → ReadTo b offset n (set out i p) (i + 1)
   unfolding padded
-  read-next {r} {p} h e f =
+  read-next {read} {p} h e f =
+      let r : SavedRow = read .row in
+      let whole : r ≡ savedFrom (rowAt b offset i) = ap (λ (o : SavedRead). o .row) (e ∙ row-read (rowAt b offset i) (saved-part b (v .lie) h)) in
       let l : List Process = standIn offset n b in
       let m : i < length l = rw (stand-many offset n b) h in
-      let row : getD (savedAmong offset n b) i r ≡ r = map-part savedFrom n savedSize offset b i r h ∙ sym e in
+      let row : getD (savedAmong offset n b) i r ≡ r = map-part savedFrom n savedSize offset b i r h ∙ sym whole in
       let q : p ≡ getD l i p = f ∙ ap savedProcess (sym row) ∙ sym (List·getD-map savedProcess (savedAmong offset n b) i r) ∙ getD-any l i (savedProcess r) p m in
       let t : take (i + 1) l ≡ take i l ++ (p ∷ []) = rw add-one (take-suc l i p m) ∙ ap (λ o. take i l ++ (o ∷ [])) (sym q) in
       let k : length (take i l) ≡ i = length-take-le i l (omega (arith, m)) in
       let c : length (take i l ++ (p ∷ [])) ≡ i + 1 = rw length-append (omega (arith, k)) in
-      let r : places - i ≡ suc (places - (i + 1)) = omega (arith, v .lie .few, h) in
+      let left : places - i ≡ suc (places - (i + 1)) = omega (arith, v .lie .few, h) in
       record {
         low = omega (arith, h);
         lie = v .lie;
-        is = rw (v .is, t, c, k, r, append-snoc) (set-at (take i l) freePlace (replicate (places - (i + 1)) freePlace) p i k);
+        is = rw (v .is, t, c, k, left, append-snoc) (set-at (take i l) freePlace (replicate (places - (i + 1)) freePlace) p i k);
       }
 
   pub read-done : n ≤ i → _≡_ {A = Table} (record { places = out; count = n }) (tableOf (standIn offset n b))
@@ -108,4 +102,4 @@ module _ (b : List ℕ) {tested : ImageTest} (e : tested ≡ imageTest b) where
     unfolding readImage restored imageIn savedIn imageTest
     image-read f g = rw (fits, g, f, e)
 
-pub ruleset rules = (needs, saved-read, process-made, read-begin, read-low, read-next, read-done, saved-room, saved-part, saved-fits, saved-ends, image-not, image-lie, image-read)
+pub ruleset rules = (needs, process-made, read-begin, read-low, read-next, read-done, saved-room, saved-fits, saved-ends, image-not, image-lie, image-read)

@@ -1,39 +1,19 @@
 // The module that an image makes, read into a value. docs/IMAGE.md draws the image.
 ghost use mathlib.Core.Path.{_≡_};
 ghost use mathlib.Core.List.{map};
-ghost use lib.ListN.{length};
 ghost use Rattle.table.specs.Table.{tableOf};
-ghost use Rattle.image.specs.Image.{savedSize, savedFrom, savedAmong, savedProcess, readImage, SavedLie};
+ghost use Rattle.image.specs.Image.{savedAmong, savedProcess, readImage, SavedLie};
 use image::ImageRead;
-use image::SAVED_NAME_AT;
-use image::SAVED_NEXT_AT;
-use image::SAVED_OWNER_AT;
 use image::SAVED_SIZE;
 use image::SavedRow;
 use module_state::CREDENTIALS;
 use module_state::UNPROVISIONED;
-use names::Credential;
 use names::Kind;
 use names::Session;
 use table::Process;
 use table::Table;
 
 // ---- the rows
-
-fn saved_from(row: &[u8]) -> SavedRow
-    requires { ⌜ length (now row) ≡ savedSize ⌝ }
-    ensures { λ r. ⌜ r ≡ savedFrom (now (row .entry)) ⌝ }
-{
-    let owner = rows::number16(row, SAVED_OWNER_AT);
-    let next = rows::number16(row, SAVED_NEXT_AT);
-    let read = names::read_name(&row[SAVED_NAME_AT..SAVED_SIZE]);
-    let name = read.name;
-    SavedRow {
-        owner: Credential(owner),
-        next: next,
-        name: name,
-    }
-}
 
 fn saved_process(row: SavedRow) -> Process
     ensures { λ r. ⌜ r ≡ savedProcess row ⌝ }
@@ -59,7 +39,9 @@ fn read_saved(b: &[u8], offset: usize, n: usize) -> Table
     while i < n {
         let a = offset + i * SAVED_SIZE;
         let e = a + SAVED_SIZE;
-        places[i] = saved_process(saved_from(&b[a..e]));
+        let read = image_row::read_row(&b[a..e]);
+        let row = read.row;
+        places[i] = saved_process(row);
         i += 1;
     }
     Table {

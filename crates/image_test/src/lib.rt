@@ -60,7 +60,8 @@ fn is_owner(grants: [Grants; CREDENTIALS], c: Credential) -> bool
     false
 }
 
-fn is_keepable(grants: [Grants; CREDENTIALS], row: &[u8]) -> bool
+// Whether a row may be kept, by its owner and its next number.
+pub fn is_keepable(grants: [Grants; CREDENTIALS], row: &[u8]) -> bool
     ensures { λ r. ⌜ r ≡ isKeepable grants (savedFrom (now (row .entry))) ⌝ }
 {
     let owner = Credential(rows::number16(row, SAVED_OWNER_AT));

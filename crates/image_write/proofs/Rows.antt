@@ -10,7 +10,7 @@ use lib.Pow.{pow-mono}
 use lib.ListN.{length, getD, drop, set, replicate, length-drop, length-map, List·getD-map, drop-of-length-le}
 use lib.Seq.{drop-cons}
 use Rattle.lists.proofs.Loops.{Copied, copied-none, copied-more, copied-all}
-use Rattle.rows.specs.Bytes.{bytesOf}
+use Rattle.rows.specs.Bytes.{bytesOf, bitsNumber}
 use Rattle.rows.specs.Rows.{over, Put}
 use Rattle.rows.proofs.Bytes.{length-bytes}
 use Rattle.rows.proofs.Over.{over-part}
@@ -27,7 +27,7 @@ pub record Masked (l : List Grants) (mask left : ℕ) : Type 0 where
   pub is : mask ≡ maskOf (drop left l)
 
 pub masked-none : (l : List Grants) → length l ≡ credentialCount → Masked l 0 credentialCount
-unfolding maskOf
+unfolding maskOf bitsNumber
 masked-none l h =
     let past : length l ≤ credentialCount = omega arith in
     record { low = omega arith; long = h; is = rw (drop-of-length-le l past) }
@@ -41,7 +41,7 @@ module _ {l : List Grants} {mask left : ℕ} (v : Masked l mask left) where
   module _ (h : 0 < left) {b : Bool} (e : getD l (left - 1) unprovisioned .provisioned ≡ b) where
     -- the credential before `left` comes in as the lowest bit
     pub masked-on : Masked l (mask * 2 + cond b 1 0) (left - 1)
-    unfolding maskOf
+    unfolding maskOf bitsNumber
     masked-on =
         let inside : left - 1 < length l = omega (arith, v .low, v .long) in
         let next : suc (left - 1) ≡ left = omega arith in

@@ -10,16 +10,14 @@ use borrow.Author.Tests.{lt-ltb, le-ltb}
 use borrow.Rule.Slice.PartMut.{putMid}
 use mir.Val.{Fits}
 use mir.Syntax.{w16, w64}
-use lib.ListN.{length, getD, take, drop, length-map, length-take, length-drop}
+use lib.ListN.{length, getD, take, drop, length-map}
 use Rattle.lists.specs.Lists.{select, join}
 use Rattle.lists.proofs.Lists.{length-mapped, length-select}
 use Rattle.rows.specs.Bytes.{bytesOf}
 use Rattle.rows.specs.Rows.{over, Put}
 use Rattle.rows.proofs.Bytes.{length-bytes}
 use Rattle.rows.proofs.Loops.{WroteChosen, chosen-begin, chosen-length, chosen-room, chosen-part, chosen-on, chosen-over, chosen-all}
-use Rattle.rows.proofs.Over.{over-short, over-part, put-length, put-next, put-whole}
-use Rattle.names.specs.Names.{nameIn, nameLength}
-use Rattle.names.proofs.Laws.{name-in}
+use Rattle.rows.proofs.Over.{over-short, put-length, put-next}
 use Rattle.table.specs.Table.{standing, size, places}
 use Rattle.table.specs.declared.Process.{Process}
 use Rattle.table.specs.declared.Table.{Table}
@@ -31,7 +29,8 @@ use Rattle.module_state.specs.declared.Grants.{Grants}
 use Rattle.module_state.specs.declared.State.{State}
 use Rattle.module_state.specs.declared.Words.{Words}
 use Rattle.image.specs.declared.SavedRow.{SavedRow}
-use Rattle.image.specs.Image.{maskAt, wordCountAt, wordOffsetAt, rowCountAt, rowOffsetAt, wordsAt, wordsSize, secondsAt, savedAt, savedOwnerAt, savedNextAt, savedNameAt, savedSize, hasSeconds, imageLong, numbersBytes, headNumbers, maskOf, grantIn, secondIn, secondsBytes, savedBytes, imageBytes, savedRow, isSavedOne, savedRows, savedOf, imageOf, stateImage, imageRoom, lacksRoom, ImageWritten}
+use Rattle.image.specs.Image.{maskAt, wordCountAt, wordOffsetAt, rowCountAt, rowOffsetAt, wordsAt, wordsSize, secondsAt, savedAt, savedSize, hasSeconds, imageLong, numbersBytes, headNumbers, maskOf, grantIn, secondIn, secondsBytes, savedBytes, savedOver, imageBytes, savedRow, isSavedOne, savedRows, savedOf, imageOf, stateImage, imageRoom, lacksRoom, ImageWritten}
+use Rattle.image_row.proofs.Laws.{row-over}
 use Rattle.image_write.proofs.Rows.{Masked, masked-none, masked-low, masked-on, masked-all, taken-none, taken-on, taken-all, worded-none, worded-length, worded-on, worded-all}
 
 -- ---- the mask
@@ -101,26 +100,6 @@ pub row-made : (p : Process) → _≡_ {A = SavedRow} (record { owner = p .crede
 unfolding savedRow
 row-made p = refl
 
--- its fields, one after another
-module _ (part : List ℕ) (r : SavedRow) {a b : List ℕ} (h : length part ≡ savedSize)
-    (q : a ≡ over savedOwnerAt 2 (bytesOf 2 (r .owner .0)) part) (n : b ≡ over savedNextAt 2 (bytesOf 2 (r .next)) a) where
-  owner-put : Put savedOwnerAt 2 (bytesOf 2 (r .owner .0)) part a
-  owner-put = number-put savedOwnerAt (r .owner .0) part q
-
-  next-put : Put savedNextAt 2 (bytesOf 2 (r .next)) a b
-  next-put = number-put savedNextAt (r .next) a n
-
-  stored : length b ≡ length part
-  stored = put-length next-put ∙ put-length owner-put
-
-  pub saved-put : {ys : List ℕ} → ys ≡ nameIn (take nameLength (drop savedNameAt b)) (r .name) → length ys ≡ length (take nameLength (drop savedNameAt b)) → putMid savedNameAt nameLength b ys ≡ savedBytes r
-  unfolding savedBytes
-  saved-put {ys} e g =
-      let behind : length (take nameLength (drop savedNameAt b)) ≡ nameLength = simp (length-take, length-drop) (omega (arith, stored)) in
-      let name-put : Put savedNameAt nameLength ys b (putMid savedNameAt nameLength b ys) = record { long = g ∙ behind; is = over-part savedNameAt nameLength ys b (omega (arith, stored)) } in
-      let all : putMid savedNameAt nameLength b ys ≡ (bytesOf 2 (r .owner .0) ++ bytesOf 2 (r .next)) ++ ys = put-whole (put-next (put-next owner-put next-put (omega arith)) name-put (omega arith)) h in
-      all ∙ rw (e, name-in (take nameLength (drop savedNameAt b)) (r .name) behind) (append-assoc (bytesOf 2 (r .owner .0)) (bytesOf 2 (r .next)) (r .name .bytes))
-
 -- ---- the rows
 module _ (t : Table) {n : ℕ} (e : n ≡ size t) where
   pub rows-begin : {old : List ℕ} → length (t .places) ≡ places → imageLong savedAt (length (savedRows (standing t))) ≤ length old
@@ -134,12 +113,17 @@ module _ (t : Table) {n : ℕ} (e : n ≡ size t) where
       → Put savedAt (length (savedRows (standing t)) * savedSize) (join (map savedBytes (savedRows (standing t)))) old new
   rows-end v h = rw (front t e) at (chosen-all v h)
 
-pub rows-on : {old : List ℕ} {l : List Process} {n : ℕ} {new : List ℕ} {k i : ℕ} {b : Bool} → WroteChosen isSavedOne savedRow savedBytes savedSize savedAt places l n old new k i → i < n
-    → b ≡ isSavedOne (getD l i noProcess) → b ≡ true → {row : SavedRow} {k′ : ℕ} {ys new′ : List ℕ} → row ≡ savedRow (getD l i noProcess) → ys ≡ savedBytes row
-    → new′ ≡ putMid (savedAt + k * savedSize) (savedAt + k * savedSize + savedSize - (savedAt + k * savedSize)) new ys → k′ ≡ k + 1
-    → length ys ≡ length (take (savedAt + k * savedSize + savedSize - (savedAt + k * savedSize)) (drop (savedAt + k * savedSize) new))
-    → WroteChosen isSavedOne savedRow savedBytes savedSize savedAt places l n old new′ k′ (i + 1)
-rows-on v h e t q r g m s = chosen-on v noProcess h e t (r ∙ ap savedBytes q) g m s
+module _ {old : List ℕ} {l : List Process} {n : ℕ} {new : List ℕ} {k i : ℕ} (v : WroteChosen isSavedOne savedRow savedBytes savedSize savedAt places l n old new k i) where
+  abbrev from : ℕ
+  from = savedAt + k * savedSize
+
+  -- where the next row goes
+  abbrev part : List ℕ
+  part = take (from + savedSize - from) (drop from new)
+
+  pub rows-on : i < n → {b : Bool} → b ≡ isSavedOne (getD l i noProcess) → b ≡ true → {row : SavedRow} {k′ : ℕ} {ys new′ : List ℕ} → row ≡ savedRow (getD l i noProcess) → ys ≡ savedOver part row
+      → new′ ≡ putMid from (from + savedSize - from) new ys → k′ ≡ k + 1 → length ys ≡ length part → WroteChosen isSavedOne savedRow savedBytes savedSize savedAt places l n old new′ k′ (i + 1)
+  rows-on h e t {row} q r g m s = chosen-on v noProcess h e t (r ∙ row-over part (chosen-part v noProcess h e t) row ∙ ap savedBytes q) g m s
 
 -- ---- the whole
 module _ (t : Table) {saved : ℕ} (e : saved ≡ length (savedRows (standing t))) (h : length (t .places) ≡ places) where
@@ -189,4 +173,4 @@ module _ (st : State) (old : List ℕ) {saved : ℕ} (e : saved ≡ length (save
 pub image-written : {st : State} {old new : List ℕ} {long : ℕ} → long ≡ cond (lacksRoom st (length old)) 0 (imageRoom st) → new ≡ over 0 (imageRoom st) (stateImage st) old → ImageWritten st old long new
 image-written l b = record { length-is = l; bytes-are = b }
 
-pub ruleset rules = (needs, length-mapped, masked-none, mask-double, mask-more, mask-hit, mask-miss, masked-all, head-put, grant-in, second-in, taken-none, taken-on, taken-all, worded-none, worded-length, worded-on, worded-all, both-put, count-begin, count-on, count-not, saved-all, saved-put, row-made, rows-begin, rows-end, chosen-room, chosen-part, rows-on, chosen-over, chosen-length, rows-fit, image-fits, saved-fits, short-length, short-stays, image-length, rows-start, image-put, image-written)
+pub ruleset rules = (needs, length-mapped, masked-none, mask-double, mask-more, mask-hit, mask-miss, masked-all, head-put, grant-in, second-in, taken-none, taken-on, taken-all, worded-none, worded-length, worded-on, worded-all, both-put, count-begin, count-on, count-not, saved-all, row-made, rows-begin, rows-end, chosen-room, rows-on, chosen-over, chosen-length, rows-fit, image-fits, saved-fits, short-length, short-stays, image-length, rows-start, image-put, image-written)

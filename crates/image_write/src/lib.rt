@@ -12,9 +12,6 @@ use image::MASK_AT;
 use image::ROW_COUNT_AT;
 use image::ROW_OFFSET_AT;
 use image::SAVED_AT;
-use image::SAVED_NAME_AT;
-use image::SAVED_NEXT_AT;
-use image::SAVED_OWNER_AT;
 use image::SAVED_SIZE;
 use image::SECONDS_AT;
 use image::SavedRow;
@@ -152,15 +149,6 @@ fn count_saved(t: Table) -> usize
     saved
 }
 
-fn put_saved_row(part: &mut [u8], row: SavedRow)
-    requires { ⌜ length (now part) ≡ savedSize ⌝ }
-    ensures { λ r. ⌜ now (part .exit) ≡ savedBytes row ⌝ }
-{
-    rows::put_number16(part, SAVED_OWNER_AT, row.owner.0);
-    rows::put_number16(part, SAVED_NEXT_AT, row.next);
-    names::put_name(&mut part[SAVED_NAME_AT..SAVED_SIZE], row.name);
-}
-
 fn put_saved(buffer: &mut [u8], t: Table)
     requires { ⌜ imageLong savedAt (length (savedRows (standing t))) ≤ length (now buffer) ⌝ }
     ensures { λ r. ⌜ Put savedAt (length (savedRows (standing t)) * savedSize) (join (map savedBytes (savedRows (standing t)))) (now (buffer .entry)) (now (buffer .exit)) ⌝ }
@@ -174,7 +162,7 @@ fn put_saved(buffer: &mut [u8], t: Table)
         if is_saved_one(p) {
             let a = SAVED_AT + k * SAVED_SIZE;
             let e = a + SAVED_SIZE;
-            put_saved_row(&mut buffer[a..e], saved_row(p));
+            image_row::put_row(&mut buffer[a..e], saved_row(p));
             k += 1;
         }
         i += 1;

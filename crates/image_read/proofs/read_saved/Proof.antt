@@ -25,17 +25,17 @@ add-a c = search rules
 add-e : tie.Need-add-e Inv-loop μ-loop
 add-e c = search rules
 
-sub-saved-from : tie.Need-sub-saved-from Inv-loop μ-loop
-sub-saved-from c = search rules
+sub-read-row : tie.Need-sub-read-row Inv-loop μ-loop
+sub-read-row c = search rules
 
-part-saved-from-start : tie.Need-part-saved-from-start Inv-loop μ-loop
-part-saved-from-start c = search rules
+part-read-row-start : tie.Need-part-read-row-start Inv-loop μ-loop
+part-read-row-start c = search rules
 
-part-saved-from-end : tie.Need-part-saved-from-end Inv-loop μ-loop
-part-saved-from-end c = search rules
+part-read-row-end : tie.Need-part-read-row-end Inv-loop μ-loop
+part-read-row-end c = search rules
 
-saved-from-requires : tie.Need-saved-from-requires Inv-loop μ-loop
-saved-from-requires c κs = search rules
+read-row-requires : tie.Need-read-row-requires Inv-loop μ-loop
+read-row-requires c κs = search rules
 
 saved-process-requires : tie.Need-saved-process-requires Inv-loop μ-loop
 saved-process-requires c κs = search rules
@@ -69,10 +69,10 @@ read-saved-spec =
     mul-a
     add-a
     add-e
-    sub-saved-from
-    part-saved-from-start
-    part-saved-from-end
-    saved-from-requires
+    sub-read-row
+    part-read-row-start
+    part-read-row-end
+    read-row-requires
     saved-process-requires
     mul-places
     array-set-from-places

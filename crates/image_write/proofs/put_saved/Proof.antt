@@ -38,20 +38,20 @@ add-a c = search rules
 add-e : tie.Need-add-e Inv-loop μ-loop
 add-e c = search rules
 
-sub-put-saved-row : tie.Need-sub-put-saved-row Inv-loop μ-loop
-sub-put-saved-row c = search rules
+sub-put-row : tie.Need-sub-put-row Inv-loop μ-loop
+sub-put-row c = search rules
 
-part-put-saved-row-start : tie.Need-part-put-saved-row-start Inv-loop μ-loop
-part-put-saved-row-start c = search rules
+part-put-row-start : tie.Need-part-put-row-start Inv-loop μ-loop
+part-put-row-start c = search rules
 
-part-put-saved-row-end : tie.Need-part-put-saved-row-end Inv-loop μ-loop
-part-put-saved-row-end c = search rules
+part-put-row-end : tie.Need-part-put-row-end Inv-loop μ-loop
+part-put-row-end c = search rules
 
 saved-row-requires : tie.Need-saved-row-requires Inv-loop μ-loop
 saved-row-requires c κs = search rules
 
-put-saved-row-requires : tie.Need-put-saved-row-requires Inv-loop μ-loop
-put-saved-row-requires c κs = search rules
+put-row-requires : tie.Need-put-row-requires Inv-loop μ-loop
+put-row-requires c κs = search rules
 
 add-k : tie.Need-add-k Inv-loop μ-loop
 add-k c = search rules
@@ -85,11 +85,11 @@ put-saved-spec =
     mul-a
     add-a
     add-e
-    sub-put-saved-row
-    part-put-saved-row-start
-    part-put-saved-row-end
+    sub-put-row
+    part-put-row-start
+    part-put-row-end
     saved-row-requires
-    put-saved-row-requires
+    put-row-requires
     add-k
     add-i
     loop-less

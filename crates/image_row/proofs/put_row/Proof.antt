@@ -1,7 +1,7 @@
 -- written by tools/scaffold, which keeps the answers that are not a plain search
-use Rattle.image_write.proofs.Rules.{rules}
-use Rattle.image_write.proofs.put_saved_row.Statement.{statement}
-use Rattle.image_write.proofs.put_saved_row.Tie as tie
+use Rattle.image_row.proofs.Rules.{rules}
+use Rattle.image_row.proofs.put_row.Statement.{statement}
+use Rattle.image_row.proofs.put_row.Tie as tie
 
 put-number16-requires : tie.Need-put-number16-requires
 put-number16-requires c κs = search rules
@@ -27,8 +27,11 @@ same-length c = search rules
 returns : tie.Need-returns
 returns c = search rules
 
-pub put-saved-row-spec : {M : Type 1} → statement M
-put-saved-row-spec =
+returns-2 : tie.Need-returns-2
+returns-2 c = search rules
+
+pub put-row-spec : {M : Type 1} → statement M
+put-row-spec =
     tie.close
     (tie.spec
     put-number16-requires
@@ -38,4 +41,5 @@ put-saved-row-spec =
     part-put-name-end
     put-name-requires
     same-length
-    returns)
+    returns
+    returns-2)

@@ -1,7 +1,13 @@
 -- written by tools/scaffold, which keeps the answers that are not a plain search
-use Rattle.image_read.proofs.Rules.{rules}
-use Rattle.image_read.proofs.saved_from.Statement.{statement}
-use Rattle.image_read.proofs.saved_from.Tie as tie
+use Rattle.image_row.proofs.Rules.{rules}
+use Rattle.image_row.proofs.read_row.Statement.{statement}
+use Rattle.image_row.proofs.read_row.Tie as tie
+
+no-saved-requires : tie.Need-no-saved-requires
+no-saved-requires c κs = search rules
+
+returns : tie.Need-returns
+returns c = search rules
 
 number16-requires : tie.Need-number16-requires
 number16-requires c κs = search rules
@@ -21,17 +27,19 @@ part-read-name-end c = search rules
 read-name-requires : tie.Need-read-name-requires
 read-name-requires c κs = search rules
 
-returns : tie.Need-returns
-returns c = search rules
+returns-2 : tie.Need-returns-2
+returns-2 c = search rules
 
-pub saved-from-spec : {M : Type 1} → statement M
-saved-from-spec =
+pub read-row-spec : {M : Type 1} → statement M
+read-row-spec =
     tie.close
     (tie.spec
+    no-saved-requires
+    returns
     number16-requires
     number16-requires-2
     sub-read-name
     part-read-name-start
     part-read-name-end
     read-name-requires
-    returns)
+    returns-2)
