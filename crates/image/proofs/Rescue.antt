@@ -26,7 +26,7 @@ use Rattle.module_state.specs.declared.Grants.{Grants}
 use Rattle.module_rules.proofs.Laws.{words-taken}
 use Rattle.image.specs.declared.SavedRow.{SavedRow}
 use Rattle.image.specs.Image.{wordsAt, savedAt, oldSavedAt, savedSize, savedNameAt, hasSeconds, imageLong, Image, imageBytes, headIn, grantsIn, savedFrom, savedIn, imageIn, isWhole, isOwner, isKeepable, differ, headFits, wordsFit, imageFits, isImage}
-use Rattle.image.specs.Rescue.{isUsable, nonzero, wordsCleared, cleared, stated, isKept, keptWith, keep, rowsKept, drops, rowsDropped, placesOf, dropped, placesIn, rescuedImage, rescued, rescuedLong}
+use Rattle.image.specs.Rescue.{isUsable, nonzero, wordsCleared, cleared, stated, isNew, isKept, keptWith, keep, rowsKept, drops, rowsDropped, placesOf, dropped, placesIn, rescuedImage, rescued, rescuedLong}
 use Rattle.image.proofs.Rows.{NoSecond, RowFits, saved-codec, taken-same, words-fit}
 use Rattle.image.proofs.Laws.{each-map, each-unmap, pairs-map, pairs-unmap, Head, head-has, Sound, sound, image, offset-high, Fit, grants-eight, grants-words, no-seconds, saved-length, image-is, image-back, image-bytes, image-forth}
 
@@ -69,27 +69,24 @@ none-cleared (g ∷ l) e = each-cons (cleared-fits g (omega arith)) (none-cleare
 
 -- ---- the rows: which are kept, and which are dropped
 module _ (grants : List Grants) where
-  abbrev isNewTo : List SavedRow → SavedRow → Bool
-  isNewTo before r = every (λ q. differ q r) before
-
-  new-snoc : (before : List SavedRow) (r x : SavedRow) → isNewTo (before ++ (r ∷ [])) x ≡ (isNewTo before x && differ r x)
-  unfolding every
+  new-snoc : (before : List SavedRow) (r x : SavedRow) → isNew (before ++ (r ∷ [])) x ≡ (isNew before x && differ r x)
+  unfolding isNew every
   new-snoc [] r x = and-true (differ r x)
-  new-snoc (q ∷ before) r x = rw (new-snoc before r x) (sym (and-assoc (differ q x) (isNewTo before x) (differ r x)))
+  new-snoc (q ∷ before) r x = rw (new-snoc before r x) (sym (and-assoc (differ q x) (isNew before x) (differ r x)))
 
   module _ (before : List SavedRow) (part : List ℕ) where
-    with-kept : isKept grants before part ≡ true → keptWith grants before part ≡ before ++ (savedFrom part ∷ [])
+    pub with-kept : isKept grants before part ≡ true → keptWith grants before part ≡ before ++ (savedFrom part ∷ [])
     unfolding keptWith
     with-kept t = rw t
 
-    with-dropped : isKept grants before part ≡ false → keptWith grants before part ≡ before
+    pub with-dropped : isKept grants before part ≡ false → keptWith grants before part ≡ before
     unfolding keptWith
     with-dropped t = rw t
 
     record Kept : Type 0 where
       pub whole : length part ≡ savedSize
       pub keepable : isKeepable grants (savedFrom part) ≡ true
-      pub new : isNewTo before (savedFrom part) ≡ true
+      pub new : isNew before (savedFrom part) ≡ true
 
     kept-has : isKept grants before part ≡ true → Kept
     unfolding isKept isWhole
@@ -109,10 +106,10 @@ module _ (grants : List Grants) where
   record AllKept (before : List SavedRow) (l : List (List ℕ)) : Type 0 where
     pub whole : Each (λ p. length p ≡ savedSize) l
     pub keepable : Each (λ p. isKeepable grants (savedFrom p) ≡ true) l
-    pub new : Each (λ p. isNewTo before (savedFrom p) ≡ true) l
+    pub new : Each (λ p. isNew before (savedFrom p) ≡ true) l
     pub names : Pairs (λ p q. differ (savedFrom p) (savedFrom q) ≡ true) l
 
-  all-keep : (before : List SavedRow) (l : List (List ℕ)) → Each (λ p. length p ≡ savedSize) l → Each (λ p. isKeepable grants (savedFrom p) ≡ true) l → Each (λ p. isNewTo before (savedFrom p) ≡ true) l
+  all-keep : (before : List SavedRow) (l : List (List ℕ)) → Each (λ p. length p ≡ savedSize) l → Each (λ p. isKeepable grants (savedFrom p) ≡ true) l → Each (λ p. isNew before (savedFrom p) ≡ true) l
       → Pairs (λ p q. differ (savedFrom p) (savedFrom q) ≡ true) l → (keep grants before l ≡ before ++ map savedFrom l) × (bitsNumber (drops grants before l) ≡ 0)
   unfolding keep drops bitsNumber
   all-keep before [] each-nil each-nil each-nil pairs-nil = (sym (append-nil before), refl)
@@ -130,12 +127,12 @@ module _ (grants : List Grants) where
       let here : Kept before p = kept-has before p t in
       let left : bitsNumber (drops grants (before ++ (savedFrom p ∷ [])) l) * 2 + 0 ≡ 0 = rw (t, with-kept before p t) at e in
       let rest : AllKept (before ++ (savedFrom p ∷ [])) l = keep-all (before ++ (savedFrom p ∷ [])) l (omega arith) in
-      let both : Each (λ x. (isNewTo before (savedFrom x) && differ (savedFrom p) (savedFrom x)) ≡ true) l = each-imp (λ x h. sym (new-snoc before (savedFrom p) (savedFrom x)) ∙ h) (rest .new) in
+      let both : Each (λ x. (isNew before (savedFrom x) && differ (savedFrom p) (savedFrom x)) ≡ true) l = each-imp (λ x h. sym (new-snoc before (savedFrom p) (savedFrom x)) ∙ h) (rest .new) in
       record {
         whole = each-cons (here .whole) (rest .whole);
         keepable = each-cons (here .keepable) (rest .keepable);
-        new = each-cons (here .new) (each-imp (λ x h. and-left (isNewTo before (savedFrom x)) (differ (savedFrom p) (savedFrom x)) h) both);
-        names = pairs-cons (each-imp (λ x h. and-right (isNewTo before (savedFrom x)) (differ (savedFrom p) (savedFrom x)) h) both) (rest .names);
+        new = each-cons (here .new) (each-imp (λ x h. and-left (isNew before (savedFrom x)) (differ (savedFrom p) (savedFrom x)) h) both);
+        names = pairs-cons (each-imp (λ x h. and-right (isNew before (savedFrom x)) (differ (savedFrom p) (savedFrom x)) h) both) (rest .names);
       })
       (λ t. absurd (omega (arith, rw t at e)))
 
@@ -154,7 +151,7 @@ module _ (grants : List Grants) where
       rw (with-kept before part t)
       (record {
         keepable = each-append (savedFrom part) (v .keepable) (here .keepable);
-        names = pairs-append (savedFrom part) (v .names) (every-by (λ q d. d) before (here .new));
+        names = pairs-append (savedFrom part) (v .names) (every-by (λ q d. d) before (unfold isNew in here .new));
         fits = each-append (savedFrom part) (v .fits) (saved-codec .good part (here .whole) h refl);
         bytes = each-append (savedFrom part) (v .bytes) (unfold savedFrom in bytes-drop savedNameAt part h);
       }))
@@ -326,7 +323,7 @@ module _ (b : List ℕ) (e : isImage b ≡ true) where
       all-keep (grantsIn b) [] parts
       (rows-whole (headIn b .rows) savedSize (drop (headIn b .offset) b) room)
       (each-unmap savedFrom parts (every-by (λ r q. q) (map savedFrom parts) (held .keepable)))
-      (each-all parts (λ p. unfold every in refl))
+      (each-all parts (λ p. unfold isNew every in refl))
       (pairs-unmap savedFrom parts (pairwise-by (λ p q d. d) (map savedFrom parts) (held .names)))
 
   words-all : Each (λ g. wordsFit g ≡ true) (grantsIn b)

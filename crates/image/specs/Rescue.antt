@@ -37,8 +37,11 @@ unfoldable pub stated : List ℕ → List (List ℕ)
 stated b = rows (headIn b .rows) savedSize (drop (headIn b .offset) b)
 
 -- "A row is kept if its owner is provisioned, its next number is at least 1 and its name differs from all names kept before."
+unfoldable pub isNew : List SavedRow → SavedRow → Bool
+isNew before r = every (λ q. differ q r) before
+
 unfoldable pub isKept : List Grants → List SavedRow → List ℕ → Bool
-isKept grants before part = isWhole part && (isKeepable grants (savedFrom part) && every (λ q. differ q (savedFrom part)) before)
+isKept grants before part = isWhole part && (isKeepable grants (savedFrom part) && isNew before (savedFrom part))
 
 unfoldable pub keptWith : List Grants → List SavedRow → List ℕ → List SavedRow
 keptWith grants before part = cond (isKept grants before part) (before ++ (savedFrom part ∷ [])) before
