@@ -23,9 +23,10 @@ use Rattle.rows.proofs.Loops.{and-true, and-assoc}
 use Rattle.table.specs.Table.{places}
 use Rattle.module_state.specs.Module.{unprovisioned, credentialCount, wordsOf, taken}
 use Rattle.module_state.specs.declared.Grants.{Grants}
+use Rattle.module_state.specs.declared.Words.{Words}
 use Rattle.module_rules.proofs.Laws.{words-taken}
 use Rattle.image.specs.declared.SavedRow.{SavedRow}
-use Rattle.image.specs.Image.{wordsAt, savedAt, oldSavedAt, savedSize, savedNameAt, hasSeconds, imageLong, Image, imageBytes, headIn, grantsIn, savedFrom, savedIn, imageIn, isWhole, isOwner, isKeepable, differ, headFits, wordsFit, imageFits, isImage}
+use Rattle.image.specs.Image.{wordsAt, savedAt, oldSavedAt, savedSize, savedNameAt, hasSeconds, imageLong, Image, maskOf, grantIn, secondIn, secondsBytes, imageBytes, headIn, grantsIn, savedFrom, savedIn, imageIn, isWhole, isOwner, isKeepable, differ, headFits, wordsFit, imageFits, isImage}
 use Rattle.image.specs.Rescue.{isUsable, nonzero, wordsCleared, cleared, stated, isNew, isKept, keptWith, keep, rowsKept, drops, rowsDropped, placesOf, dropped, placesIn, rescuedImage, rescued, rescuedLong}
 use Rattle.image.proofs.Rows.{NoSecond, RowFits, saved-codec, taken-same, words-fit}
 use Rattle.image.proofs.Laws.{each-map, each-unmap, pairs-map, pairs-unmap, Head, head-has, Sound, sound, image, offset-high, Fit, grants-eight, grants-words, no-seconds, saved-length, image-is, image-back, image-bytes, image-forth}
@@ -206,9 +207,6 @@ record Usable (b : List ℕ) : Type 0 where
   pub fits : headFits (headIn b) ≡ true
   pub words : headIn b .offset ≤ length b
 
-usable-head : {b : List ℕ} → Usable b → Head (headIn b)
-usable-head {b} v = head-has (headIn b) (v .fits)
-
 usable : (b : List ℕ) → isUsable b ≡ true → Usable b
 unfolding isUsable
 usable b u =
@@ -217,6 +215,9 @@ usable b u =
       fits = and-left (headFits (headIn b)) _ rest;
       words = leb-true (headIn b .offset) (length b) (and-right (headFits (headIn b)) _ rest);
     }
+
+pub usable-head : (b : List ℕ) → isUsable b ≡ true → Head (headIn b)
+usable-head b u = head-has (headIn b) (usable b u .fits)
 
 -- which are so where the head fits and the words are there: a whole header is asked for by that
 pub usable-is : (b : List ℕ) → headFits (headIn b) ≡ true → headIn b .offset ≤ length b → isUsable b ≡ true
@@ -241,11 +242,38 @@ module _ (b : List ℕ) (u : isUsable b ≡ true) where
   -- so the report tells the places: "the place of each row dropped"
   pub places-are : placesIn 16 0 (dropped b) ≡ placesOf 0 (rowsDropped b)
   unfolding dropped rowsDropped
-  places-are = places-back 16 0 (drops (grantsIn b) [] (stated b)) (rw (drops-length (grantsIn b) [] (stated b), stated-length b) (omega (arith, usable-head (usable b u) .few)))
+  places-are = places-back 16 0 (drops (grantsIn b) [] (stated b)) (rw (drops-length (grantsIn b) [] (stated b), stated-length b) (omega (arith, usable-head b u .few)))
 
   -- "kept plus dropped equals the stated rows, missing ones counted as dropped"
   pub rescue-counts : length (rowsKept b) + length (placesIn 16 0 (dropped b)) ≡ headIn b .rows
   rescue-counts = rw places-are (counts-are b)
+
+-- ---- an image is written with the words of the unprovisioned taken as zero, whatever they are
+module _ (g : Grants) where
+  taken-words : wordsOf (taken g) ≡ wordsOf g
+  unfolding taken wordsOf
+  taken-words = split (g .provisioned) (λ e. rw e) (λ e. rw e)
+
+  taken-grant : grantIn (taken g) ≡ grantIn g
+  unfolding grantIn
+  taken-grant = ap (λ (w : Words). w .grant) taken-words
+
+  taken-second : secondIn (taken g) ≡ secondIn g
+  unfolding secondIn
+  taken-second = ap (λ (w : Words). w .second) taken-words
+
+  taken-provisioned : taken g .provisioned ≡ g .provisioned
+  unfolding taken
+  taken-provisioned = refl
+
+map-same : {A : Type 0} (f : Grants → A) → ((g : Grants) → f (taken g) ≡ f g) → (l : List Grants) → map f (map taken l) ≡ map f l
+map-same f e [] = refl
+map-same f e (g ∷ l) = rw (e g, map-same f e l)
+
+pub taken-bytes : (offset : ℕ) (l : List Grants) (saved : List SavedRow)
+    → imageBytes (record { offset = offset; grants = map taken l; saved = saved }) ≡ imageBytes (record { offset = offset; grants = l; saved = saved })
+unfolding imageBytes maskOf secondsBytes
+taken-bytes offset l saved = rw (map-same (λ (g : Grants). g .provisioned) taken-provisioned l, map-same grantIn taken-grant l, map-same secondIn taken-second l)
 
 -- ---- "Its output is always accepted by the reader", and "The layout stays."
 owner-same : (l : List Grants) (i : ℕ) → getD (map taken l) i unprovisioned .provisioned ≡ getD l i unprovisioned .provisioned
@@ -275,11 +303,11 @@ module _ (b : List ℕ) (g : Bytes b) (u : isUsable b ≡ true) where
   unfolding rescuedImage
   rescued-fit =
       record {
-        offset = usable-head v .offset;
+        offset = usable-head b u .offset;
         eight = length-map (grantsIn b) taken ∙ grants-eight b;
-        words = words-taken (grants-words b g (usable-head v .offset) (v .words));
+        words = words-taken (grants-words b g (usable-head b u .offset) (v .words));
         seconds = λ n. none-second (no-seconds b n);
-        few = omega (arith, kept-few b, usable-head v .few);
+        few = omega (arith, kept-few b, usable-head b u .few);
         each = good .fits;
       }
 

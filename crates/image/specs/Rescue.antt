@@ -93,11 +93,14 @@ rescueNumber b room =
     ▸ No.room when ltb room (rescuedLong b)
 
 -- the answer, with its report; a refusal has none, and nobody is given its zeros
+abbrev pub refusedBy : ℕ → Rescued
+refusedBy number = record { number = number; length = 0; cleared = 0; kept = 0; dropped = 0 }
+
 unfoldable pub rescueAnswer : List ℕ → ℕ → Rescued
 rescueAnswer b room =
     cond (eqb (rescueNumber b room) No.done)
     (record { number = No.done; length = rescuedLong b; cleared = cleared b; kept = length (rowsKept b); dropped = dropped b })
-    (record { number = rescueNumber b room; length = 0; cleared = 0; kept = 0; dropped = 0 })
+    (refusedBy (rescueNumber b room))
 
 pub record RescueWritten (b old : List ℕ) (answer : Rescued) (new : List ℕ) : Type 0 where
   pub answer-is : answer ≡ rescueAnswer b (length old)

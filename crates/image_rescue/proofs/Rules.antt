@@ -8,11 +8,11 @@ use native.Mathlib.Nat.{pow-suc}
 use native.Mathlib.Numerals.{add-one}
 use native.Mathlib.Omega.{arith}
 use borrow.Author.Needs.{needs}
-use borrow.Author.Tests.{ne-eqb, eq-eqb, leb-true, le-leb, lt-leb, not-true, not-false, eqb-true}
+use borrow.Author.Tests.{lt-ltb, le-ltb, ne-eqb, eq-eqb, leb-true, le-leb, lt-leb, not-true, not-false, eqb-true}
 use borrow.Rule.Slice.PartMut.{putMid}
 use mir.Syntax.{w16, w64}
 use mir.Val.{Fits}
-use lib.Dec.{eqb, leb}
+use lib.Dec.{eqb, leb, ltb}
 use lib.Pow.{pow-mono}
 use lib.ListN.{length, getD, take, drop, set, length-set, length-take, length-drop, length-append, drop-of-length-le}
 use lib.Seq.{take-at, set-split, drop-cons, drop-drop, getD-take, length-take-le, append-snoc}
@@ -20,22 +20,25 @@ use Rattle.lists.specs.Lists.{sum, join}
 use Rattle.lists.proofs.Lists.{length-mapped}
 use Rattle.lists.proofs.Tests.{split, and-left}
 use Rattle.rows.specs.Bytes.{bitsNumber}
-use Rattle.rows.specs.Rows.{rows, every, Put}
+use Rattle.rows.specs.Rows.{rows, every, over, Put}
 use Rattle.rows.proofs.Bytes.{bits-small, bits-more}
 use Rattle.rows.proofs.Rows.{rows-length, row-at}
+use Rattle.rows.proofs.Over.{put-length, put-next}
 use Rattle.rows.proofs.Loops.{EveryFrom, every-begin, every-on, every-fail, every-all, and-false, Wrote, wrote-begin, wrote-length, wrote-room, wrote-part, wrote-on, wrote-all}
 use Rattle.names.specs.Names.{sameName}
 use Rattle.table.specs.Table.{places}
 use Rattle.module_state.specs.Module.{unprovisioned, credentialCount}
+use Rattle.module_state.specs.Numbers.{_when_, _unless_, _▸_}
 use Rattle.module_state.specs.declared.Grants.{Grants}
 use Rattle.image.specs.declared.ImageHead.{ImageHead}
+use Rattle.image.specs.declared.Rescued.{Rescued}
 use Rattle.image.specs.declared.SavedRead.{SavedRead}
 use Rattle.image.specs.declared.SavedRow.{SavedRow}
-use Rattle.image.specs.Image.{wordsAt, savedSize, isRowOffset, imageLong, headIn, savedFrom, savedBytes, isWhole, readSaved, savedOver, isKeepable, differ, headFits}
-use Rattle.image.specs.Rescue.{isUsable, nonzero, wordsCleared, isNew, isKept, keptWith, keep, drops}
+use Rattle.image.specs.Image.{wordsAt, savedSize, isRowOffset, imageLong, Image, imageBytes, frontBytes, frontLong, headIn, grantsAmong, grantsIn, savedFrom, savedBytes, isWhole, readSaved, savedOver, isKeepable, differ, headFits}
+use Rattle.image.specs.Rescue.{isUsable, nonzero, wordsCleared, isNew, cleared, stated, isKept, keptWith, keep, rowsKept, drops, rowsDropped, dropped, rescuedImage, rescued, rescuedLong, rescueNumber, refusedBy, rescueAnswer, RescueWritten}
 use Rattle.image.proofs.Rows.{SummedTo, sum-begin, sum-few, sum-next, sum-done}
-use Rattle.image.proofs.Laws.{offset-low}
-use Rattle.image.proofs.Rescue.{with-kept, with-dropped, usable-is}
+use Rattle.image.proofs.Laws.{offset-low, Head, front-long, front-at, front-rows}
+use Rattle.image.proofs.Rescue.{with-kept, with-dropped, usable-head, usable-is, taken-bytes}
 use Rattle.image_rescue.specs.Sorted.{SortedAs}
 use Rattle.image_rescue.specs.declared.Sorted.{Sorted}
 
@@ -291,8 +294,8 @@ module _ {offset : ℕ} {held : List SavedRow} {kept : ℕ} {old new : List ℕ}
   kept-is : length (take kept held) ≡ kept
   kept-is = held-many offset held kept (v .long) (v .few)
 
-  pub put-length : length new ≡ length old
-  put-length = wrote-length (v .wrote)
+  pub putting-length : length new ≡ length old
+  putting-length = wrote-length (v .wrote)
 
   module _ (h : i < kept) where
     inside-rows : i < length (take kept held)
@@ -326,4 +329,106 @@ module _ {offset : ℕ} {held : List SavedRow} {kept : ℕ} {old new : List ℕ}
   pub put-all : kept ≤ i → Put offset (kept * savedSize) (join (map savedBytes (take kept held))) old new
   put-all h = rw kept-is at (wrote-all (v .wrote) (rw kept-is h))
 
-pub ruleset rules = (needs, length-mapped, usable-not, usable-words, nonzero-none, nonzero-one, cleared-none, both-fit, cleared-both, sum-begin, cleared-fit, cleared-next, sum-done, new-begin, new-low, new-on, new-not, new-all, saved-is, kept-not, kept-new, kept-cut, sorting-begin, bit-fits, dropped-fits, at-fits, at-low, kept-places, kept-inside, kept-whole, sorted-kept, sorted-dropped, sorted-all, put-begin, put-length, put-low, put-fits, put-ends, put-room, put-on, put-all)
+-- ---- the image written: its front, and its rows
+module _ (offset kept : ℕ) (o : isRowOffset offset ≡ true) (h : kept ≤ places) where
+  pub kept-fits : Fits w16 kept
+  kept-fits = omega arith
+
+  pub offset-fits : Fits w16 offset
+  offset-fits = omega (arith, offset-low offset o)
+
+  module _ (old : List ℕ) (grants : List Grants) (held : List SavedRow) (r : imageLong offset kept ≤ length old) {front : List ℕ}
+      (p : front ≡ over 0 (frontLong offset) (frontBytes grants kept offset) old) where
+    module _ (eight : length grants ≡ credentialCount) where
+      front-put : Put 0 offset (frontBytes grants kept offset) old front
+      front-put = record { long = front-long grants kept offset eight ∙ front-at offset o; is = p ∙ rw (front-at offset o) }
+
+      pub front-room : imageLong offset kept ≤ length front
+      front-room = rw (put-length front-put) r
+
+      pub image-put : length held ≡ places → {new : List ℕ} → Put offset (kept * savedSize) (join (map savedBytes (take kept held))) front new
+          → new ≡ over 0 (imageLong offset kept) (imageBytes (record { offset = offset; grants = grants; saved = take kept held })) old
+      unfolding imageLong
+      image-put l q =
+          let many : length (take kept held) ≡ kept = held-many offset held kept l h in
+          put-next front-put q (omega arith) .is
+          ∙ ap (λ x. over 0 (offset + kept * savedSize) x old) (sym (front-rows (record { offset = offset; grants = grants; saved = take kept held }) ∙ rw many))
+
+-- ---- the whole
+refusal : (b old : List ℕ) {number : ℕ} → rescueNumber b (length old) ≡ number → eqb number 0 ≡ false → {answer : Rescued} → answer ≡ refusedBy number → RescueWritten b old answer old
+unfolding rescueAnswer
+refusal b old n z a = record { answer-is = a ∙ rw (n, z); bytes-are = rw (n, z) }
+
+module _ (b old : List ℕ) {h : ImageHead} (e : h ≡ headIn b) {u : Bool} (f : u ≡ isUsable b) where
+  pub rescue-message : not u ≡ true → {answer : Rescued} → answer ≡ refusedBy 14 → RescueWritten b old answer old
+  rescue-message n = refusal b old (unfold rescueNumber _unless_ _▸_ in rw (sym f ∙ not-true u n)) refl
+
+  module _ (n : not u ≡ false) where
+    usable : isUsable b ≡ true
+    usable = sym f ∙ not-false u n
+
+    has : Head h
+    has = rw e (usable-head b usable)
+
+    pub rescue-from : isRowOffset (h .offset) ≡ true
+    rescue-from = has .offset
+
+    pub rescue-few : h .rows ≤ places
+    rescue-few = has .few
+
+    module _ {grants : List Grants} (g : grants ≡ grantsAmong (h .mask) (h .offset) b) {sorted : Sorted} (s : SortedAs grants (rows (h .rows) savedSize (drop (h .offset) b)) sorted) where
+      grants-are : grants ≡ grantsIn b
+      unfolding grantsIn
+      grants-are = g ∙ rw e
+
+      pub long-part : Fits w64 (sorted .kept * savedSize)
+      long-part = omega (arith, s .few)
+
+      pub long-fits : Fits w64 (h .offset + sorted .kept * savedSize)
+      long-fits = omega (arith, s .few, offset-low (h .offset) rescue-from)
+
+      pub sorted-few : sorted .kept ≤ places
+      sorted-few = s .few
+
+      rows-are : take (sorted .kept) (sorted .rows) ≡ rowsKept b
+      unfolding rowsKept stated
+      rows-are = s .rows-are ∙ rw (grants-are, e)
+
+      dropped-are : sorted .dropped ≡ dropped b
+      unfolding dropped rowsDropped stated
+      dropped-are = s .dropped-are ∙ rw (grants-are, e)
+
+      module _ (l : length (sorted .rows) ≡ places) where
+        kept-many : sorted .kept ≡ length (rowsKept b)
+        kept-many = sym (ap length (sym rows-are) ∙ held-many (h .offset) (sorted .rows) (sorted .kept) l (s .few))
+
+        long-is : h .offset + sorted .kept * savedSize ≡ rescuedLong b
+        unfolding rescuedLong imageLong
+        long-is = rw (e, kept-many)
+
+        pub rescue-room : length old < h .offset + sorted .kept * savedSize → {answer : Rescued} → answer ≡ refusedBy 15 → RescueWritten b old answer old
+        rescue-room k =
+            let lacks : ltb (length old) (rescuedLong b) ≡ true = lt-ltb (length old) (rescuedLong b) (rw long-is at k) in
+            refusal b old (unfold rescueNumber _unless_ _when_ _▸_ in rw (usable, lacks)) refl
+
+        module _ (k : h .offset + sorted .kept * savedSize ≤ length old) where
+          pub rescue-space : imageLong (h .offset) (sorted .kept) ≤ length old
+          unfolding imageLong
+          rescue-space = k
+
+          done : rescueNumber b (length old) ≡ 0
+          unfolding rescueNumber _unless_ _when_ _▸_
+          done = rw (usable, le-ltb (length old) (rescuedLong b) (rw long-is at k))
+
+          pub rescue-done : {new : List ℕ} {c : ℕ} → new ≡ over 0 (imageLong (h .offset) (sorted .kept)) (imageBytes (record { offset = h .offset; grants = grants; saved = take (sorted .kept) (sorted .rows) })) old
+              → c ≡ sum (map wordsCleared grants)
+              → RescueWritten b old (record { number = 0; length = h .offset + sorted .kept * savedSize; cleared = c; kept = sorted .kept; dropped = sorted .dropped }) new
+          unfolding rescueAnswer rescued rescuedImage cleared
+          rescue-done w c =
+              let written : imageBytes (record { offset = h .offset; grants = grants; saved = take (sorted .kept) (sorted .rows) }) ≡ imageBytes (rescuedImage b) = rw (grants-are, rows-are, e) (sym (taken-bytes (headIn b .offset) (grantsIn b) (rowsKept b))) in
+              record {
+                answer-is = rw (done, c, grants-are, long-is, kept-many, dropped-are);
+                bytes-are = w ∙ rw (done, written) (ap (λ (n : ℕ). over 0 n (imageBytes (rescuedImage b)) old) long-is);
+              }
+
+pub ruleset rules = (needs, length-mapped, usable-not, usable-words, nonzero-none, nonzero-one, cleared-none, both-fit, cleared-both, sum-begin, cleared-fit, cleared-next, sum-done, new-begin, new-low, new-on, new-not, new-all, saved-is, kept-not, kept-new, kept-cut, sorting-begin, bit-fits, dropped-fits, at-fits, at-low, kept-places, kept-inside, kept-whole, sorted-kept, sorted-dropped, sorted-all, put-begin, putting-length, put-low, put-fits, put-ends, put-room, put-on, put-all, kept-fits, offset-fits, front-room, image-put, rescue-message, rescue-from, rescue-few, long-part, long-fits, sorted-few, rescue-room, rescue-space, rescue-done)

@@ -5,10 +5,10 @@ ghost use mathlib.Core.List.{map};
 ghost use Prim.Native.Nat.{_+_, _*_, _≤_};
 ghost use lib.ListN.{length, take, drop};
 ghost use Rattle.lists.specs.Lists.{sum, join};
-ghost use Rattle.rows.specs.Rows.{rows, Put};
+ghost use Rattle.rows.specs.Rows.{rows, over, Put};
 ghost use Rattle.table.specs.Table.{places};
-ghost use Rattle.image.specs.Image.{savedSize, isRowOffset, imageLong, headIn, savedFrom, savedBytes};
-ghost use Rattle.image.specs.Rescue.{isUsable, nonzero, wordsCleared, isNew, isKept, RescueWritten};
+ghost use Rattle.image.specs.Image.{savedSize, isRowOffset, imageLong, Image, imageBytes, headIn, savedFrom, savedBytes};
+ghost use Rattle.image.specs.Rescue.{isUsable, nonzero, wordsCleared, isNew, isKept, refusedBy, RescueWritten};
 ghost use Rattle.image_rescue.specs.Sorted.{SortedAs};
 use image::ImageHead;
 use image::Rescued;
@@ -178,5 +178,63 @@ fn put_rows(buffer: &mut [u8], offset: usize, held: [SavedRow; PLACES], kept: us
         let row = held[i];
         image_row::put_row(&mut buffer[a..e], row);
         i += 1;
+    }
+}
+
+// The image of these credentials and rows, at the front of a buffer that has room for it.
+fn put_image(
+    buffer: &mut [u8],
+    offset: usize,
+    grants: [Grants; CREDENTIALS],
+    held: [SavedRow; PLACES],
+    kept: usize,
+)
+    requires { ⌜ isRowOffset offset ≡ true ⌝ }
+    requires { ⌜ kept ≤ places ⌝ }
+    requires { ⌜ imageLong offset kept ≤ length (now buffer) ⌝ }
+    ensures { λ r. ⌜ now (buffer .exit) ≡ over 0 (imageLong offset kept) (imageBytes (record { offset = offset; grants = grants; saved = take kept held })) (now (buffer .entry)) ⌝ }
+{
+    image_front::put_front(buffer, grants, kept as u16, offset as u16);
+    put_rows(buffer, offset, held, kept);
+}
+
+// ---- the whole
+
+fn refused(number: u8) -> Rescued
+    ensures { λ r. ⌜ r ≡ refusedBy number ⌝ }
+{
+    Rescued {
+        number: number,
+        length: 0,
+        cleared: 0,
+        kept: 0,
+        dropped: 0,
+    }
+}
+
+// The good image that bytes make, at the front of a buffer that has room for it, and the report. On a refusal the buffer stays.
+pub fn rescue(b: &[u8], buffer: &mut [u8]) -> Rescued
+    ensures { λ r. ⌜ RescueWritten (now (b .entry)) (now (buffer .entry)) r (now (buffer .exit)) ⌝ }
+{
+    let head = image_head::read_head(b);
+    if !is_usable(b, head) {
+        return refused(MESSAGE);
+    }
+    let offset = head.offset;
+    let grants = image_head::read_grants(b, head.mask, offset);
+    let sorted = sort_rows(b, offset, head.rows, grants);
+    let kept = sorted.kept;
+    let long = offset + kept * SAVED_SIZE;
+    if buffer.len() < long {
+        return refused(ROOM);
+    }
+    let held = sorted.rows;
+    put_image(buffer, offset, grants, held, kept);
+    Rescued {
+        number: DONE,
+        length: long,
+        cleared: cleared_in(grants),
+        kept: kept as u16,
+        dropped: sorted.dropped,
     }
 }
