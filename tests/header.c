@@ -725,7 +725,10 @@ static void expect_rescued(const uint8_t *bytes, size_t length, const uint8_t *i
     free(alone);
 }
 
-/* Images of no row to as many as there are places stay as they are, and without the last byte they lose the last row. */
+/*
+ * Images of no row to as many as there are places stay as they are. Without its last byte one loses the last row, and where it
+ * states a row less, the last is ignored.
+ */
 static void check_rescues_of(unsigned header)
 {
     size_t length, shorter;
@@ -736,6 +739,9 @@ static void check_rescues_of(unsigned header)
         longer = image_of(header, rows, &length);
         expect_rescued(longer, length, longer, length, rows, 0);
         expect_rescued(longer, length - 1, image, shorter, rows - 1, 1u << (rows - 1));
+        longer[6]--;
+        expect_rescued(longer, length, image, shorter, rows - 1, 0);
+        longer[6]++;
         free(image);
         image = longer;
         shorter = length;
@@ -767,31 +773,32 @@ static void check_heads(unsigned header)
 }
 
 /*
- * Credential 1 is not provisioned and has both words and a row; row 2 has next number 0, row 3 the name of row 0, row 4 that of
- * row 2, and row 5 is missing. What is rescued is restored. A byte behind the last whole row is ignored.
+ * Credential 1 is not provisioned and has both words and row 1; row 2 has next number 0, row 3 the name of row 0, row 4 that of
+ * row 2 and a number of two bytes, row 5 a credential of two bytes, and row 6 is cut. What is rescued is restored.
  */
 static void check_report(void)
 {
-    enum { ROWS = 6, WHOLE = SLAVOTUK_IMAGE_HEADER_SIZE + (ROWS - 1) * SLAVOTUK_IMAGE_ROW_SIZE };
+    enum { HEADER = SLAVOTUK_IMAGE_HEADER_SIZE, ROW = SLAVOTUK_IMAGE_ROW_SIZE, ROWS = 7 };
     size_t length;
-    uint8_t *image = image_of(SLAVOTUK_IMAGE_HEADER_SIZE, ROWS, &length), *rescued = allocate(SLAVOTUK_IMAGE_SIZE);
-    uint8_t *row[ROWS], restored[SLAVOTUK_STATE_SIZE];
-    for (unsigned at = 0; at < ROWS; at++) {
-        row[at] = image + SLAVOTUK_IMAGE_HEADER_SIZE + SLAVOTUK_IMAGE_ROW_SIZE * at;
-    }
-    image[14] = image[SLAVOTUK_IMAGE_OLD_HEADER_SIZE + 4] = row[1][0] = 1;
-    row[2][2] = 0;
-    memcpy(row[3] + 4, row[0] + 4, SLAVOTUK_NAME_SIZE);
-    memcpy(row[4] + 4, row[2] + 4, SLAVOTUK_NAME_SIZE);
+    uint8_t *image = image_of(HEADER, ROWS, &length), *rescued = allocate(SLAVOTUK_IMAGE_SIZE), *row = image + HEADER;
+    uint8_t restored[SLAVOTUK_STATE_SIZE];
+    image[14] = image[SLAVOTUK_IMAGE_OLD_HEADER_SIZE + 4] = row[1 * ROW] = 1;
+    row[2 * ROW + 2] = 0;
+    row[3 * ROW + 2] = 9;
+    memcpy(row + 3 * ROW + 4, row + 4, SLAVOTUK_NAME_SIZE);
+    row[4 * ROW + 2] = 0;
+    row[4 * ROW + 3] = 1;
+    memcpy(row + 4 * ROW + 4, row + 2 * ROW + 4, SLAVOTUK_NAME_SIZE);
+    row[5 * ROW + 1] = 1;
     memset(rescued, 0xee, SLAVOTUK_IMAGE_SIZE);
-    EXPECT(rescue(image, WHOLE + 1, rescued, SLAVOTUK_IMAGE_SIZE), SLAVOTUK_DONE);
-    EXPECT_REPORT(SLAVOTUK_IMAGE_HEADER_SIZE + 2 * SLAVOTUK_IMAGE_ROW_SIZE, 2, 2, 1u << 1 | 1u << 2 | 1u << 3 | 1u << 5);
-    EXPECT(memcmp(rescued + SLAVOTUK_IMAGE_HEADER_SIZE, row[0], SLAVOTUK_IMAGE_ROW_SIZE), 0);
-    EXPECT(memcmp(rescued + SLAVOTUK_IMAGE_HEADER_SIZE + SLAVOTUK_IMAGE_ROW_SIZE, row[4], SLAVOTUK_IMAGE_ROW_SIZE), 0);
-    EXPECT(rescued[report.length], 0xee);
     EXPECT(slavotuk_restore(restored, sizeof restored, image, length), SLAVOTUK_REFUSED_MESSAGE);
-    EXPECT(slavotuk_restore(restored, sizeof restored, rescued, report.length), SLAVOTUK_DONE);
-    expect_rescued(rescued, report.length, rescued, report.length, 2, 0);
+    EXPECT(rescue(image, length - 1, rescued, SLAVOTUK_IMAGE_SIZE), SLAVOTUK_DONE);
+    EXPECT_REPORT(HEADER + 2 * ROW, 2, 2, 1u << 1 | 1u << 2 | 1u << 3 | 1u << 5 | 1u << 6);
+    EXPECT(memcmp(rescued + HEADER, row, ROW), 0);
+    EXPECT(memcmp(rescued + HEADER + ROW, row + 4 * ROW, ROW), 0);
+    EXPECT(rescued[HEADER + 2 * ROW], 0xee);
+    EXPECT(slavotuk_restore(restored, sizeof restored, rescued, HEADER + 2 * ROW), SLAVOTUK_DONE);
+    expect_rescued(rescued, HEADER + 2 * ROW, rescued, HEADER + 2 * ROW, 2, 0);
     free(image);
     free(rescued);
 }

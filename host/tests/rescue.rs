@@ -205,6 +205,7 @@ fn an_image_stays_as_it_is() {
     is_rescued(&y().drawn(), 178, (0, 2, &[]), &y());
     for other in [
         x().with_rows(&[row_of_p(), (1, 65535, q())]),
+        x().with_rows(&[row_of_p(), (1, 256, q())]),
         x().with_rows(&[row_of_p(), (1, 300, r())]),
         // credential 7 is provisioned, and its word is zero
         x().with_mask(0x83),
