@@ -419,7 +419,7 @@ uint32_t slavotuk_set_word(uint8_t *state, size_t state_length, uint32_t port, u
  * that were spent since are good again, processes that were killed since stand again, and words are the old ones.
  *
  * An image of before version 3 has the old layout: no second words, and the rows where they would stand. It is restored with
- * all second words zero. What is written has the new layout, so after such a restore write the image at once.
+ * all second words zero. What slavotuk_image writes has the new layout, so after such a restore write the image at once.
  */
 
 /*
