@@ -11,8 +11,8 @@
  *   is handed out is not null.
  * - A refusal leaves the state and every buffer as they were, but for one number: a user claim that passes its tests is
  *   counted also where the call is refused after them, see below. What is handed out through a pointer is written where the
- *   answer is SLAVOTUK_DONE, and stays as it was otherwise. The one exception is the length of slavotuk_list and of
- *   slavotuk_image, which a refusal sets to 0.
+ *   answer is SLAVOTUK_DONE, and stays as it was otherwise. The one exception is the length of slavotuk_list, slavotuk_image
+ *   and slavotuk_rescue, which a refusal sets to 0.
  * - state is a slice of SLAVOTUK_STATE_SIZE bytes that slavotuk_fresh or slavotuk_restore has filled and that only these
  *   functions write; docs/STATE.md draws it.
  * - Nothing is kept between calls but what stands there, nothing is locked, and nothing is allocated: threads, and a signal
@@ -96,10 +96,10 @@ extern "C" {
  * refuses a new image (14). With version 4 there is a second port: every call on a session takes the port before it, and the
  * state has 717 bytes, for four sessions more. A host comes from version 3 by writing an image with the old library and
  * restoring it with the new; active processes end, and a slice of 713 bytes holds no state. Images are those of version 3, and
- * on port 0 the answers are those of version 3 while nothing is called on port 1.
+ * on port 0 the answers are those of version 3 while nothing is called on port 1. Since 4.1.0 there is slavotuk_rescue.
  */
 #define SLAVOTUK_VERSION_MAJOR 4
-#define SLAVOTUK_VERSION_MINOR 0
+#define SLAVOTUK_VERSION_MINOR 1
 #define SLAVOTUK_VERSION_PATCH 0
 
 /* The same as one number, in which a later version is larger. */
@@ -419,7 +419,7 @@ uint32_t slavotuk_set_word(uint8_t *state, size_t state_length, uint32_t port, u
  * that were spent since are good again, processes that were killed since stand again, and words are the old ones.
  *
  * An image of before version 3 has the old layout: no second words, and the rows where they would stand. It is restored with
- * all second words zero. What is written has the new layout, so after such a restore write the image at once.
+ * all second words zero. What slavotuk_image writes has the new layout, so after such a restore write the image at once.
  */
 
 /*
@@ -443,6 +443,34 @@ uint32_t slavotuk_image(const uint8_t *state, size_t state_length, uint8_t *SLAV
  * Refused: ARGUMENT, for a slice of another length and for nothing else; MESSAGE for bytes that are no image.
  */
 uint32_t slavotuk_restore(uint8_t *SLAVOTUK_RESTRICT state, size_t state_length, const uint8_t *image, size_t image_length);
+
+/*
+ * Writes to the front of a buffer what can be rescued of a damaged image: always an image, in the layout that the bytes state.
+ * Later bytes of the buffer are not touched. It takes no state, and bytes of any length. An image is written as it is: no word
+ * is cleared, and no row dropped.
+ *
+ * The words of credentials that are not provisioned are cleared. Of the rows, up to the stated count, one is kept where all its
+ * bytes are there, its credential is provisioned, its next number is at least 1, and no row that was kept before it has its
+ * name. The others are dropped. What lies behind the stated rows is ignored.
+ *
+ *   bytes    what is left of the image
+ *   image    the buffer; SLAVOTUK_IMAGE_SIZE bytes are always enough
+ *   length   handed out: how many bytes were written, 0 on a refusal
+ *   cleared  handed out: how many words that were not zero were cleared, of both kinds
+ *   kept     handed out: how many rows were kept
+ *   dropped  handed out: bit i is set where row i of the stated ones, counted from 0, was dropped, also where it is missing
+ *
+ * It can't know what stood there before the damage. Of two rows with one name the first is kept, whatever its number, and a
+ * number that was damaged downward is kept: numbers that were spent may be good again. A damaged word may grant what nobody
+ * granted. So after the restore set the words anew, list the processes, kill them and start anew.
+ *
+ * Refused: MESSAGE for bytes that end before the rows, a mask with a bit of no credential, a count of words other than
+ * SLAVOTUK_CREDENTIALS, more rows than SLAVOTUK_PROCESSES, or offsets of neither layout; ROOM for a buffer shorter than what
+ * is to be written.
+ */
+uint32_t slavotuk_rescue(const uint8_t *bytes, size_t bytes_length, uint8_t *SLAVOTUK_RESTRICT image, size_t image_length,
+                         size_t *SLAVOTUK_RESTRICT length, uint16_t *SLAVOTUK_RESTRICT cleared,
+                         uint16_t *SLAVOTUK_RESTRICT kept, uint16_t *SLAVOTUK_RESTRICT dropped);
 
 /* ---- the listing messages. These take no state */
 

@@ -132,7 +132,7 @@ macro_rules! call {
         impl<B: Eq> Eq for Call<B> {}
 
         impl<B: AsMut<[u8]>> Call<B> {
-            /// Makes the call on this state, and answers with its number. The calls on messages leave the state alone.
+            /// Makes the call on this state, and answers with its number. Those that take no state leave it alone.
             pub fn make(&mut self, state: &mut [u8]) -> u32 {
                 match self {
                     $($(Call::$case { $($name),* } => entries::$function($(first!(state, $($state)+),)? $(given!($name: $($type)+)),*),)*)*

@@ -57,6 +57,10 @@ macro_rules! calls {
                 slavotuk_image image Image [state: &[u8]] (image: &mut [u8]) (length: &mut usize);
                 /// Makes a module from an image; the state's old bytes don't matter.
                 slavotuk_restore restore Restore [state: &mut [u8]] (image: &[u8]);
+                /// Writes what can be rescued of a damaged image to the front of the buffer: an image in the layout of the bytes. `length` becomes its length, 0 on a
+                /// refusal. Where the number is 0, it hands out how many words that were not zero were cleared, how many rows were kept, and of the stated rows those
+                /// dropped: bit i for row i, from 0. It takes no state.
+                slavotuk_rescue rescue Rescue (bytes: &[u8]) (image: &mut [u8]) (length: &mut usize) (cleared: &mut u16) (kept: &mut u16) (dropped: &mut u16);
             }
             listing {
                 /// Reads GET_AUTH_PROCESSES: the wanted credential is handed out where the number is 0.
