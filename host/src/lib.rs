@@ -98,6 +98,7 @@
 //! | [`Port`], [`Session`], [`Credential`], [`Class`], [`Name`], [`Claim`], [`Wanted`], [`Words`] | what a call is handed |
 //! | [`Refusal`], [`answered`] | the numbers 1 to 15 of document 01 and 18 of document 02, and those of later archives |
 //! | [`Image`] | what a module keeps while it is without power, what it loses, and what the flash has to do |
+//! | [`rescue`], [`Rescued`] | a good image of a damaged one, what it had to leave, and what it can't know |
 //! | [`Listing`], [`read_request`], [`write_request`] | the listing messages, for consoles too |
 //! | [`message`] | all messages of 004 clause 9.2 |
 //! | [`entries`] | the archive's entries as they are, with numbers and byte slices |
@@ -120,6 +121,7 @@ mod listing;
 pub mod message;
 mod module;
 mod numbers;
+mod rescue;
 mod values;
 mod view;
 
@@ -132,6 +134,7 @@ pub use listing::{
 };
 pub use module::{Module, STATE_LENGTH, VERSION_1_0};
 pub use numbers::{answered, Refusal, UnknownNumber};
+pub use rescue::{rescue, DroppedPlaces, Rescued};
 pub use signatures::{Signature, SIGNATURES};
 pub use values::{
     Claim, Class, Credential, Grants, Kind, Lookup, Name, Port, Session, UserClaim, Wanted, Words,

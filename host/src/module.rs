@@ -47,7 +47,8 @@ impl Module {
     }
 
     /// The module that an image makes, in either layout: its credentials and words, every session closed, and its processes, saved, in their order and with their
-    /// next numbers. [`Refusal::Message`] where the bytes are no image. [`Image`] says what was lost with the power.
+    /// next numbers. [`Refusal::Message`] where the bytes are no image: where they are a damaged one, [`rescue`](crate::rescue) makes a good one of them. [`Image`] says
+    /// what was lost with the power.
     ///
     /// ```
     /// use slavotuk::{Grants, Module, Refusal};
