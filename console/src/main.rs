@@ -18,6 +18,7 @@ mod help;
 mod line;
 mod read;
 mod replace;
+mod rescue;
 mod tables;
 mod write;
 
