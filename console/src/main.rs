@@ -8,6 +8,8 @@ mod console;
 mod document;
 #[cfg(test)]
 mod document_image;
+#[cfg(test)]
+mod document_rescue;
 mod draw;
 mod files;
 #[cfg(test)]

@@ -457,3 +457,14 @@ fn the_example_rescues_three_boards() {
     }
     assert_eq!(folder.names(), ["examples"]);
 }
+
+#[test]
+fn the_document_has_the_report_of_the_first_board() {
+    let folder = Folder::new("document");
+    let answer = rescued(&format!("{EXAMPLES}{}", BOARDS[0]), &folder.file("image"));
+    let document = fs::read_to_string(format!("{EXAMPLES}../docs/IMAGE.md")).unwrap();
+    let line = format!("    rescue examples/{} board.image\n", BOARDS[0]);
+    let (_, shown) = document.split_once(&line).unwrap();
+    let indented: String = answer.lines().map(|line| format!("    {line}\n")).collect();
+    assert!(shown.starts_with(&format!("{indented}\n")), "{indented}");
+}
