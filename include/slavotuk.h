@@ -419,7 +419,7 @@ uint32_t slavotuk_set_word(uint8_t *state, size_t state_length, uint32_t port, u
  * that were spent since are good again, processes that were killed since stand again, and words are the old ones.
  *
  * An image of before version 3 has the old layout: no second words, and the rows where they would stand. It is restored with
- * all second words zero. What is written has the new layout, so after such a restore write the image at once.
+ * all second words zero. What slavotuk_image writes has the new layout, so after such a restore write the image at once.
  */
 
 /*
@@ -446,23 +446,23 @@ uint32_t slavotuk_restore(uint8_t *SLAVOTUK_RESTRICT state, size_t state_length,
 
 /*
  * Writes to the front of a buffer what can be rescued of a damaged image: always an image, in the layout that the bytes state.
- * Later bytes of the buffer are not touched. It takes no state, and bytes of any length. An image is written as it is, and
- * nothing is reported of it.
+ * Later bytes of the buffer are not touched. It takes no state, and bytes of any length. An image is written as it is: no word
+ * is cleared, and no row dropped.
  *
- * Both words of a credential that is not provisioned become zero. Of the rows, up to the stated count, one is kept as it is
- * where all its bytes are there, its credential is provisioned, its next number is at least 1, and no row that was kept before
- * it has its name. The others are dropped. What lies behind the stated rows is ignored.
+ * The words of credentials that are not provisioned are cleared. Of the rows, up to the stated count, one is kept where all its
+ * bytes are there, its credential is provisioned, its next number is at least 1, and no row that was kept before it has its
+ * name. The others are dropped. What lies behind the stated rows is ignored.
  *
  *   bytes    what is left of the image
  *   image    the buffer; SLAVOTUK_IMAGE_SIZE bytes are always enough
  *   length   handed out: how many bytes were written, 0 on a refusal
- *   cleared  handed out: how many words became zero that were not, of both kinds
+ *   cleared  handed out: how many words that were not zero were cleared, of both kinds
  *   kept     handed out: how many rows were kept
  *   dropped  handed out: bit i is set where row i of the stated ones, counted from 0, was dropped, also where it is missing
  *
  * It can't know what stood there before the damage. Of two rows with one name the first is kept, whatever its number, and a
  * number that was damaged downward is kept: numbers that were spent may be good again. A damaged word may grant what nobody
- * granted. So set the words anew after a restore, list the processes, kill them and start anew.
+ * granted. So after the restore set the words anew, list the processes, kill them and start anew.
  *
  * Refused: MESSAGE for bytes that end before the rows, a mask with a bit of no credential, a count of words other than
  * SLAVOTUK_CREDENTIALS, more rows than SLAVOTUK_PROCESSES, or offsets of neither layout; ROOM for a buffer shorter than what

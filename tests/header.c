@@ -153,6 +153,34 @@ static void check_names(void)
     EXPECT(strcmp(slavotuk_number_name(UINT32_MAX), "unknown"), 0);
 }
 
+/* The shortest image, in read-only memory as well. */
+static const uint8_t no_credentials[SLAVOTUK_IMAGE_OLD_HEADER_SIZE] = {0, 0, SLAVOTUK_CREDENTIALS, 0, 10, 0, 0, 0,
+                                                                       SLAVOTUK_IMAGE_OLD_HEADER_SIZE};
+
+/* What a rescue hands out beside the image. */
+static struct {
+    size_t length;
+    uint16_t cleared, kept, dropped;
+} report;
+
+/* Stands there before each: no rescue hands it out. */
+#define UNREPORTED 0xeeee
+
+#define EXPECT_REPORT(bytes, words, rows, places)                                                                              \
+    do {                                                                                                                       \
+        EXPECT(report.length, bytes);                                                                                          \
+        EXPECT(report.cleared, words);                                                                                         \
+        EXPECT(report.kept, rows);                                                                                             \
+        EXPECT(report.dropped, places);                                                                                        \
+    } while (0)
+
+static uint32_t rescue(const uint8_t *bytes, size_t bytes_length, uint8_t *image, size_t image_length)
+{
+    report.length = report.cleared = report.kept = report.dropped = UNREPORTED;
+    return slavotuk_rescue(bytes, bytes_length, image, image_length, &report.length, &report.cleared, &report.kept,
+                           &report.dropped);
+}
+
 /* Each slice that a call is lent, as null with length 0: the number that its length gets, and nothing is touched. */
 static void check_nulls(void)
 {
@@ -193,6 +221,10 @@ static void check_nulls(void)
     EXPECT(length, 0);
     EXPECT(slavotuk_restore(NULL, 0, one_row, sizeof one_row), SLAVOTUK_REFUSED_ARGUMENT);
     EXPECT(slavotuk_restore(MODULE, NULL, 0), SLAVOTUK_REFUSED_MESSAGE);
+    EXPECT(rescue(NULL, 0, listing, SLAVOTUK_LISTING_SIZE), SLAVOTUK_REFUSED_MESSAGE);
+    EXPECT_REPORT(0, UNREPORTED, UNREPORTED, UNREPORTED);
+    EXPECT(rescue(no_credentials, sizeof no_credentials, NULL, 0), SLAVOTUK_REFUSED_ROOM);
+    EXPECT_REPORT(0, UNREPORTED, UNREPORTED, UNREPORTED);
     EXPECT(slavotuk_read_request(NULL, 0, &number), SLAVOTUK_REFUSED_MESSAGE);
     EXPECT(slavotuk_write_request(NULL, 0, 0), SLAVOTUK_REFUSED_ROOM);
     EXPECT(slavotuk_read_count(NULL, 0, &number), SLAVOTUK_REFUSED_MESSAGE);
@@ -664,6 +696,123 @@ static void check_image(void)
     free(restored);
 }
 
+/* These bytes, with nothing behind them, are refused so in that room, of which no byte is touched. */
+static void expect_not_rescued(const uint8_t *bytes, size_t length, size_t room, uint32_t refusal)
+{
+    uint8_t *image = allocate(room), *untouched = allocate(room), *alone = allocate(length);
+    memset(image, 0xee, room);
+    memset(untouched, 0xee, room);
+    memcpy(alone, bytes, length);
+    EXPECT(rescue(alone, length, image, room), refusal);
+    EXPECT_REPORT(0, UNREPORTED, UNREPORTED, UNREPORTED);
+    EXPECT(memcmp(image, untouched, room), 0);
+    free(image);
+    free(untouched);
+    free(alone);
+}
+
+/* These bytes, with nothing behind them, become that image in just its room: so many rows are kept, and these are dropped. */
+static void expect_rescued(const uint8_t *bytes, size_t length, const uint8_t *image, size_t room, unsigned rows,
+                           unsigned dropped)
+{
+    uint8_t *rescued = allocate(room), *alone = allocate(length);
+    memcpy(alone, bytes, length);
+    EXPECT(rescue(alone, length, rescued, room), SLAVOTUK_DONE);
+    EXPECT_REPORT(room, 0, rows, dropped);
+    EXPECT(memcmp(rescued, image, room), 0);
+    expect_not_rescued(bytes, length, room - 1, SLAVOTUK_REFUSED_ROOM);
+    free(rescued);
+    free(alone);
+}
+
+/*
+ * Images of no row to as many as there are places stay as they are. Without its last byte one loses the last row, and where it
+ * states a row less, the last is ignored.
+ */
+static void check_rescues_of(unsigned header)
+{
+    size_t length, shorter;
+    uint8_t *image = image_of(header, 0, &shorter), *longer;
+    expect_rescued(image, shorter, image, shorter, 0, 0);
+    expect_not_rescued(image, shorter - 1, SLAVOTUK_IMAGE_SIZE, SLAVOTUK_REFUSED_MESSAGE);
+    for (unsigned rows = 1; rows <= SLAVOTUK_PROCESSES; rows++) {
+        longer = image_of(header, rows, &length);
+        expect_rescued(longer, length, longer, length, rows, 0);
+        expect_rescued(longer, length - 1, image, shorter, rows - 1, 1u << (rows - 1));
+        longer[6]--;
+        expect_rescued(longer, length, image, shorter, rows - 1, 0);
+        longer[6]++;
+        free(image);
+        image = longer;
+        shorter = length;
+    }
+    free(image);
+    image = image_of(header, SLAVOTUK_PROCESSES + 1, &length);
+    expect_not_rescued(image, length, SLAVOTUK_IMAGE_SIZE, SLAVOTUK_REFUSED_MESSAGE);
+    free(image);
+}
+
+/* The numbers in front, each one past what it may be. */
+static void check_heads(unsigned header)
+{
+    static const struct {
+        unsigned at, number;
+    } damage[] = {{0, 1u << SLAVOTUK_CREDENTIALS}, {2, SLAVOTUK_CREDENTIALS - 1}, {2, SLAVOTUK_CREDENTIALS + 1},
+                  {4, 9}, {4, 11}, {6, SLAVOTUK_PROCESSES + 1}, {8, SLAVOTUK_IMAGE_OLD_HEADER_SIZE - 1},
+                  {8, SLAVOTUK_IMAGE_OLD_HEADER_SIZE + 1}, {8, SLAVOTUK_IMAGE_HEADER_SIZE - 1},
+                  {8, SLAVOTUK_IMAGE_HEADER_SIZE + 1}};
+    for (size_t at = 0; at < sizeof damage / sizeof *damage; at++) {
+        size_t length;
+        uint8_t *image = image_of(header, 1, &length);
+        image[damage[at].at] = (uint8_t)damage[at].number;
+        image[damage[at].at + 1] = (uint8_t)(damage[at].number >> 8);
+        expect_not_rescued(image, length, SLAVOTUK_IMAGE_SIZE, SLAVOTUK_REFUSED_MESSAGE);
+        expect_not_rescued(image, length, 1, SLAVOTUK_REFUSED_MESSAGE);
+        free(image);
+    }
+}
+
+/*
+ * Credential 1 is not provisioned and has both words and row 1; row 2 has next number 0, row 3 the name of row 0, row 4 that of
+ * row 2 and a number of two bytes, row 5 a credential of two bytes, and row 6 is cut. What is rescued is restored.
+ */
+static void check_report(void)
+{
+    enum { HEADER = SLAVOTUK_IMAGE_HEADER_SIZE, ROW = SLAVOTUK_IMAGE_ROW_SIZE, ROWS = 7 };
+    size_t length;
+    uint8_t *image = image_of(HEADER, ROWS, &length), *rescued = allocate(SLAVOTUK_IMAGE_SIZE), *row = image + HEADER;
+    uint8_t restored[SLAVOTUK_STATE_SIZE];
+    image[14] = image[SLAVOTUK_IMAGE_OLD_HEADER_SIZE + 4] = row[1 * ROW] = 1;
+    row[2 * ROW + 2] = 0;
+    row[3 * ROW + 2] = 9;
+    memcpy(row + 3 * ROW + 4, row + 4, SLAVOTUK_NAME_SIZE);
+    row[4 * ROW + 2] = 0;
+    row[4 * ROW + 3] = 1;
+    memcpy(row + 4 * ROW + 4, row + 2 * ROW + 4, SLAVOTUK_NAME_SIZE);
+    row[5 * ROW + 1] = 1;
+    memset(rescued, 0xee, SLAVOTUK_IMAGE_SIZE);
+    EXPECT(slavotuk_restore(restored, sizeof restored, image, length), SLAVOTUK_REFUSED_MESSAGE);
+    EXPECT(rescue(image, length - 1, rescued, SLAVOTUK_IMAGE_SIZE), SLAVOTUK_DONE);
+    EXPECT_REPORT(HEADER + 2 * ROW, 2, 2, 1u << 1 | 1u << 2 | 1u << 3 | 1u << 5 | 1u << 6);
+    EXPECT(memcmp(rescued + HEADER, row, ROW), 0);
+    EXPECT(memcmp(rescued + HEADER + ROW, row + 4 * ROW, ROW), 0);
+    EXPECT(rescued[HEADER + 2 * ROW], 0xee);
+    EXPECT(slavotuk_restore(restored, sizeof restored, rescued, HEADER + 2 * ROW), SLAVOTUK_DONE);
+    expect_rescued(rescued, HEADER + 2 * ROW, rescued, HEADER + 2 * ROW, 2, 0);
+    free(image);
+    free(rescued);
+}
+
+static void check_rescues(void)
+{
+    expect_rescued(no_credentials, sizeof no_credentials, no_credentials, sizeof no_credentials, 0, 0);
+    check_rescues_of(SLAVOTUK_IMAGE_HEADER_SIZE);
+    check_rescues_of(SLAVOTUK_IMAGE_OLD_HEADER_SIZE);
+    check_heads(SLAVOTUK_IMAGE_HEADER_SIZE);
+    check_heads(SLAVOTUK_IMAGE_OLD_HEADER_SIZE);
+    check_report();
+}
+
 /* The next number of the first process, as 65534 claims would leave it. The last number is spent by a refused call. */
 static void check_spent(void)
 {
@@ -703,6 +852,7 @@ int main(void)
     check_images();
     check_offsets();
     check_image();
+    check_rescues();
     check_spent();
     free(state);
     free(name);

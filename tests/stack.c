@@ -29,6 +29,8 @@ static uint8_t name[SLAVOTUK_NAME_SIZE];
 static uint8_t listing[SLAVOTUK_LISTING_SIZE];
 static uint8_t image[SLAVOTUK_IMAGE_SIZE];
 static size_t image_length;
+static uint8_t rescued[SLAVOTUK_IMAGE_SIZE];
+static uint16_t cleared, kept, dropped;
 static uint8_t request[SLAVOTUK_REQUEST_SIZE];
 static size_t length;
 static uint16_t number;
@@ -87,6 +89,10 @@ static void kill0(void) { slavotuk_kill(MODULE, HERE, USER(0, 0), name, sizeof n
 static void set_word0(void) { slavotuk_set_word(MODULE, HERE, USER(0, 0), 1, 0, 0); }
 static void image0(void) { slavotuk_image(MODULE, image, sizeof image, &image_length); }
 static void restore0(void) { slavotuk_restore(MODULE, image, image_length); }
+static void rescue0(void)
+{
+    slavotuk_rescue(image, image_length, rescued, sizeof rescued, &length, &cleared, &kept, &dropped);
+}
 static void write_request0(void) { slavotuk_write_request(request, sizeof request, SLAVOTUK_WANTED_ALL); }
 static void read_request0(void) { slavotuk_read_request(request, sizeof request, &number); }
 static void read_count0(void) { slavotuk_read_count(listing, length, &number); }
@@ -173,6 +179,13 @@ static void damaged(void)
            image + SLAVOTUK_IMAGE_HEADER_SIZE + SLAVOTUK_IMAGE_ROW_SIZE - SLAVOTUK_NAME_SIZE, SLAVOTUK_NAME_SIZE);
 }
 
+/* No credential is provisioned any more: all words are cleared, and all rows dropped. */
+static void unmasked(void)
+{
+    imaged();
+    image[0] = 0;
+}
+
 static void set_values(uint64_t first, uint64_t second, uint64_t third)
 {
     values[0] = first;
@@ -218,6 +231,7 @@ static const struct {
     {"slavotuk_set_word", set_word0, {nothing, opened, one, full, not_granted, only_elevated}},
     {"slavotuk_image", image0, {nothing, fresh, full, all_saved}},
     {"slavotuk_restore", restore0, {no_image, imaged, imaged_old, damaged}},
+    {"slavotuk_rescue", rescue0, {no_image, imaged, imaged_old, damaged, unmasked}},
     {"slavotuk_read_request", read_request0, {nothing, listed}},
     {"slavotuk_write_request", write_request0, {nothing}},
     {"slavotuk_read_count", read_count0, {nothing, listed}},

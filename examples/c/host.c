@@ -1,8 +1,8 @@
 /*
  * A small host of the module: it makes a fresh one, starts two processes, sends a record and its replay, one that is not
  * granted and one that is granted only under elevation. A second network comes in by the other port, and the list of processes
- * is printed as a console would get it. Then a process is saved, and goes on at that port after a power cycle. Every answer is
- * printed as its number and name.
+ * is printed as a console would get it. Then a process is saved, and goes on at that port after a power cycle; what would be
+ * left of it if the flash had lost a byte is shown before. Every answer is printed as its number and name.
  *
  * All calls are made by one thread. A host with a thread for each network takes a lock before each call, and keeps it until the
  * call has returned and the image is written where it has changed: a state takes one call at a time.
@@ -188,6 +188,35 @@ static size_t write_image(const uint8_t state[SLAVOTUK_STATE_SIZE], uint8_t flas
     return length;
 }
 
+/* The places of the dropped rows, counted from 0 in the damaged image. */
+static void print_dropped(uint16_t dropped)
+{
+    printf("dropped:");
+    for (unsigned place = 0; place < SLAVOTUK_PROCESSES; place++) {
+        if (dropped >> place & 1) {
+            printf(" %u", place);
+        }
+    }
+    printf("\n");
+}
+
+/*
+ * The flash has lost the image's last byte, and so the module can't be restored from it. What is rescued makes a module again.
+ * A host tells its operator what was dropped, and that what was kept may be wrong too: slavotuk_rescue has what to do then.
+ */
+static void rescue_module(const uint8_t *flash, size_t length)
+{
+    uint8_t state[SLAVOTUK_STATE_SIZE], image[SLAVOTUK_IMAGE_SIZE];
+    size_t rescued = 0;
+    uint16_t cleared = 0, kept = 0, dropped = 0;
+    expect("restore without the last byte", slavotuk_restore(state, sizeof state, flash, length - 1), SLAVOTUK_REFUSED_MESSAGE);
+    expect("rescue the image",
+           slavotuk_rescue(flash, length - 1, image, sizeof image, &rescued, &cleared, &kept, &dropped), SLAVOTUK_DONE);
+    printf("    %u bytes, %u words cleared, %u rows kept, ", (unsigned)rescued, (unsigned)cleared, (unsigned)kept);
+    print_dropped(dropped);
+    expect("restore what was rescued", slavotuk_restore(state, sizeof state, image, rescued), SLAVOTUK_DONE);
+}
+
 /* The memory comes back with anything in it. Sessions and active processes are lost. */
 static void restore_module(uint8_t state[SLAVOTUK_STATE_SIZE], const uint8_t *flash, size_t length)
 {
@@ -202,9 +231,12 @@ static void cycle_power(uint8_t state[SLAVOTUK_STATE_SIZE])
 {
     uint8_t flash[SLAVOTUK_IMAGE_SIZE];
     uint8_t name[SLAVOTUK_NAME_SIZE];
+    size_t length;
     expect("end, credential 0, number 1, keep",
            slavotuk_end(state, SLAVOTUK_STATE_SIZE, FIRST_PORT, SESSION, 0, 1, VERDICT_YES, 1), SLAVOTUK_DONE);
-    restore_module(state, flash, write_image(state, flash));
+    length = write_image(state, flash);
+    rescue_module(flash, length);
+    restore_module(state, flash, length);
     make_name(name, 0x11);
     expect("continue on port 1, credential 0",
            slavotuk_continue(state, SLAVOTUK_STATE_SIZE, SECOND_PORT, SESSION, 0, name, sizeof name), SLAVOTUK_DONE);

@@ -8,7 +8,8 @@ use std::ops::Deref;
 pub const FULL_IMAGE_LENGTH: usize = layout::image::FULL_LENGTH;
 
 /// What a module keeps while it is without power, as the bytes that are to be kept: its credentials, both words of each, and its saved processes with their next
-/// numbers. [`Module::image`](crate::Module::image) writes one, and [`Module::restore`](crate::Module::restore) makes a module from its bytes.
+/// numbers. [`Module::image`](crate::Module::image) writes one, and [`Module::restore`](crate::Module::restore) makes a module from its bytes. Where these were damaged,
+/// [`rescue`](crate::rescue) makes one of what is left.
 ///
 /// **Lost with the power** is what does not stand in it: that sessions were open, and every active process, also one that was saved before and continued.
 ///
@@ -17,8 +18,8 @@ pub const FULL_IMAGE_LENGTH: usize = layout::image::FULL_LENGTH;
 /// and none that is refused. From an older one, numbers that were spent since are good again, processes that were killed since stand again, and words are the
 /// old ones.
 ///
-/// **Two layouts are read.** An image of before version 3 has no second words, and makes a module in which they are zero. What is written is always in the new
-/// layout: whoever has restored an old image writes the new one at once.
+/// **Two layouts are read.** An image of before version 3 has no second words, and makes a module in which they are zero. What a module writes is always in the new
+/// layout: whoever has restored an old image writes the new one at once. A rescue keeps the layout.
 ///
 /// ```
 /// use slavotuk::{layout, Credential, Grants, Module, Name, Phase, Refusal, Session, Standing, UserClaim, VERSION_1_0};

@@ -2,7 +2,7 @@
 
 use crate::{answered, entries, Image, Refusal, FULL_IMAGE_LENGTH};
 
-/// Makes a good image of what is left of a damaged one, in the layout that the bytes state. An image stays as it is, and nothing is reported of it.
+/// Makes a good image of what is left of a damaged one, in the layout that the bytes state. An image stays as it is: no word is cleared, and no row dropped.
 ///
 /// Words of credentials that are not provisioned are cleared. Of the rows, up to the stated count, those are kept that are whole, whose owner is provisioned, whose
 /// next number is at least 1, and whose name no row has that was kept before; what lies behind them is ignored. [`Rescued`] says what it can't know. Refusals: message

@@ -226,6 +226,12 @@ fn a_changed_parameter_of_the_header_is_told() {
             "const uint32_t *seconds",
             "const uint8_t *seconds",
         ],
+        // three numbers of one type, one behind the other
+        [
+            "slavotuk_rescue",
+            "uint16_t *SLAVOTUK_RESTRICT kept, uint16_t *SLAVOTUK_RESTRICT dropped",
+            "uint16_t *SLAVOTUK_RESTRICT dropped, uint16_t *SLAVOTUK_RESTRICT kept",
+        ],
         [
             "slavotuk_other",
             "\nuint32_t slavotuk_open",
