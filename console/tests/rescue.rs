@@ -331,7 +331,7 @@ fn devices_are_read_as_files_and_not_written() {
     assert_eq!(rescued("/dev/null", &damaged.to), refused(0));
     assert_eq!(rescued("/dev/zero", &damaged.to), refused(FULL_LENGTH));
     assert_eq!(damaged.folder.names(), ["damaged"]);
-    for device in ["/dev/null", "/dev/full"] {
+    for device in ["/dev/null", "/dev/zero"] {
         let message = format!("{device} is not written: there is something else than a file");
         not_rescued(&damaged.from, device, &message);
     }
