@@ -27,6 +27,7 @@ enum { PLACES = SLAVOTUK_PROCESSES, NAME = SLAVOTUK_NAME_SIZE, PAIRS = PLACES * 
 /* Where names lie in a state (docs/STATE.md) and in an image (docs/IMAGE.md): last in a place, and places last; last in a row. */
 enum { NAME_IN_PLACE = 5, PLACE_SIZE = NAME_IN_PLACE + NAME, PLACES_AT = SLAVOTUK_STATE_SIZE - PLACE_SIZE * PLACES };
 enum { ROWS_AT = SLAVOTUK_IMAGE_HEADER_SIZE, ROW_SIZE = SLAVOTUK_IMAGE_ROW_SIZE, NAME_IN_ROW = ROW_SIZE - NAME };
+enum { LAST_ROW = PLACES - 1 };
 enum { OLD_ROWS_AT = SLAVOTUK_IMAGE_OLD_HEADER_SIZE, OLD_IMAGE_SIZE = SLAVOTUK_IMAGE_SIZE - SECOND_WORDS_SIZE };
 
 /* Drawn names differ from their first byte on. On the board of the accident all began with 16 bytes of zero. */
@@ -41,6 +42,11 @@ static uint8_t state[SLAVOTUK_STATE_SIZE];
 static uint8_t name[NAME];
 static uint8_t image[SLAVOTUK_IMAGE_SIZE];
 static uint8_t old_image[OLD_IMAGE_SIZE];
+static uint8_t rescued[SLAVOTUK_IMAGE_SIZE];
+
+/* What a rescue hands out. */
+static size_t rescued_length;
+static uint16_t cleared, kept, dropped;
 
 /* What a case begins with, of each set of names. */
 static uint8_t names[SETS][PLACES][NAME];
@@ -240,6 +246,14 @@ static uint32_t holds_it(void) { return slavotuk_holds(MODULE); }
 static uint32_t restore_it(void) { return slavotuk_restore(MODULE, image, sizeof image); }
 static uint32_t restore_old_it(void) { return slavotuk_restore(MODULE, old_image, sizeof old_image); }
 
+static uint32_t rescue(const uint8_t *bytes, size_t length)
+{
+    return slavotuk_rescue(bytes, length, rescued, sizeof rescued, &rescued_length, &cleared, &kept, &dropped);
+}
+
+static uint32_t rescue_it(void) { return rescue(image, sizeof image); }
+static uint32_t rescue_old_it(void) { return rescue(old_image, sizeof old_image); }
+
 /* ---- groups */
 
 struct group {
@@ -248,6 +262,7 @@ struct group {
     void (*prepare)(const struct spot *);
     uint32_t (*call)(void);
     uint32_t answer;
+    uint16_t dropped;      /* by a rescue, bit i for row i: it is answered with 0 also where two names are equal */
     int of_pairs;          /* of places, and not of places */
     unsigned first, count; /* these places or pairs */
     unsigned bytes;        /* of a name, at which two differ */
@@ -303,18 +318,33 @@ static void surround(const struct spot *spot)
     }
 }
 
+/* The last row of an image has the name of the one at the place, and all others differ from it, and from each other, at the byte. */
+static void surround_rows(const struct spot *spot)
+{
+    const uint8_t *twice = names[spot->set][spot->place];
+    memcpy(image, saved_image[spot->set], sizeof image);
+    for (unsigned row = 0; row < LAST_ROW; row++) {
+        if (row != spot->place) {
+            differing(name_in_row(image, row), twice, spot, row + 1);
+        }
+    }
+    memcpy(name_in_row(image, LAST_ROW), twice, NAME);
+}
+
 static const struct group groups[] = {
-    {"kill, no such name, 12 standing", full, ask, kill_it, SLAVOTUK_REFUSED_NO_PROCESS, 0, 0, PLACES, NAME, 0},
-    {"kill, no such name of its own, 12 standing", own_reach, ask, kill_it, SLAVOTUK_REFUSED_NO_PROCESS, 0, 0, PLACES, NAME, 0},
-    {"kill, a stranger's name, 12 standing", own_reach, ask_by_name, kill_it, SLAVOTUK_REFUSED_NO_PROCESS, 0, STRANGERS, PLACES - STRANGERS, 1, 0},
-    {"start, done, 11 standing", with_room, ask, start_it, SLAVOTUK_DONE, 0, 0, PLACES - 1, NAME, 0},
-    {"start, full, 12 standing", full, ask, start_it, SLAVOTUK_REFUSED_FULL, 0, 0, PLACES, NAME, 0},
-    {"continue, no such name, 12 saved", all_saved, ask, continue_it, SLAVOTUK_REFUSED_NO_PROCESS, 0, 0, PLACES, NAME, 0},
-    {"elevate, done, 11 standing", with_room, ask, elevate_it, SLAVOTUK_DONE, 0, 0, PLACES - 1, NAME, 0},
-    {"holds, 12 standing", full, pair_up, holds_it, SLAVOTUK_DONE, 1, 0, PAIRS, NAME, 0},
-    {"holds, two share a digest", full, share_digest, holds_it, SLAVOTUK_DONE, 1, 0, 1, BEFORE_LAST, 0},
-    {"restore, 12 rows", full, pair_up_rows, restore_it, SLAVOTUK_DONE, 1, 0, PAIRS, NAME, 1},
-    {"restore, 12 rows in the old layout", full, pair_up_old_rows, restore_old_it, SLAVOTUK_DONE, 1, 0, PAIRS, NAME, 1},
+    {"kill, no such name, 12 standing", full, ask, kill_it, SLAVOTUK_REFUSED_NO_PROCESS, 0, 0, 0, PLACES, NAME, 0},
+    {"kill, no such name of its own, 12 standing", own_reach, ask, kill_it, SLAVOTUK_REFUSED_NO_PROCESS, 0, 0, 0, PLACES, NAME, 0},
+    {"kill, a stranger's name, 12 standing", own_reach, ask_by_name, kill_it, SLAVOTUK_REFUSED_NO_PROCESS, 0, 0, STRANGERS, PLACES - STRANGERS, 1, 0},
+    {"start, done, 11 standing", with_room, ask, start_it, SLAVOTUK_DONE, 0, 0, 0, PLACES - 1, NAME, 0},
+    {"start, full, 12 standing", full, ask, start_it, SLAVOTUK_REFUSED_FULL, 0, 0, 0, PLACES, NAME, 0},
+    {"continue, no such name, 12 saved", all_saved, ask, continue_it, SLAVOTUK_REFUSED_NO_PROCESS, 0, 0, 0, PLACES, NAME, 0},
+    {"elevate, done, 11 standing", with_room, ask, elevate_it, SLAVOTUK_DONE, 0, 0, 0, PLACES - 1, NAME, 0},
+    {"holds, 12 standing", full, pair_up, holds_it, SLAVOTUK_DONE, 0, 1, 0, PAIRS, NAME, 0},
+    {"holds, two share a digest", full, share_digest, holds_it, SLAVOTUK_DONE, 0, 1, 0, 1, BEFORE_LAST, 0},
+    {"restore, 12 rows", full, pair_up_rows, restore_it, SLAVOTUK_DONE, 0, 1, 0, PAIRS, NAME, 1},
+    {"restore, 12 rows in the old layout", full, pair_up_old_rows, restore_old_it, SLAVOTUK_DONE, 0, 1, 0, PAIRS, NAME, 1},
+    {"rescue, 12 rows", full, pair_up_rows, rescue_it, SLAVOTUK_DONE, 0, 1, 0, PAIRS, NAME, 1},
+    {"rescue, 12 rows in the old layout", full, pair_up_old_rows, rescue_old_it, SLAVOTUK_DONE, 0, 1, 0, PAIRS, NAME, 1},
 };
 
 /* ---- cases */
@@ -346,6 +376,7 @@ static void try_case(const struct group *group, const struct spot *spot)
 {
     uint32_t answer;
     memcpy(state, group->begin[spot->set], sizeof state);
+    dropped = 0;
     group->prepare(spot);
     say(group, spot);
     MARKS[BEGINS] = 1;
@@ -353,6 +384,10 @@ static void try_case(const struct group *group, const struct spot *spot)
     MARKS[ENDS] = 1;
     if (answer != group->answer) {
         stop(group->name, answer);
+    }
+    if (dropped != group->dropped) {
+        fprintf(stderr, "trace: %s: the rows dropped are 0x%x\n", group->name, dropped);
+        exit(1);
     }
 }
 
@@ -419,27 +454,32 @@ static void try_group(const struct group *group)
     }
 }
 
-/* Calls that find the name which they are handed. */
+/* Calls that find the name which they are handed, and a rescue that finds a row's name among those before it. */
 static const struct finding {
     const char *what;
     uint8_t (*begin)[SLAVOTUK_STATE_SIZE];
+    void (*prepare)(const struct spot *);
     uint32_t (*call)(void);
     uint32_t answer;
+    uint16_t dropped;
+    unsigned places; /* at which it can be found */
 } findings[] = {
-    {"kill, found", full, kill_it, SLAVOTUK_DONE},
-    {"start, name taken", full, start_it, SLAVOTUK_REFUSED_NAME_TAKEN},
-    {"elevate, name taken", full, elevate_it, SLAVOTUK_REFUSED_NAME_TAKEN},
-    {"continue, found", all_saved, continue_it, SLAVOTUK_DONE},
+    {"kill, found", full, surround, kill_it, SLAVOTUK_DONE, 0, PLACES},
+    {"start, name taken", full, surround, start_it, SLAVOTUK_REFUSED_NAME_TAKEN, 0, PLACES},
+    {"elevate, name taken", full, surround, elevate_it, SLAVOTUK_REFUSED_NAME_TAKEN, 0, PLACES},
+    {"continue, found", all_saved, surround, continue_it, SLAVOTUK_DONE, 0, PLACES},
+    {"rescue, name taken", full, surround_rows, rescue_it, SLAVOTUK_DONE, 1u << LAST_ROW, LAST_ROW},
 };
 
 /* A search ends at the place that matches, so each place is a group. */
 static void try_found(const struct finding *finding)
 {
     static char text[40];
-    for (unsigned place = 0; place < PLACES; place++) {
-        const struct group group = {text, finding->begin, surround, finding->call, finding->answer, 0, place, 1, NAME, 0};
+    for (unsigned place = 0; place < finding->places; place++) {
+        const struct group group = {text, finding->begin, finding->prepare, finding->call, finding->answer, finding->dropped,
+                                    0, place, 1, NAME, 0};
         snprintf(text, sizeof text, "%s at place %u", finding->what, place);
-        if (is_chosen(place, PLACES)) {
+        if (is_chosen(place, finding->places)) {
             try_group(&group);
         }
     }
@@ -465,6 +505,7 @@ static void say_buffers(void)
     printf("buffer\timage\t%p\t%zu\trow\t%u\t%u\n", (void *)image, sizeof image, ROWS_AT + NAME_IN_ROW, ROW_SIZE);
     printf("buffer\told image\t%p\t%zu\trow\t%u\t%u\n", (void *)old_image, sizeof old_image, OLD_ROWS_AT + NAME_IN_ROW,
            ROW_SIZE);
+    printf("buffer\trescued image\t%p\t%zu\trow\t%u\t%u\n", (void *)rescued, sizeof rescued, ROWS_AT + NAME_IN_ROW, ROW_SIZE);
 }
 
 static void make_numbers(void)

@@ -1,8 +1,9 @@
 //! Carries commands out on the module that the console holds.
 
 use crate::line::{quoted, visible, AllGrants, Command, Records, DOCUMENT_01};
+use crate::replace::Failure;
 use crate::write::Written;
-use crate::{draw, files, formats, help, read};
+use crate::{draw, files, formats, help, read, rescue};
 use slavotuk::entries::{self, RawClaim};
 use slavotuk::{
     Call, Listing, Module, Refusal, WireCredential, FULL_IMAGE_LENGTH, REQUEST_LENGTH, STATE_LENGTH,
@@ -27,6 +28,12 @@ impl From<io::Error> for Trouble {
 impl From<String> for Trouble {
     fn from(wrong: String) -> Trouble {
         Trouble::Line(wrong)
+    }
+}
+
+impl From<Failure> for Trouble {
+    fn from(failure: Failure) -> Trouble {
+        Trouble::Line(failure.why)
     }
 }
 
@@ -106,6 +113,7 @@ impl Console {
             }
             Command::Image(file) => self.image(&file, line, out)?,
             Command::Restore(file) => self.restore(&file, line, out)?,
+            Command::Rescue { from, to } => rescue::rescue(&from, &to, out)?,
             Command::History => self.history.draw(out)?,
             Command::Help(None) => help::overview(out)?,
             Command::Help(Some(name)) => match (help::topic(&name), formats::named(&name)) {

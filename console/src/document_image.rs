@@ -1,9 +1,10 @@
-//! The part of docs/IMAGE.md that is computed: the lines of an example with their answers, the image that it writes, field by field, and changes of that
-//! image that are refused, in both layouts.
+//! The part of docs/IMAGE.md that is computed: the lines of an example with their answers, the image that it writes, field by field, changes of that
+//! image that are refused, in both layouts, and what is rescued of damaged ones.
 
 use crate::bytes;
 use crate::console::Console;
 use crate::document::{is_computed, path};
+use crate::document_rescue;
 use crate::folder::Folder;
 use crate::line::{self, Command};
 use slavotuk::layout::image::*;
@@ -251,13 +252,17 @@ fn computed() -> String {
     let old = in_old_layout(image);
     let old_length = old.len();
     let old_refused = changes(&old, &OLD_CHANGES);
+    let rescued = document_rescue::table(&old, image);
     format!(
         "\n## An example\n\n\
          The lines of `{EXAMPLE}`, each with its answer:\n\n{text}\n\
          The first image of these, {length} bytes. In a name `00*16` is 16 bytes of `00`.\n\n{drawn}\n\
          Each of these changes of it makes bytes that are no image:\n\n{refused}\n\
          In the old layout it has {old_length} bytes: `2a` at 8, no second words, and row 0 at 42. That is restored with second words zero, so that no\n\
-         class is marked, and written again in the new layout. Each of these changes of it makes bytes that are no image:\n\n{old_refused}"
+         class is marked, and written again in the new layout. Each of these changes of it makes bytes that are no image:\n\n{old_refused}\n\
+         ## What is rescued\n\n\
+         X is the example's image in the old layout, {old_length} bytes, and Y as it is, {length} bytes. The buffer has {FULL_LENGTH} bytes where nothing else is said. Each image that is written\n\
+         here is restored, and rescued again it stays as it is.\n\n{rescued}"
     )
 }
 

@@ -84,7 +84,7 @@ fn own_class(class: Class) -> Option<&'static str> {
 }
 
 /// Rising numbers, those that follow each other drawn together.
-fn ranges(numbers: impl Iterator<Item = u8>) -> String {
+pub fn ranges(numbers: impl Iterator<Item = u8>) -> String {
     let mut ranges: Vec<(u8, u8)> = Vec::new();
     for number in numbers {
         match ranges.last_mut() {

@@ -1,20 +1,27 @@
 //! A state and an image in files.
 
 use crate::line::visible;
-use crate::replace::replace;
+use crate::replace::{replace, Failure};
 use slavotuk::{Module, FULL_IMAGE_LENGTH, STATE_LENGTH};
 use std::fs::File;
 use std::io::{self, Read};
 use std::path::Path;
 
 /// Writes a state to a file.
-pub fn save(file: &Path, state: &[u8; STATE_LENGTH]) -> Result<(), String> {
-    replace(file, state).map_err(|why| wrong(file, "saved", &why))
+pub fn save(file: &Path, state: &[u8; STATE_LENGTH]) -> Result<(), Failure> {
+    replace(file, state).map_err(|failure| about(file, "saved", failure))
 }
 
 /// Writes an image to a file.
-pub fn write_image(file: &Path, image: &[u8]) -> Result<(), String> {
-    replace(file, image).map_err(|why| wrong(file, "written", &why))
+pub fn write_image(file: &Path, image: &[u8]) -> Result<(), Failure> {
+    replace(file, image).map_err(|failure| about(file, "written", failure))
+}
+
+fn about(file: &Path, done: &str, failure: Failure) -> Failure {
+    Failure {
+        why: wrong(file, done, &failure.why),
+        ..failure
+    }
 }
 
 fn wrong(file: &Path, done: &str, why: &str) -> String {
@@ -46,11 +53,20 @@ pub fn read_image(file: &Path) -> Result<Vec<u8>, String> {
     read_start(file, FULL_IMAGE_LENGTH).map_err(|error| wrong(file, "read", &error.to_string()))
 }
 
+/// The bytes of a file that may be a damaged image: nothing behind the longest image is looked at.
+pub fn read_damaged(file: &Path) -> Result<Vec<u8>, String> {
+    read_at_most(file, FULL_IMAGE_LENGTH).map_err(|error| wrong(file, "read", &error.to_string()))
+}
+
 /// As many bytes as tell a file of this length from a longer one: it may be of any size.
 fn read_start(file: &Path, length: usize) -> io::Result<Vec<u8>> {
+    read_at_most(file, length + 1)
+}
+
+fn read_at_most(file: &Path, length: usize) -> io::Result<Vec<u8>> {
     let mut bytes = Vec::new();
     File::open(file)?
-        .take(length as u64 + 1)
+        .take(length as u64)
         .read_to_end(&mut bytes)?;
     Ok(bytes)
 }

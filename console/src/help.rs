@@ -17,7 +17,7 @@ pub struct Topic {
 }
 
 /// The commands, in the order of their listing.
-pub const COMMANDS: [Topic; 25] = [
+pub const COMMANDS: [Topic; 26] = [
     Topic {
         name: "fresh",
         form: "fresh [C=WORD[/SECOND] ..]",
@@ -222,6 +222,22 @@ pub const COMMANDS: [Topic; 25] = [
             "the image again at once.",
             "Refused with 14 where the file is no image; the module stays as it was.",
             "Else a new history begins.",
+        ],
+    },
+    Topic {
+        name: "rescue",
+        form: "rescue FROM TO",
+        short: "make a good image of a damaged one",
+        more: &[
+            "FROM is a file that 'restore' refuses. TO gets an image in the same layout,",
+            "and may be FROM itself. At most 698 bytes of FROM are read. TO is replaced",
+            "whole or not at all, as with 'image', and a refusal leaves it as it was.",
+            "Words of unprovisioned credentials are cleared. A row is kept where all of it",
+            "is there, its credential is provisioned, its next number is at least 1, and no",
+            "row kept before it has its name. Places are those in FROM, from 0 on.",
+            "What was kept may be damaged too: docs/IMAGE.md says what to do then.",
+            "The module stays as it is, and the history has no line of it.",
+            "Refused with, in this order: 14, 15; the console gives no reason for 15.",
         ],
     },
     Topic {

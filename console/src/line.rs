@@ -47,6 +47,8 @@ pub enum Command {
     Image(PathBuf),
     /// The module from the image in a file.
     Restore(PathBuf),
+    /// What can be rescued of the image in a file into a file.
+    Rescue { from: PathBuf, to: PathBuf },
     /// The calls so far.
     History,
     /// Everything in short, or one topic.
@@ -114,10 +116,14 @@ fn command(name: &str, words: &mut Reader) -> Result<Command, String> {
         "request" => Command::Request(words.wanted16()?),
         "read" => Command::Read(words.message()?),
         "write" => Command::Write(words.written()?),
-        "save" => Command::Save(words.file()?),
-        "load" => Command::Load(words.file()?),
-        "image" => Command::Image(words.file()?),
-        "restore" => Command::Restore(words.file()?),
+        "save" => Command::Save(words.file("file")?),
+        "load" => Command::Load(words.file("file")?),
+        "image" => Command::Image(words.file("file")?),
+        "restore" => Command::Restore(words.file("file")?),
+        "rescue" => Command::Rescue {
+            from: words.file("from")?,
+            to: words.file("to")?,
+        },
         "history" => Command::History,
         "help" => Command::Help(words.topic()?),
         "quit" => Command::Quit,
@@ -401,8 +407,8 @@ impl<'a> Reader<'a> {
         Ok(Some(self.plain("command")?.into()))
     }
 
-    fn file(&mut self) -> Result<PathBuf, String> {
-        Ok(self.next("file")?.text.into())
+    fn file(&mut self, part: &str) -> Result<PathBuf, String> {
+        Ok(self.next(part)?.text.into())
     }
 
     fn whole(&mut self) -> Result<bool, String> {

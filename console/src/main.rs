@@ -8,6 +8,8 @@ mod console;
 mod document;
 #[cfg(test)]
 mod document_image;
+#[cfg(test)]
+mod document_rescue;
 mod draw;
 mod files;
 #[cfg(test)]
@@ -18,6 +20,7 @@ mod help;
 mod line;
 mod read;
 mod replace;
+mod rescue;
 mod tables;
 mod write;
 

@@ -7,11 +7,29 @@ use std::path::{Path, PathBuf};
 /// How many names are tried for the new file. One that is taken was left behind by a process that was killed.
 const TRIED_NAMES: u32 = 100;
 
+/// Why the disk may not have the file's new bytes.
+#[derive(Debug, PartialEq)]
+pub struct Failure {
+    pub why: String,
+    /// Whether the file is the new one: all was done but for the last step. Else it is as it was.
+    pub is_new: bool,
+}
+
+impl Failure {
+    /// One that leaves the file as it was.
+    fn before(why: impl ToString) -> Failure {
+        Failure {
+            why: why.to_string(),
+            is_new: false,
+        }
+    }
+}
+
 /// Gives the file these bytes. An error before the last step leaves it as it was, with nothing new beside it.
 ///
 /// A symbolic link stays, and the file that it leads to is replaced.
-pub fn replace(file: &Path, bytes: &[u8]) -> Result<(), String> {
-    let target = target_of(file)?;
+pub fn replace(file: &Path, bytes: &[u8]) -> Result<(), Failure> {
+    let target = target_of(file).map_err(Failure::before)?;
     replace_by(&mut Real, &target, bytes)
 }
 
@@ -51,13 +69,15 @@ fn target_of(file: &Path) -> Result<PathBuf, String> {
     }
 }
 
-fn replace_by(disk: &mut impl Disk, file: &Path, bytes: &[u8]) -> Result<(), String> {
+fn replace_by(disk: &mut impl Disk, file: &Path, bytes: &[u8]) -> Result<(), Failure> {
     // opened first: where that fails, nothing has changed yet
     let path = folder_of(file);
-    let folder = File::open(path).map_err(|error| error.to_string())?;
-    put_beside(disk, path, file, bytes).map_err(|error| error.to_string())?;
-    disk.sync(&folder)
-        .map_err(|error| format!("the file is new, but the disk may not have it: {error}"))
+    let folder = File::open(path).map_err(Failure::before)?;
+    put_beside(disk, path, file, bytes).map_err(Failure::before)?;
+    disk.sync(&folder).map_err(|error| Failure {
+        why: format!("the file is new, but the disk may not have it: {error}"),
+        is_new: true,
+    })
 }
 
 fn folder_of(file: &Path) -> &Path {
@@ -172,7 +192,7 @@ mod tests {
         }
     }
 
-    fn replaced(file: &Path, fails: Option<Step>) -> (Result<(), String>, Noted) {
+    fn replaced(file: &Path, fails: Option<Step>) -> (Result<(), Failure>, Noted) {
         let mut disk = Noted {
             fails,
             file: file.into(),
@@ -203,13 +223,13 @@ mod tests {
         let file = PathBuf::from(folder.file("file"));
         for (at, step) in STEPS.into_iter().take(4).enumerate() {
             let (done, disk) = replaced(&file, Some(step));
-            assert_eq!(done, Err("no".into()), "{step:?}");
+            assert_eq!(done, Err(Failure::before("no")), "{step:?}");
             assert_eq!(disk.steps, STEPS[..=at]);
             assert_eq!(folder.names(), [""; 0], "{step:?}");
 
             fs::write(&file, OLD).unwrap();
             let (done, _) = replaced(&file, Some(step));
-            assert_eq!(done, Err("no".into()), "{step:?}");
+            assert_eq!(done, Err(Failure::before("no")), "{step:?}");
             assert_eq!(fs::read(&file).unwrap(), OLD, "{step:?}");
             assert_eq!(folder.names(), ["file"], "{step:?}");
             fs::remove_file(&file).unwrap();
@@ -222,8 +242,12 @@ mod tests {
         let file = PathBuf::from(folder.file("file"));
         fs::write(&file, OLD).unwrap();
         let (done, _) = replaced(&file, Some(Step::SyncFolder));
-        let told = "the file is new, but the disk may not have it: no";
-        assert_eq!(done, Err(told.into()));
+        let failure = done.unwrap_err();
+        assert_eq!(
+            failure.why,
+            "the file is new, but the disk may not have it: no"
+        );
+        assert!(failure.is_new);
         assert_eq!(fs::read(&file).unwrap(), NEW);
         assert_eq!(folder.names(), ["file"]);
     }

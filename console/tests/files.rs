@@ -106,10 +106,17 @@ fn unreadable_files_change_nothing() {
     not_loaded(&folder.file("missing/state"), "No such file");
 }
 
-/// Saves where nothing can be saved, and writes an image there: the message, and that nothing is left behind.
+/// Rescues this image, which is a good one, to the file that follows.
+const RESCUE: &str = concat!(
+    "rescue \"",
+    env!("CARGO_MANIFEST_DIR"),
+    "/../examples/old-board.image\""
+);
+
+/// Saves where nothing can be saved, and writes an image there, the module's and a rescued one: the message, and that nothing is left behind.
 #[track_caller]
 fn not_saved(folder: &Folder, file: &str) {
-    for (command, done) in [("save", "saved"), ("image", "written")] {
+    for (command, done) in [("save", "saved"), ("image", "written"), (RESCUE, "written")] {
         let before = folder.names();
         let run = run(format!("{SETUP}{command} {file}\nopen 1\n"));
         let message = format!("line 7: {file} is not {done}: ");
@@ -141,7 +148,9 @@ fn a_long_name_is_written() {
     let folder = Folder::new("long");
     let name = "n".repeat(255);
     let file = folder.file(&name);
-    good(format!("save {file}\nimage {file}\nrestore {file}\n"));
+    good(format!(
+        "save {file}\nimage {file}\nrestore {file}\nrescue {file} {file}\n"
+    ));
     assert_eq!(folder.names(), [name]);
 }
 
@@ -177,7 +186,11 @@ fn a_symbolic_link_stays_and_its_file_is_replaced() {
     let (link, file) = (format!("{near}/link"), format!("{far}/file"));
     fs::write(&file, b"old").unwrap();
     symlink("../far/file", &link).unwrap();
-    for (command, length) in [("save", STATE_LENGTH), ("image", layout::image::row_at(1))] {
+    for (command, length) in [
+        ("save", STATE_LENGTH),
+        ("image", layout::image::row_at(1)),
+        (RESCUE, layout::image::old_row_at(2)),
+    ] {
         good(format!("{SETUP}{command} {link}\n"));
         assert_eq!(fs::read_link(&link).unwrap().to_str(), Some("../far/file"));
         assert!(fs::symlink_metadata(&file).unwrap().is_file());
@@ -186,6 +199,8 @@ fn a_symbolic_link_stays_and_its_file_is_replaced() {
         assert_eq!(fs::read_dir(&far).unwrap().count(), 1);
     }
     good(format!("restore {link}\n"));
+    good(format!("rescue {link} {link}\nrestore {link}\n"));
+    assert!(fs::symlink_metadata(&link).unwrap().is_symlink());
 
     fs::remove_file(&file).unwrap();
     not_saved(&folder, &link);
@@ -223,7 +238,7 @@ fn a_missing_file_name_is_a_bad_line() {
 
 #[test]
 fn an_empty_file_name_names_no_file() {
-    for command in ["save", "image"] {
+    for command in ["save", "image", RESCUE] {
         let run = run(format!("{command} \"\"\n"));
         assert!(run.err.ends_with(": it names no file\n"), "{}", run.err);
     }

@@ -9,7 +9,7 @@ use std::process::Stdio;
 const SETUP: &str = "open 0\nselect 0 0x10\nstart 0 0 P\nstart 0 1 R\n";
 
 /// Bad lines, each with a part of its message.
-const BAD: [(&str, &str); 71] = [
+const BAD: [(&str, &str); 77] = [
     ("opne 3", "no command 'opne'"),
     ("OPEN 3", "no command 'OPEN'"),
     ("\u{1b}[31m", "no command '\\u{1b}[31m'"),
@@ -100,6 +100,15 @@ const BAD: [(&str, &str); 71] = [
     ("read", "message is missing"),
     ("read 00*4194304 00", "'00': over 4194304 bytes"),
     ("read 8e0", "'8e0': a byte has two hexadecimal digits"),
+    ("rescue", "from is missing"),
+    ("rescue board.image", "to is missing"),
+    ("rescue \"board.image\"", "to is missing"),
+    ("rescue from to more", "'more' is too much"),
+    ("rescue from \"to", "a quotation mark is not closed"),
+    (
+        "rescue \"from\"to",
+        "a blank has to follow a closing quotation mark",
+    ),
     ("show me", "'me' is not names"),
     ("help me", "no command 'me'"),
     ("history now", "'now' is too much"),
@@ -231,10 +240,10 @@ since fresh 3=0x10
     assert_eq!(&out[from..], told);
 }
 
-const COMMANDS: [&str; 25] = [
+const COMMANDS: [&str; 26] = [
     "fresh", "open", "close", "select", "start", "continue", "elevate", "drop", "end", "record",
     "records", "list", "kill", "set-word", "show", "request", "read", "write", "save", "load",
-    "image", "restore", "history", "help", "quit",
+    "image", "restore", "rescue", "history", "help", "quit",
 ];
 
 #[test]
