@@ -6,7 +6,8 @@ use mathlib.Core.Bool.{Bool, true, false, not}
 use mathlib.Core.List.{List}
 use native.Mathlib.Omega.{arith}
 use borrow.Author.Needs.{needs}
-use borrow.Author.Tests.{not-true, not-false, eq-eqb, ne-eqb, ltb-true}
+use borrow.Author.Tests.{not-true, not-false, eqb-true, eq-eqb, ne-eqb, ltb-true}
+use lib.Dec.{eqb}
 use lib.ListN.{length}
 use Rattle.lists.proofs.Tests.{split}
 use Rattle.rows.specs.Rows.{over}
@@ -16,8 +17,10 @@ use Rattle.module_state.specs.declared.State.{State}
 use Rattle.state_layout.specs.Layout.{stateLength, stateOf, stateWritten, holdsState}
 use Rattle.state_layout.proofs.Laws.{state-written}
 use Rattle.image.specs.declared.ImageRead.{ImageRead}
+use Rattle.image.specs.declared.Rescued.{Rescued}
+use Rattle.image.specs.Rescue.{rescueNumber, rescueAnswer, RescueWritten}
 use Rattle.image.specs.Image.{imageLong, stateImage, imageRoom, lacksRoom, isImage, restored, readImage, ImageWritten}
-use Rattle.entries_image.specs.Entries.{imageNumber, restoreNumber, ImageEntry, RestoreEntry}
+use Rattle.entries_image.specs.Entries.{imageNumber, restoreNumber, ImageEntry, RestoreEntry, RescueEntry}
 
 -- ---- the writer: no image is 0 bytes long, and a buffer that is too short is kept
 room-some : (st : State) → imageRoom st ≡ 0 → ⊥
@@ -78,4 +81,39 @@ module _ (before image : List ℕ) where
         let s : r .state ≡ restored image = rw (e, z) in
         record { number-is = rw (eq-eqb (length before) stateLength k, z); bytes-are = w ∙ rw (state-written before _ k, s, eq-eqb (length before) stateLength k, z) }
 
-pub ruleset rules = (needs, image-none, image-short, image-done, restore-long, restore-refused, restore-done)
+-- ---- rescue
+module _ (bytes old : List ℕ) {answer : Rescued} {new : List ℕ} (w : RescueWritten bytes old answer new) (cleared kept dropped : ℕ) where
+  abbrev number : ℕ
+  number = rescueNumber bytes (length old)
+
+  answered : answer .number ≡ number
+  unfolding rescueAnswer
+  answered = rw (w .answer-is) (split (eqb number 0) (λ z. rw z (sym (eqb-true number 0 z))) (λ z. rw z))
+
+  pub rescue-refused : (answer .number ≡ 0 → ⊥) → RescueEntry bytes old cleared kept dropped (answer .number) new (answer .length) cleared kept dropped
+  unfolding rescueAnswer
+  rescue-refused n =
+      let z : eqb number 0 ≡ false = ne-eqb number 0 (λ e. n (answered ∙ e)) in
+      record {
+        number-is = answered;
+        image-is = w .bytes-are;
+        length-is = rw (w .answer-is, z);
+        cleared-is = rw z;
+        kept-is = rw z;
+        dropped-is = rw z;
+      }
+
+  pub rescue-done : answer .number ≡ 0 → RescueEntry bytes old cleared kept dropped 0 new (answer .length) (answer .cleared) (answer .kept) (answer .dropped)
+  unfolding rescueAnswer
+  rescue-done e =
+      let z : eqb number 0 ≡ true = eq-eqb number 0 (sym answered ∙ e) in
+      record {
+        number-is = sym e ∙ answered;
+        image-is = w .bytes-are;
+        length-is = rw (w .answer-is, z);
+        cleared-is = rw (w .answer-is, z);
+        kept-is = rw (w .answer-is, z);
+        dropped-is = rw (w .answer-is, z);
+      }
+
+pub ruleset rules = (needs, image-none, image-short, image-done, restore-long, restore-refused, restore-done, rescue-refused, rescue-done)

@@ -1,6 +1,6 @@
-// The image of a module as programs in C and Rust write it and restore a module from it: byte slices that they lend.
+// The image of a module as programs in C and Rust write it, restore a module from it and rescue a damaged one: byte slices that they lend.
 ghost use mathlib.Core.Path.{_≡_};
-ghost use Rattle.entries_image.specs.Entries.{ImageEntry, RestoreEntry};
+ghost use Rattle.entries_image.specs.Entries.{ImageEntry, RestoreEntry, RescueEntry};
 use module_state::ARGUMENT;
 use module_state::DONE;
 use module_state::MESSAGE;
@@ -37,5 +37,27 @@ pub extern "C" fn slavotuk_restore(state: &mut [u8], image: &[u8]) -> u32
     }
     let next = read.state;
     state_write::write(state, next);
+    DONE as u32
+}
+
+#[no_mangle]
+pub extern "C" fn slavotuk_rescue(
+    bytes: &[u8],
+    image: &mut [u8],
+    long: &mut usize,
+    cleared: &mut u16,
+    kept: &mut u16,
+    dropped: &mut u16,
+) -> u32
+    ensures { λ r. ⌜ RescueEntry (now (bytes .entry)) (now (image .entry)) (now (cleared .entry)) (now (kept .entry)) (now (dropped .entry)) r (now (image .exit)) (now (long .exit)) (now (cleared .exit)) (now (kept .exit)) (now (dropped .exit)) ⌝ }
+{
+    let answer = image_rescue::rescue(bytes, image);
+    *long = answer.length;
+    if answer.number != DONE {
+        return answer.number as u32;
+    }
+    *cleared = answer.cleared;
+    *kept = answer.kept;
+    *dropped = answer.dropped;
     DONE as u32
 }

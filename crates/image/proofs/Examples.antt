@@ -50,16 +50,16 @@ drawn =
     }
 
 -- its image, by parts: the mask, 8 words, from 10 on, n rows, and their offset
-abbrev head : ℕ → ℕ → List ℕ
+abbrev pub head : ℕ → ℕ → List ℕ
 head n offset = 3 ∷ 0 ∷ 8 ∷ 0 ∷ 10 ∷ 0 ∷ n ∷ 0 ∷ offset ∷ 0 ∷ []
 
-abbrev grants : List ℕ
+abbrev pub grants : List ℕ
 grants = (15 ∷ 0 ∷ 0 ∷ 0 ∷ 16 ∷ 0 ∷ 0 ∷ 0 ∷ []) ++ replicate 24 0
 
 abbrev marks : List ℕ
 marks = (15 ∷ 0 ∷ 0 ∷ 0 ∷ []) ++ replicate 28 0
 
-abbrev saved : List ℕ
+abbrev pub saved : List ℕ
 saved = (0 ∷ 0 ∷ 0x03 ∷ 0x00 ∷ P) ++ (1 ∷ 0 ∷ 0x2c ∷ 0x01 ∷ Q)
 
 abbrev bytes : List ℕ
@@ -82,7 +82,7 @@ unfolding computed
 drawn-is = record { written = refl; long = refl; accepted = refl; read = refl; after = refl; again = refl }
 
 -- the same in the old layout, and what it makes: "second words zero"
-abbrev old : List ℕ
+abbrev pub old : List ℕ
 old = head 2 0x2a ++ (grants ++ saved)
 
 pub record OldDrawn : Type 0 where
@@ -98,7 +98,7 @@ unfolding computed
 old-drawn = record { long = refl; accepted = refl; read = refl; anew = refl; again = refl }
 
 -- where a credential's words and a row begin
-abbrev word : ℕ → ℕ
+abbrev pub word : ℕ → ℕ
 word c = wordsAt + c * wordSize
 
 abbrev second : ℕ → ℕ

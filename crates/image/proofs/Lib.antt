@@ -2,3 +2,4 @@ pub mod Rows
 pub mod Laws
 pub mod Examples
 pub mod Rescue
+pub mod RescueExamples
