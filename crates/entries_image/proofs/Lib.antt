@@ -1,3 +1,4 @@
 pub mod Rules
 pub mod Facts
 pub mod Unique
+pub mod Rescue

@@ -330,6 +330,12 @@ module _ (b : List ℕ) (g : Bytes b) (u : isUsable b ≡ true) where
   unfolding imageIn rescuedImage
   rescued-layout = ap (λ (i : Image). i .offset) rescued-says
 
+  pub rescued-length : length (rescued b) ≡ rescuedLong b
+  unfolding imageIn rescuedImage rescuedLong
+  rescued-length =
+      let rows : headIn (rescued b) .rows ≡ length (rowsKept b) = sym (saved-length (rescued b)) ∙ ap (λ (i : Image). length (i .saved)) rescued-says in
+      image (rescued b) rescued-accepted .long ∙ rw (rescued-layout, rows)
+
   pub rescued-bytes : Bytes (rescued b)
   unfolding rescued rescuedImage
   rescued-bytes = image-bytes (rescuedImage b) (good .bytes)
