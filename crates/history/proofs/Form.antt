@@ -32,7 +32,7 @@ use Rattle.module_state.specs.declared.UserClaim.{UserClaim}
 use Rattle.calls.specs.Calls.{Call, Open, Close, Drop, Select, Start, Continue, Elevate, End, Record, ListProcesses, Kill, SetWord, withTable, withPhase, withGrants, userProcess, elevation, activated, saved, oneMore, namedPlace, reach, counted, ended, effect, fresh}
 use Rattle.calls.specs.Run.{step, run}
 use Rattle.module_rules.specs.Facts.{AreWords, processes, Rules, FormedGrants, FormedProcess, IsState}
-use Rattle.module_rules.proofs.Laws.{provisioned-low, chosen-low}
+use Rattle.module_rules.proofs.Laws.{provisioned-low, chosen-low, words-taken}
 use Rattle.history.specs.Fits.{Fits, Eight}
 use Rattle.history.proofs.Facts.{UserPassed, ClaimPassed, Facts, facts}
 use Rattle.history.proofs.Tables.{rules-fresh}
@@ -247,12 +247,6 @@ state-run st [] each-nil v = v
 state-run st (call ∷ calls) (each-cons w ws) v = state-run (step st call) calls ws (state-step st call w v)
 
 -- ---- a fresh module
-words-taken : {pairs : List Grants} → Each (λ g. AreWords (g .words)) pairs → Each FormedGrants (map taken pairs)
-unfolding taken wordsOf
-words-taken each-nil = each-nil
-words-taken (each-cons {x = x} w h) =
-    each-cons {x = taken x} (record { words = split (x .provisioned) (λ e. rw e w) (λ e. rw e (record { grant = omega arith; second = omega arith })); zero = λ e. rw e }) (words-taken h)
-
 pub state-fresh : (pairs : List Grants) → Eight pairs → IsState (fresh pairs)
 unfolding fresh
 state-fresh pairs v =

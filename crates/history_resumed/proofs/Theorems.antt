@@ -46,7 +46,7 @@ use Rattle.history.proofs.Theorems.{tells-from, in-turn-from, demand3-told, cla
 use Rattle.image.specs.declared.SavedRow.{SavedRow}
 use Rattle.image.specs.Image.{hasSeconds, secondsBytes, Image, isSavedOne, savedOf, savedIn, imageIn, savedProcess, isImage, restored, cycled, numbersBytes, imageOf, imageBytes, stateImage}
 use Rattle.image.proofs.Rows.{select-reject}
-use Rattle.image.proofs.Laws.{each-map, stands-is, image-back, image-state, state-fit, state-image, state-restored, stands-cycled}
+use Rattle.image.proofs.Laws.{each-map, each-unmap, stands-is, image-bytes, image-back, image-state, state-fit, state-image, state-restored, stands-cycled}
 use Rattle.history_resumed.specs.Resumed.{toldBy, FromImage, cut}
 
 -- ---- no history comes to a saved process at next number 0: "a save has counted one"
@@ -59,10 +59,6 @@ saved-counted pairs eight = counted-from (fresh pairs) (state-fresh pairs eight)
 -- ---- what an image tells
 tells-by : (b : List ℕ) → Rules (restored b) → Tells (toldBy b) (restored b)
 tells-by b v = look-tells (restored b) v (toldBy b) (λ n. ap (look n) (sym (stands-is b)))
-
-each-unmap : {A B : Type 0} {P : B → Type 0} (f : A → B) (l : List A) → Each P (map f l) → Each (λ x. P (f x)) l
-each-unmap f [] each-nil = each-nil
-each-unmap f (x ∷ l) (each-cons p v) = each-cons p (each-unmap f l v)
 
 module _ (b : List ℕ) (g : Bytes b) (e : isImage b ≡ true) where
   pub image-tells : Tells (toldBy b) (restored b)
@@ -177,21 +173,6 @@ module _ (first : State) (v : IsState first) (tell : Name → Life) (tells : Tel
       claim-through = above (told tell (history first calls) name) refl (in-turn-from (steps first calls) (v .rules) tell tells name)
 
 -- ---- a fresh module is the case of an image without rows
-each-bytes : {l : List ℕ} → Each (λ a. a < 256) l → Bytes l
-each-bytes each-nil i = omega arith
-each-bytes (each-cons h r) zero = h
-each-bytes (each-cons h r) (suc i) = each-bytes r i
-
-bytes-each : (k n : ℕ) → Each (λ a. a < 256) (bytesOf k n)
-unfolding bytesOf
-bytes-each zero n = each-nil
-bytes-each (suc k) n = each-cons {x = n % 256} (omega arith) (bytes-each k (n / 256))
-
-numbers-each : (k : ℕ) (l : List ℕ) → Each (λ a. a < 256) (numbersBytes k l)
-unfolding numbersBytes join
-numbers-each k [] = each-nil
-numbers-each k (n ∷ l) = each-append (bytes-each k n) (numbers-each k l)
-
 module _ (pairs : List Grants) (eight : Eight pairs) where
   abbrev begun : State
   begun = fresh pairs
@@ -201,8 +182,8 @@ module _ (pairs : List Grants) (eight : Eight pairs) where
   none-saved = rw (standing-of [])
 
   fresh-bytes : Bytes (stateImage begun)
-  unfolding stateImage imageBytes imageOf secondsBytes hasSeconds join
-  fresh-bytes = rw none-saved (each-bytes (each-append (numbers-each 2 _) (each-append (numbers-each wordSize _) (each-append (numbers-each wordSize _) each-nil))))
+  unfolding stateImage imageOf
+  fresh-bytes = image-bytes (imageOf begun) (rw none-saved each-nil)
 
   begun-is : IsState begun
   begun-is = state-fresh pairs eight

@@ -21,7 +21,7 @@ use Rattle.lists.proofs.Each.{each-imp, each-imp₂, each-both, each-all, pairs
 use Rattle.rows.specs.Bytes.{Bytes, bytesOf, numberOf, numberAt}
 use Rattle.rows.specs.Rows.{rows, every, pairwise}
 use Rattle.rows.proofs.Bytes.{bytes-drop, number-back, number-taken, part-front}
-use Rattle.rows.proofs.Rows.{rows-length, every-by, by-every, pairwise-by, by-pairwise, each-take, each-replicate, array-back, array-forth, array-good}
+use Rattle.rows.proofs.Rows.{each-bytes, bytes-each, number-each, each-append, rows-length, every-by, by-every, pairwise-by, by-pairwise, each-take, each-replicate, array-back, array-forth, array-good}
 use Rattle.rows.proofs.Loops.{and-true, and-assoc}
 use Rattle.names.specs.Names.{nameLength, sameName}
 use Rattle.names.proofs.Laws.{differ-iff}
@@ -36,12 +36,12 @@ use Rattle.table.proofs.Laws.{standing-of, whole-of}
 use Rattle.module_state.specs.Module.{closedSession, provisioned, sessionCount, credentialCount, wordSize}
 use Rattle.module_state.specs.declared.Grants.{Grants}
 use Rattle.module_state.specs.declared.State.{State}
-use Rattle.module_rules.specs.Facts.{processes, Owned, Apart, FormedGrants, FormedProcess, IsState, Wide}
+use Rattle.module_rules.specs.Facts.{AreWords, processes, Owned, Apart, FormedGrants, FormedProcess, IsState, Wide}
 use Rattle.module_rules.proofs.Laws.{provisioned-low}
 use Rattle.image.specs.declared.ImageHead.{ImageHead}
 use Rattle.image.specs.declared.SavedRow.{SavedRow}
 use Rattle.image.specs.Image.{maskAt, wordCountAt, wordOffsetAt, rowCountAt, rowOffsetAt, wordsAt, wordsSize, secondsAt, savedAt, oldSavedAt, savedSize, hasSeconds, isRowOffset, imageLong, Image, numbersBytes, numbersIn, headNumbers, maskOf, grantIn, secondIn, secondsBytes, savedBytes, imageBytes, frontBytes, frontLong, headIn, wordsFrom, secondsFrom, grantsSaid, grantsIn, savedFrom, savedIn, imageIn, isOwner, isKeepable, differ, headFits, wordsFit, imageFits, isImage, savedProcess, moduleOf, restored, savedRow, isSavedOne, savedOf, imageOf, stateImage, renewed, cycled, imageRoom, SavedLie}
-use Rattle.image.proofs.Rows.{every-anything, Small, number-codec, numbers-long, mask-small, grant-is, second-is, words-fit, grants-back, grants-length, mask-back, words-back, grants-formed, NoSecond, said-zero, seconds-zero, RowFits, rows-long, saved-codec, each-select, pairs-select}
+use Rattle.image.proofs.Rows.{every-anything, Small, number-codec, numbers-long, numbers-each, mask-small, grant-is, second-is, words-fit, grants-back, grants-length, mask-back, words-back, said-words, words-formed, NoSecond, said-zero, seconds-zero, RowFits, rows-long, saved-codec, each-select, pairs-select}
 
 -- ---- lists made by a function
 module _ {A B : Type 0} (f : A → B) where
@@ -49,9 +49,17 @@ module _ {A B : Type 0} (f : A → B) where
   each-map each-nil = each-nil
   each-map (each-cons p v) = each-cons p (each-map v)
 
+  pub each-unmap : {P : B → Type 0} (l : List A) → Each P (map f l) → Each (λ x. P (f x)) l
+  each-unmap [] each-nil = each-nil
+  each-unmap (x ∷ l) (each-cons p v) = each-cons p (each-unmap l v)
+
   pub pairs-map : {R : B → B → Type 0} {l : List A} → Pairs (λ x y. R (f x) (f y)) l → Pairs R (map f l)
   pairs-map pairs-nil = pairs-nil
   pairs-map (pairs-cons p v) = pairs-cons (each-map p) (pairs-map v)
+
+  pub pairs-unmap : {R : B → B → Type 0} (l : List A) → Pairs R (map f l) → Pairs (λ x y. R (f x) (f y)) l
+  pairs-unmap [] pairs-nil = pairs-nil
+  pairs-unmap (x ∷ l) (pairs-cons p v) = pairs-cons (each-unmap l p) (pairs-unmap l v)
 
 -- ---- the rows lie at 74 in the new layout, and at 42 in the old one
 pub new-at : (offset : ℕ) → hasSeconds offset ≡ true → offset ≡ savedAt
@@ -68,7 +76,7 @@ offset-is offset e = split (hasSeconds offset) (λ n. inl (new-at offset n)) (λ
 pub offset-low : (offset : ℕ) → isRowOffset offset ≡ true → offset ≤ savedAt
 offset-low offset e = ⊎-elim (λ n. omega arith) (λ n. omega arith) (offset-is offset e)
 
-offset-high : (offset : ℕ) → isRowOffset offset ≡ true → oldSavedAt ≤ offset
+pub offset-high : (offset : ℕ) → isRowOffset offset ≡ true → oldSavedAt ≤ offset
 offset-high offset e = ⊎-elim (λ n. omega arith) (λ n. omega arith) (offset-is offset e)
 
 -- no length belongs to both
@@ -197,6 +205,19 @@ unfolding stateImage imageOf imageRoom savedOf standing savedRow hasSeconds isRo
 long-is {st} w =
     image-long (imageOf st) refl (w .credentials)
     (each-map savedRow (each-imp (λ p h. h .1) (each-select isSavedOne (each-take (st .table .count) (each-imp (λ p v. v .name) (w .each))))))
+
+-- its bytes are bytes where those of its names are
+seconds-each : (offset : ℕ) (l : List Grants) → Each (λ a. a < 256) (secondsBytes offset l)
+seconds-each offset l = split (hasSeconds offset) (λ e. rw (seconds-new offset l e) (numbers-each wordSize (map secondIn l))) (λ e. rw (seconds-old offset l e) each-nil)
+
+rows-each : {l : List SavedRow} → Each (λ r. Bytes (r .name .bytes)) l → Each (λ a. a < 256) (join (map savedBytes l))
+unfolding join savedBytes
+rows-each each-nil = each-nil
+rows-each (each-cons {x = r} p v) = each-append (each-append (number-each 2 (r .owner .0)) (each-append (number-each 2 (r .next)) (bytes-each (r .name .bytes) p))) (rows-each v)
+
+pub image-bytes : (i : Image) → Each (λ r. Bytes (r .name .bytes)) (i .saved) → Bytes (imageBytes i)
+unfolding imageBytes
+image-bytes i n = each-bytes (each-append (numbers-each 2 _) (each-append (numbers-each wordSize _) (each-append (seconds-each (i .offset) (i .grants)) (rows-each n))))
 
 -- ---- the processes that an image restores
 pub stands-is : (b : List ℕ) → standing (restored b .table) ≡ map savedProcess (savedIn b)
@@ -369,9 +390,42 @@ pub grants-eight : (b : List ℕ) → length (grantsIn b) ≡ credentialCount
 unfolding grantsIn
 grants-eight b = grants-length (headIn b .mask) (wordsFrom wordsAt b) (secondsFrom (headIn b .offset) b) (as-many (headIn b .offset) b) ∙ words-eight wordsAt b
 
-saved-length : (b : List ℕ) → length (savedIn b) ≡ headIn b .rows
+pub saved-length : (b : List ℕ) → length (savedIn b) ≡ headIn b .rows
 unfolding savedIn
 saved-length b = length-map (rows (headIn b .rows) savedSize (drop (headIn b .offset) b)) savedFrom ∙ rows-length (headIn b .rows) savedSize (drop (headIn b .offset) b)
+
+-- the words that bytes have, where they have all of them
+module _ (b : List ℕ) (g : Bytes b) where
+  module _ (at : ℕ) (r : at + wordsSize ≤ length b) where
+    behind′ : wordsSize ≤ length (drop at b)
+    behind′ = simp length-drop (omega arith)
+
+    words-small : Each (Small wordSize) (wordsFrom at b)
+    unfolding numbersIn
+    words-small = array-good (number-codec wordSize) credentialCount (drop at b) behind′ (bytes-drop at b g) (every-anything (rows credentialCount wordSize (drop at b)))
+
+    words-forth : numbersBytes wordSize (wordsFrom at b) ≡ take wordsSize (drop at b)
+    unfolding numbersBytes numbersIn
+    words-forth = array-forth (number-codec wordSize) credentialCount (drop at b) behind′ (bytes-drop at b g) (every-anything (rows credentialCount wordSize (drop at b)))
+
+  module _ (o : isRowOffset (headIn b .offset) ≡ true) (r : headIn b .offset ≤ length b) where
+    seconds-small′ : Each (Small wordSize) (secondsFrom (headIn b .offset) b)
+    unfolding secondsFrom
+    seconds-small′ =
+        split (hasSeconds (headIn b .offset))
+        (λ n. rw n (words-small secondsAt (omega (arith, new-at (headIn b .offset) n))))
+        (λ n. rw n (each-replicate credentialCount 0 (omega arith)))
+
+    pub grants-words : Each (λ x. AreWords (x .words)) (grantsIn b)
+    unfolding grantsIn
+    grants-words =
+        said-words (headIn b .mask) (wordsFrom wordsAt b) (secondsFrom (headIn b .offset) b)
+        (words-small wordsAt (omega (arith, offset-high (headIn b .offset) o))) seconds-small′
+
+-- and the second words of an old image
+pub no-seconds : (b : List ℕ) → hasSeconds (headIn b .offset) ≡ false → Each NoSecond (grantsIn b)
+unfolding grantsIn secondsFrom
+no-seconds b n = rw n (said-zero (headIn b .mask) (wordsFrom wordsAt b) credentialCount)
 
 module _ (b : List ℕ) (g : Bytes b) (e : isImage b ≡ true) where
   v : IsImage b
@@ -399,39 +453,19 @@ module _ (b : List ℕ) (g : Bytes b) (e : isImage b ≡ true) where
   unfolding imageLong
   rows-room = simp length-drop (omega (arith, v .long))
 
-  module _ (at : ℕ) (r : at + wordsSize ≤ length b) where
-    behind′ : wordsSize ≤ length (drop at b)
-    behind′ = simp length-drop (omega arith)
-
-    words-small : Each (Small wordSize) (wordsFrom at b)
-    unfolding numbersIn
-    words-small = array-good (number-codec wordSize) credentialCount (drop at b) behind′ (bytes-drop at b g) (every-anything (rows credentialCount wordSize (drop at b)))
-
-    words-forth : numbersBytes wordSize (wordsFrom at b) ≡ take wordsSize (drop at b)
-    unfolding numbersBytes numbersIn
-    words-forth = array-forth (number-codec wordSize) credentialCount (drop at b) behind′ (bytes-drop at b g) (every-anything (rows credentialCount wordSize (drop at b)))
-
-  seconds-fit : Each (Small wordSize) seconds′
-  unfolding secondsFrom
-  seconds-fit = split (hasSeconds offset) (λ n. rw n (words-small secondsAt (room-new n))) (λ n. rw n (each-replicate credentialCount 0 (omega arith)))
-
   saved-fit : Each RowFits (savedIn b)
   unfolding savedIn
   saved-fit = array-good saved-codec (headIn b .rows) (drop offset b) (omega (arith, rows-room)) (bytes-drop offset b g) (every-anything (rows (headIn b .rows) savedSize (drop offset b)))
 
   said-formed : Each FormedGrants (grantsIn b)
-  unfolding grantsIn imageIn
+  unfolding imageIn
   said-formed =
-      grants-formed (headIn b .mask) words seconds′ (words-small wordsAt room) seconds-fit
-      (every-by (λ x q. q) (grantsSaid (headIn b .mask) words seconds′) (sound (imageIn b) (v .fits) .words))
-
-  no-seconds : hasSeconds offset ≡ false → Each NoSecond (grantsIn b)
-  unfolding grantsIn secondsFrom
-  no-seconds n = rw n (said-zero (headIn b .mask) words credentialCount)
+      words-formed (grants-words b g (v .head .offset) (unfold imageLong in omega (arith, v .long)))
+      (every-by (λ x q. q) (grantsIn b) (sound (imageIn b) (v .fits) .words))
 
   pub image-fit : Fit (imageIn b)
   unfolding imageIn
-  image-fit = record { offset = v .head .offset; eight = grants-eight b; words = said-formed; seconds = no-seconds; few = rw (saved-length b) (v .head .few); each = saved-fit }
+  image-fit = record { offset = v .head .offset; eight = grants-eight b; words = said-formed; seconds = no-seconds b; few = rw (saved-length b) (v .head .few); each = saved-fit }
 
   -- and the bytes of what they say
   mask-of : maskOf (grantsIn b) ≡ headIn b .mask
@@ -440,7 +474,7 @@ module _ (b : List ℕ) (g : Bytes b) (e : isImage b ≡ true) where
 
   said-back : (map grantIn (grantsIn b) ≡ words) × (map secondIn (grantsIn b) ≡ seconds′)
   unfolding grantsIn
-  said-back = words-back (headIn b .mask) words seconds′ (as-many offset b) said-formed
+  said-back = words-back (headIn b .mask) words seconds′ (as-many offset b) (unfold grantsIn in said-formed)
 
   five-forth : numbersBytes 2 (numberAt 2 maskAt b ∷ numberAt 2 wordCountAt b ∷ numberAt 2 wordOffsetAt b ∷ numberAt 2 rowCountAt b ∷ numberAt 2 rowOffsetAt b ∷ []) ++ drop wordsAt b ≡ b
   five-forth =
@@ -469,7 +503,7 @@ module _ (b : List ℕ) (g : Bytes b) (e : isImage b ≡ true) where
       split (hasSeconds offset)
       (λ n.
       let said : seconds′ ≡ wordsFrom secondsAt b = (unfold secondsFrom in rw n) in
-      rw (seconds-new offset (grantsIn b) n, said-back .1, said, words-forth secondsAt (room-new n)) (ap (λ (o : ℕ). take wordsSize (drop secondsAt b) ++ drop o b) (new-at offset n) ∙ part-front wordsSize secondsAt b))
+      rw (seconds-new offset (grantsIn b) n, said-back .1, said, words-forth b g secondsAt (room-new n)) (ap (λ (o : ℕ). take wordsSize (drop secondsAt b) ++ drop o b) (new-at offset n) ∙ part-front wordsSize secondsAt b))
       (λ n. rw (seconds-old offset (grantsIn b) n) (ap (λ (o : ℕ). drop o b) (old-at offset (v .head .offset) n)))
 
   rows-forth : join (map savedBytes (savedIn b)) ≡ drop offset b
@@ -480,7 +514,7 @@ module _ (b : List ℕ) (g : Bytes b) (e : isImage b ≡ true) where
 
   pub image-forth : imageBytes (imageIn b) ≡ b
   unfolding imageBytes imageIn
-  image-forth = rw (mask-of, said-back .0, saved-length b, words-forth wordsAt room, rows-forth, seconds-forth, part-front wordsSize wordsAt b) head-forth
+  image-forth = rw (mask-of, said-back .0, saved-length b, words-forth b g wordsAt room, rows-forth, seconds-forth, part-front wordsSize wordsAt b) head-forth
 
 -- ---- the module that an image makes is a state, and its image is that one
 owner-by : (st : State) (c : Credential) → provisioned st c ≡ isOwner (st .credentials) c

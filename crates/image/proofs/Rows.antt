@@ -5,7 +5,6 @@ use mathlib.Core.Path.{_≡_, refl, sym, ap}
 use mathlib.Core.Bool.{Bool, true, false, cond, not, _&&_}
 use mathlib.Core.List.{List, [], _∷_, _++_, map}
 use native.Mathlib.Nat.{pow-suc, div-lt-iff-lt-mul, div-add-mod', zero-mul, suc-mul, mul-le-mul-right, add-comm}
-use native.Mathlib.Numerals.{add-one}
 use native.Mathlib.Omega.{arith}
 use lib.Dec.{eqb}
 use lib.ListN.{length, getD, take, drop, replicate, length-append, length-drop, length-map}
@@ -18,13 +17,13 @@ use Rattle.lists.proofs.Each.{each-imp₂, each-reject, each-left, pairs-reject
 use Rattle.rows.specs.Bytes.{Bytes, bytesOf, numberOf, numberAt, bitsNumber}
 use Rattle.rows.specs.Rows.{every}
 use Rattle.rows.proofs.Bytes.{length-bytes, number-back, number-forth, number-small, number-in, number-low, number-taken, part-front, bit-forth, bits-small, bits-first, bits-rest}
-use Rattle.rows.proofs.Rows.{Codec}
+use Rattle.rows.proofs.Rows.{number-each, each-append, Codec}
 use Rattle.names.specs.Names.{nameLength, readName}
 use Rattle.names.proofs.Laws.{name-last}
-use Rattle.module_state.specs.Module.{unprovisioned, credentialCount, wordSize, noWords, wordsOf}
+use Rattle.module_state.specs.Module.{unprovisioned, credentialCount, wordSize, noWords, wordsOf, taken}
 use Rattle.module_state.specs.declared.Grants.{Grants}
 use Rattle.module_state.specs.declared.Words.{Words}
-use Rattle.module_rules.specs.Facts.{FormedGrants}
+use Rattle.module_rules.specs.Facts.{AreWords, FormedGrants}
 use Rattle.image.specs.declared.SavedRow.{SavedRow}
 use Rattle.image.specs.Image.{savedOwnerAt, savedNextAt, savedNameAt, savedSize, numbersBytes, maskOf, grantIn, secondIn, grantsSaid, savedBytes, savedFrom, wordsFit}
 
@@ -58,6 +57,11 @@ pub numbers-long : (k : ℕ) (l : List ℕ) → length (numbersBytes k l) ≡ le
 unfolding numbersBytes join
 numbers-long k [] = sym (zero-mul k)
 numbers-long k (n ∷ l) = rw (length-append, length-bytes, suc-mul) (omega (arith, numbers-long k l))
+
+pub numbers-each : (k : ℕ) (l : List ℕ) → Each (λ a. a < 256) (numbersBytes k l)
+unfolding numbersBytes join
+numbers-each k [] = each-nil
+numbers-each k (n ∷ l) = each-append (number-each k n) (numbers-each k l)
 
 -- ---- a mask with words
 pub mask-small : (l : List Grants) → maskOf l < 2 ^ length l
@@ -125,12 +129,20 @@ words-back m (w ∷ ws) (s ∷ ss) l (each-cons {x = g} p v) =
     let rest = words-back (m / 2) ws ss (omega arith) v in
     (rw (grant-is g p, rest .0), rw (second-is g p, rest .1))
 
-pub grants-formed : (m : ℕ) (ws ss : List ℕ) → Each (Small wordSize) ws → Each (Small wordSize) ss → Each (λ g. wordsFit g ≡ true) (grantsSaid m ws ss) → Each FormedGrants (grantsSaid m ws ss)
+pub said-words : (m : ℕ) (ws ss : List ℕ) → Each (Small wordSize) ws → Each (Small wordSize) ss → Each (λ g. AreWords (g .words)) (grantsSaid m ws ss)
 unfolding grantsSaid
-grants-formed m [] ss s t e = each-nil
-grants-formed m (w ∷ ws) [] s t e = each-nil
-grants-formed m (w ∷ ws) (x ∷ ss) (each-cons p s) (each-cons r t) (each-cons q e) =
-    each-cons (record { words = record { grant = p; second = r }; zero = words-kept _ q }) (grants-formed (m / 2) ws ss s t e)
+said-words m [] ss s t = each-nil
+said-words m (w ∷ ws) [] s t = each-nil
+said-words m (w ∷ ws) (x ∷ ss) (each-cons p s) (each-cons r t) = each-cons (record { grant = p; second = r }) (said-words (m / 2) ws ss s t)
+
+pub words-formed : {l : List Grants} → Each (λ g. AreWords (g .words)) l → Each (λ g. wordsFit g ≡ true) l → Each FormedGrants l
+words-formed = each-imp₂ (λ g w e. record { words = w; zero = words-kept g e })
+
+-- so what fits is taken as it is
+pub taken-same : {l : List Grants} → Each (λ g. wordsFit g ≡ true) l → map taken l ≡ l
+unfolding taken wordsOf
+taken-same each-nil = refl
+taken-same (each-cons {x = g} e v) = rw (taken-same v) (split (g .provisioned) (λ p. rw p (rw (← p))) (λ p. rw (p, ← words-kept g e p) (rw (← p))))
 
 -- "second words zero"
 pub record NoSecond (g : Grants) : Type 0 where
@@ -236,7 +248,8 @@ module _ {f : Grants → ℕ} {most : ℕ} {grants : List Grants} {s i : ℕ} (v
   module _ (h : i < credentialCount) {x : ℕ} (e : x ≡ f (getD grants i unprovisioned)) (k : x ≤ most) where
     pub sum-few : s + x ≤ credentialCount * most
     sum-few =
-        let all : (i + 1) * most ≤ credentialCount * most = mul-le-mul-right most (rw add-one h) in
+        let on : i + 1 ≤ credentialCount = omega arith in
+        let all : (i + 1) * most ≤ credentialCount * most = mul-le-mul-right most on in
         omega (arith, rw (← e) at (summed-few (v .summed) unprovisioned (rw (v .long) h) (rw (← e) k)))
 
     pub sum-next : SummedTo f most grants (s + x) (i + 1)

@@ -59,11 +59,16 @@ drops grants before (part ∷ parts) = not (isKept grants before part) ∷ drops
 unfoldable pub rowsDropped : List ℕ → List Bool
 rowsDropped b = drops (grantsIn b) [] (stated b)
 
+-- these places, counted from `at` on
+unfoldable pub placesOf : ℕ → List Bool → List ℕ
+placesOf at [] = []
+placesOf at (flag ∷ flags) = cond flag (at ∷ placesOf (at + 1) flags) (placesOf (at + 1) flags)
+
 -- reported as one number: bit i is the row's at place i
 unfoldable pub dropped : List ℕ → ℕ
 dropped b = bitsNumber (rowsDropped b)
 
--- and read again: the places, from `at` on, whose bits are set among the n lowest
+-- and read again: the places of the bits that are set among the n lowest
 unfoldable pub placesIn : ℕ → ℕ → ℕ → List ℕ
 placesIn zero at mask = []
 placesIn (suc n) at mask = cond (eqb (mask % 2) 1) (at ∷ placesIn n (at + 1) (mask / 2)) (placesIn n (at + 1) (mask / 2))

@@ -4,10 +4,12 @@ use Prim.Native.Nat.{ℕ, _<_, _≤_}
 use mathlib.Core.Path.{_≡_, refl, sym}
 use mathlib.Core.Logic.{_≢_}
 use mathlib.Core.Bool.{true}
+use mathlib.Core.List.{List, map}
 use native.Mathlib.Omega.{arith}
 use borrow.Author.Tests.{eq-eqb}
 use lib.ListN.{length}
-use Rattle.lists.proofs.Tests.{and-left}
+use Rattle.lists.specs.Each.{Each, each-nil, each-cons}
+use Rattle.lists.proofs.Tests.{split, and-left}
 use Rattle.lists.proofs.Each.{inside, each-at, pairs-at}
 use Rattle.names.specs.declared.Credential.{Credential}
 use Rattle.names.specs.declared.Kind.{Kind}
@@ -20,11 +22,11 @@ use Rattle.table.specs.declared.Process.{Process}
 use Rattle.table.proofs.Laws.{standing-few}
 use Rattle.table.proofs.Searched.{of-user, in-elevation}
 use Rattle.module_state.proofs.Slots.{pair-once}
-use Rattle.module_state.specs.Module.{closedSession, phaseOf, isChosen, unprovisioned, provisioned, sessionCount, credentialCount, lastSession, lastCredential}
+use Rattle.module_state.specs.Module.{closedSession, phaseOf, isChosen, unprovisioned, wordsOf, taken, provisioned, sessionCount, credentialCount, lastSession, lastCredential}
 use Rattle.module_state.specs.declared.Grants.{Grants}
 use Rattle.module_state.specs.declared.SessionState.{SessionState}
 use Rattle.module_state.specs.declared.State.{State}
-use Rattle.module_rules.specs.Facts.{processes, isRunning, Apart, Rules, at, InOneSession, RulesByPlaces, Formed}
+use Rattle.module_rules.specs.Facts.{processes, isRunning, Apart, Rules, at, InOneSession, RulesByPlaces, AreWords, FormedGrants, Formed}
 
 pub apart-turn : (p q : Process) → Apart p q → Apart q p
 apart-turn p q a = record { names = λ e. a .names (sym e); alone = λ which h k. a .alone which k h }
@@ -83,3 +85,10 @@ module _ (st : State) where
 -- ---- so many stand as there are places, at most
 pub formed-few : {st : State} → Formed st → length (processes st) ≤ T.places
 formed-few {st} f = standing-few (st .table) (f .places)
+
+-- ---- credentials with the words of the unprovisioned taken as zero
+pub words-taken : {pairs : List Grants} → Each (λ g. AreWords (g .words)) pairs → Each FormedGrants (map taken pairs)
+unfolding taken wordsOf
+words-taken each-nil = each-nil
+words-taken (each-cons {x = x} w h) =
+    each-cons {x = taken x} (record { words = split (x .provisioned) (λ e. rw e w) (λ e. rw e (record { grant = omega arith; second = omega arith })); zero = λ e. rw e }) (words-taken h)

@@ -1,15 +1,15 @@
 -- Laws of records in rows of bytes. `Codec` is what a record type shows once; the laws below it are for an array of such records.
 -- Assumes nothing.
-use Prim.Native.Nat.{ℕ, zero, suc, _+_, _-_, _*_, _<_, _≤_}
+use Prim.Native.Nat.{ℕ, zero, suc, _+_, _-_, _*_, _/_, _%_, _<_, _≤_}
 use mathlib.Core.Path.{_≡_, refl, sym, ap, _∙_}
 use mathlib.Core.Bool.{Bool, true, _&&_}
 use mathlib.Core.List.{List, [], _∷_, _++_, map, append-assoc}
 use native.Mathlib.Nat.{zero-add, zero-mul, suc-mul, add-comm}
 use native.Mathlib.Omega.{arith}
 use borrow.Author.Tests.{eqb-true}
-use lib.ListN.{length, getD, take, drop, set, replicate, length-drop, length-append, length-replicate, replicate-append-replicate, take-append-drop}
+use lib.ListN.{length, getD, take, drop, set, replicate, length-take, length-drop, length-append, length-replicate, replicate-append-replicate, take-append-drop}
 use lib.Seq.{split-at, set-split, length-take-le, take-at, drop-at, drop-drop, take-add}
-use Rattle.rows.specs.Bytes.{Bytes, isZero, numberAt}
+use Rattle.rows.specs.Bytes.{Bytes, isZero, bytesOf, numberAt}
 use Rattle.rows.specs.Rows.{rows, every, pairwise}
 use Rattle.rows.proofs.Bytes.{bytes-take, bytes-drop, number-zeros}
 use Rattle.lists.specs.Each.{Each, each-nil, each-cons, Pairs, pairs-nil, pairs-cons}
@@ -17,11 +17,39 @@ use Rattle.lists.specs.Lists.{join}
 use Rattle.lists.proofs.Tests.{and-left, and-right}
 use Rattle.lists.proofs.Each.{each-imp}
 
+-- ---- bytes, each by itself
+pub each-bytes : {l : List ℕ} → Each (λ a. a < 256) l → Bytes l
+each-bytes each-nil i = omega arith
+each-bytes (each-cons h r) zero = h
+each-bytes (each-cons h r) (suc i) = each-bytes r i
+
+pub bytes-each : (l : List ℕ) → Bytes l → Each (λ a. a < 256) l
+bytes-each [] h = each-nil
+bytes-each (a ∷ l) h = each-cons (h 0) (bytes-each l (λ i. h (suc i)))
+
+pub number-each : (k n : ℕ) → Each (λ a. a < 256) (bytesOf k n)
+unfolding bytesOf
+number-each zero n = each-nil
+number-each (suc k) n = each-cons {x = n % 256} (omega arith) (number-each k (n / 256))
+
 -- ---- rows
 pub rows-length : (n k : ℕ) (b : List ℕ) → length (rows n k b) ≡ n
 unfolding rows
 rows-length zero k b = refl
 rows-length (suc n) k b = ap suc (rows-length n k (drop k b))
+
+pub rows-bytes : (n k : ℕ) (b : List ℕ) → Bytes b → Each Bytes (rows n k b)
+unfolding rows
+rows-bytes zero k b h = each-nil
+rows-bytes (suc n) k b h = each-cons {x = take k b} (bytes-take k b h) (rows-bytes n k (drop k b) (bytes-drop k b h))
+
+-- each is whole where there are enough bytes
+pub rows-whole : (n k : ℕ) (b : List ℕ) → n * k ≤ length b → Each (λ r. length r ≡ k) (rows n k b)
+unfolding rows
+rows-whole zero k b h = each-nil
+rows-whole (suc n) k b h =
+    let enough : n * k + k ≤ length b = rw (suc-mul n k) at h in
+    each-cons {x = take k b} (rw length-take (omega arith)) (rows-whole n k (drop k b) (rw length-drop (omega arith)))
 
 -- the i-th row
 pub row-at : (n k : ℕ) (b : List ℕ) (i : ℕ) (d : List ℕ) → i < n → getD (rows n k b) i d ≡ take k (drop (i * k) b)
