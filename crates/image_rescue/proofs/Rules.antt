@@ -4,7 +4,7 @@ use Prim.Native.Nat.{ℕ, suc, _+_, _-_, _*_, _^_, _<_, _≤_}
 use mathlib.Core.Path.{_≡_, refl, sym, ap, _∙_}
 use mathlib.Core.Bool.{Bool, true, false, cond, not, _&&_}
 use mathlib.Core.List.{List, [], _∷_, _++_, map, append-nil, append-assoc}
-use native.Mathlib.Nat.{pow-suc}
+use native.Mathlib.Nat.{zero-add, pow-suc}
 use native.Mathlib.Numerals.{add-one}
 use native.Mathlib.Omega.{arith}
 use borrow.Author.Needs.{needs}
@@ -349,9 +349,10 @@ module _ (offset kept : ℕ) (o : isRowOffset offset ≡ true) (h : kept ≤ pla
       pub image-put : length held ≡ places → {new : List ℕ} → Put offset (kept * savedSize) (join (map savedBytes (take kept held))) front new
           → new ≡ over 0 (imageLong offset kept) (imageBytes (record { offset = offset; grants = grants; saved = take kept held })) old
       unfolding imageLong
-      image-put l q =
+      image-put l {new} q =
+          let behind : Put (0 + offset) (kept * savedSize) (join (map savedBytes (take kept held))) front new = rw zero-add q in
           let many : length (take kept held) ≡ kept = held-many offset held kept l h in
-          put-next front-put q (omega arith) .is
+          put-next front-put behind (omega arith) .is
           ∙ ap (λ x. over 0 (offset + kept * savedSize) x old) (sym (front-rows (record { offset = offset; grants = grants; saved = take kept held }) ∙ rw many))
 
 -- ---- the whole
@@ -361,7 +362,9 @@ refusal b old n z a = record { answer-is = a ∙ rw (n, z); bytes-are = rw (n, z
 
 module _ (b old : List ℕ) {h : ImageHead} (e : h ≡ headIn b) {u : Bool} (f : u ≡ isUsable b) where
   pub rescue-message : not u ≡ true → {answer : Rescued} → answer ≡ refusedBy 14 → RescueWritten b old answer old
-  rescue-message n = refusal b old (unfold rescueNumber _unless_ _▸_ in rw (sym f ∙ not-true u n)) refl
+  rescue-message n =
+      let number : rescueNumber b (length old) ≡ 14 = unfold rescueNumber _unless_ _▸_ in rw (sym f ∙ not-true u n) in
+      refusal b old number refl
 
   module _ (n : not u ≡ false) where
     usable : isUsable b ≡ true
@@ -406,10 +409,20 @@ module _ (b old : List ℕ) {h : ImageHead} (e : h ≡ headIn b) {u : Bool} (f :
         unfolding rescuedLong imageLong
         long-is = rw (e, kept-many)
 
+        image-long : imageLong (h .offset) (sorted .kept) ≡ rescuedLong b
+        unfolding imageLong
+        image-long = long-is
+
+        image-is : imageBytes (record { offset = h .offset; grants = grants; saved = take (sorted .kept) (sorted .rows) }) ≡ rescued b
+        unfolding rescued rescuedImage
+        image-is = rw (grants-are, rows-are, e) (sym (taken-bytes (headIn b .offset) (grantsIn b) (rowsKept b)))
+
+        lacking : length old < h .offset + sorted .kept * savedSize → rescueNumber b (length old) ≡ 15
+        unfolding rescueNumber _unless_ _when_ _▸_
+        lacking k = rw (usable, lt-ltb (length old) (rescuedLong b) (rw long-is at k))
+
         pub rescue-room : length old < h .offset + sorted .kept * savedSize → {answer : Rescued} → answer ≡ refusedBy 15 → RescueWritten b old answer old
-        rescue-room k =
-            let lacks : ltb (length old) (rescuedLong b) ≡ true = lt-ltb (length old) (rescuedLong b) (rw long-is at k) in
-            refusal b old (unfold rescueNumber _unless_ _when_ _▸_ in rw (usable, lacks)) refl
+        rescue-room k = refusal b old (lacking k) refl
 
         module _ (k : h .offset + sorted .kept * savedSize ≤ length old) where
           pub rescue-space : imageLong (h .offset) (sorted .kept) ≤ length old
@@ -423,12 +436,7 @@ module _ (b old : List ℕ) {h : ImageHead} (e : h ≡ headIn b) {u : Bool} (f :
           pub rescue-done : {new : List ℕ} {c : ℕ} → new ≡ over 0 (imageLong (h .offset) (sorted .kept)) (imageBytes (record { offset = h .offset; grants = grants; saved = take (sorted .kept) (sorted .rows) })) old
               → c ≡ sum (map wordsCleared grants)
               → RescueWritten b old (record { number = 0; length = h .offset + sorted .kept * savedSize; cleared = c; kept = sorted .kept; dropped = sorted .dropped }) new
-          unfolding rescueAnswer rescued rescuedImage cleared
-          rescue-done w c =
-              let written : imageBytes (record { offset = h .offset; grants = grants; saved = take (sorted .kept) (sorted .rows) }) ≡ imageBytes (rescuedImage b) = rw (grants-are, rows-are, e) (sym (taken-bytes (headIn b .offset) (grantsIn b) (rowsKept b))) in
-              record {
-                answer-is = rw (done, c, grants-are, long-is, kept-many, dropped-are);
-                bytes-are = w ∙ rw (done, written) (ap (λ (n : ℕ). over 0 n (imageBytes (rescuedImage b)) old) long-is);
-              }
+          unfolding rescueAnswer cleared
+          rescue-done w c = record { answer-is = rw (done, c, grants-are, long-is, kept-many, dropped-are); bytes-are = w ∙ rw (done, image-is, image-long) }
 
 pub ruleset rules = (needs, length-mapped, usable-not, usable-words, nonzero-none, nonzero-one, cleared-none, both-fit, cleared-both, sum-begin, cleared-fit, cleared-next, sum-done, new-begin, new-low, new-on, new-not, new-all, saved-is, kept-not, kept-new, kept-cut, sorting-begin, bit-fits, dropped-fits, at-fits, at-low, kept-places, kept-inside, kept-whole, sorted-kept, sorted-dropped, sorted-all, put-begin, putting-length, put-low, put-fits, put-ends, put-room, put-on, put-all, kept-fits, offset-fits, front-room, image-put, rescue-message, rescue-from, rescue-few, long-part, long-fits, sorted-few, rescue-room, rescue-space, rescue-done)

@@ -15,20 +15,14 @@ add-long c = search rules
 returns : tie.Need-returns
 returns c = search rules
 
-mask-of-requires : tie.Need-mask-of-requires
-mask-of-requires c κs = search rules
+cast-put-front : tie.Need-cast-put-front
+cast-put-front c = search rules
 
-cast-put-numbers : tie.Need-cast-put-numbers
-cast-put-numbers c = search rules
+cast-put-front-2 : tie.Need-cast-put-front-2
+cast-put-front-2 c = search rules
 
-cast-put-numbers-2 : tie.Need-cast-put-numbers-2
-cast-put-numbers-2 c = search rules
-
-put-numbers-requires : tie.Need-put-numbers-requires
-put-numbers-requires c κs = search rules
-
-put-both-requires : tie.Need-put-both-requires
-put-both-requires c κs = search rules
+put-front-requires : tie.Need-put-front-requires
+put-front-requires c κs = search rules
 
 put-saved-requires : tie.Need-put-saved-requires
 put-saved-requires c κs = search rules
@@ -47,11 +41,9 @@ write-image-spec =
     mul-long
     add-long
     returns
-    mask-of-requires
-    cast-put-numbers
-    cast-put-numbers-2
-    put-numbers-requires
-    put-both-requires
+    cast-put-front
+    cast-put-front-2
+    put-front-requires
     put-saved-requires
     same-length
     returns-2)

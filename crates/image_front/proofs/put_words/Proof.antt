@@ -1,10 +1,10 @@
 -- written by tools/scaffold, which keeps the answers that are not a plain search
-use Rattle.image_write.proofs.Rows.{Worded}
+use Rattle.image_front.proofs.Rows.{Worded}
 use Prim.Native.Nat.{_-_}
 use Rattle.module_state.specs.Module.{credentialCount}
-use Rattle.image_write.proofs.Rules.{rules}
-use Rattle.image_write.proofs.put_words.Statement.{statement}
-use Rattle.image_write.proofs.put_words.Tie as tie
+use Rattle.image_front.proofs.Rules.{rules}
+use Rattle.image_front.proofs.put_words.Statement.{statement}
+use Rattle.image_front.proofs.put_words.Tie as tie
 
 abbrev Inv-loop : tie.InvT-loop
 Inv-loop buffer₀ at words i₀ buffer i = Worded words at buffer₀ buffer i

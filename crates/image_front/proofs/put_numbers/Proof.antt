@@ -1,7 +1,7 @@
 -- written by tools/scaffold, which keeps the answers that are not a plain search
-use Rattle.image_write.proofs.Rules.{rules}
-use Rattle.image_write.proofs.put_numbers.Statement.{statement}
-use Rattle.image_write.proofs.put_numbers.Tie as tie
+use Rattle.image_front.proofs.Rules.{rules}
+use Rattle.image_front.proofs.put_numbers.Statement.{statement}
+use Rattle.image_front.proofs.put_numbers.Tie as tie
 
 put-number16-requires : tie.Need-put-number16-requires
 put-number16-requires c κs = search rules

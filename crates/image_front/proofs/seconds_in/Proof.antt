@@ -1,17 +1,17 @@
 -- written by tools/scaffold, which keeps the answers that are not a plain search
 use Prim.Native.Nat.{_-_}
 use Rattle.module_state.specs.Module.{credentialCount}
-use Rattle.image.specs.Image.{grantIn}
-use Rattle.image_write.proofs.Rows.{Taken}
-use Rattle.image_write.proofs.Rules.{rules}
-use Rattle.image_write.proofs.grants_in.Statement.{statement}
-use Rattle.image_write.proofs.grants_in.Tie as tie
+use Rattle.image.specs.Image.{secondIn}
+use Rattle.image_front.proofs.Rows.{Taken}
+use Rattle.image_front.proofs.Rules.{rules}
+use Rattle.image_front.proofs.seconds_in.Statement.{statement}
+use Rattle.image_front.proofs.seconds_in.Tie as tie
 
 abbrev Inv-loop : tie.InvT-loop
-Inv-loop l words₀ i₀ words i = Taken grantIn l words₀ words i
+Inv-loop l seconds₀ i₀ seconds i = Taken secondIn l seconds₀ seconds i
 
 abbrev μ-loop : tie.MeasureT-loop
-μ-loop l words₀ i₀ words i = credentialCount - i
+μ-loop l seconds₀ i₀ seconds i = credentialCount - i
 
 loop-holds : tie.Need-loop-holds Inv-loop μ-loop
 loop-holds c = search rules
@@ -25,11 +25,11 @@ array-copy-out-g c = search rules
 words-of-requires : tie.Need-words-of-requires Inv-loop μ-loop
 words-of-requires c κs = search rules
 
-mul-words : tie.Need-mul-words Inv-loop μ-loop
-mul-words c = search rules
+mul-seconds : tie.Need-mul-seconds Inv-loop μ-loop
+mul-seconds c = search rules
 
-array-write-words : tie.Need-array-write-words Inv-loop μ-loop
-array-write-words c = search rules
+array-write-seconds : tie.Need-array-write-seconds Inv-loop μ-loop
+array-write-seconds c = search rules
 
 add-i : tie.Need-add-i Inv-loop μ-loop
 add-i c = search rules
@@ -43,8 +43,8 @@ loop-again c = search rules
 returns : tie.Need-returns Inv-loop μ-loop
 returns c = search rules
 
-pub grants-in-spec : {M : Type 1} → statement M
-grants-in-spec =
+pub seconds-in-spec : {M : Type 1} → statement M
+seconds-in-spec =
     tie.close
     (tie.spec
     Inv-loop
@@ -53,8 +53,8 @@ grants-in-spec =
     mul-g
     array-copy-out-g
     words-of-requires
-    mul-words
-    array-write-words
+    mul-seconds
+    array-write-seconds
     add-i
     loop-less
     loop-again

@@ -1,4 +1,4 @@
--- The loops of the writer over the credentials: the mask, their words, and words written.
+-- The loops over the credentials: the mask, their words, and words written.
 -- Assumes nothing.
 use Prim.Native.Nat.{ℕ, suc, _+_, _-_, _*_, _<_, _≤_}
 use mathlib.Core.Path.{_≡_, refl, sym, ap, _∙_}

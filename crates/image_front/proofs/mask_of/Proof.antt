@@ -1,8 +1,8 @@
 -- written by tools/scaffold, which keeps the answers that are not a plain search
-use Rattle.image_write.proofs.Rows.{Masked}
-use Rattle.image_write.proofs.Rules.{rules}
-use Rattle.image_write.proofs.mask_of.Statement.{statement}
-use Rattle.image_write.proofs.mask_of.Tie as tie
+use Rattle.image_front.proofs.Rows.{Masked}
+use Rattle.image_front.proofs.Rules.{rules}
+use Rattle.image_front.proofs.mask_of.Statement.{statement}
+use Rattle.image_front.proofs.mask_of.Tie as tie
 
 abbrev Inv-loop : tie.InvT-loop
 Inv-loop l mask₀ left₀ mask left = Masked l mask left

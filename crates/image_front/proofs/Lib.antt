@@ -1,0 +1,4 @@
+pub mod Rows
+pub mod Laws
+pub mod Rules
+pub mod Unique
