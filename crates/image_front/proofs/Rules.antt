@@ -12,7 +12,6 @@ use lib.Dec.{eqb}
 use lib.ListN.{length, getD}
 use Rattle.lists.specs.Lists.{join}
 use Rattle.lists.proofs.Tests.{split}
-use Rattle.lists.proofs.Lists.{length-mapped}
 use Rattle.rows.specs.Bytes.{bytesOf}
 use Rattle.rows.specs.Rows.{over, Put}
 use Rattle.rows.proofs.Bytes.{length-bytes}
@@ -122,11 +121,7 @@ module _ (grants : List Grants) (n offset : ℕ) {old : List ℕ} {long : ℕ} (
       let all : wordsAt + (frontLong offset - wordsAt) ≡ frontLong offset = omega (arith, front-least offset) in
       rw (all, m) at (put-next p q (omega (arith, e, front-least offset)) .is)
 
-module _ (offset : ℕ) (old : List ℕ) {long : ℕ} (e : long ≡ frontLong offset) (h : long ≤ length old) where
-  pub head-room : wordsAt ≤ length old
-  head-room = omega (arith, e, front-least offset)
+pub head-room : (offset : ℕ) (old : List ℕ) {long : ℕ} → long ≡ frontLong offset → long ≤ length old → wordsAt ≤ length old
+head-room offset old e h = omega (arith, front-least offset)
 
-  pub both-room : {x a : List ℕ} → Put 0 wordsAt x old a → frontLong offset ≤ length a
-  both-room p = omega (arith, e, put-length p)
-
-pub ruleset rules = (needs, length-mapped, masked-none, mask-double, mask-more, mask-hit, mask-miss, masked-all, head-put, grant-in, second-in, taken-none, taken-on, taken-all, worded-none, worded-length, worded-on, worded-all, seconds-there, long-new, long-old, words-room, seconds-room, both-put, grants-put, front-short, front-all, head-room, both-room)
+pub ruleset rules = (needs, masked-none, mask-double, mask-more, mask-hit, mask-miss, masked-all, head-put, grant-in, second-in, taken-none, taken-on, taken-all, worded-none, worded-length, worded-on, worded-all, seconds-there, long-new, long-old, words-room, seconds-room, both-put, grants-put, front-short, front-all, head-room)
