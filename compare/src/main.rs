@@ -50,7 +50,7 @@ usage: slavotuk-compare test [--calls N] [--seed S]
        slavotuk-compare replay SEED
        slavotuk-compare figures [--drawers N] [--seed S] [--program FILE]
 
-test    all tests: N calls in random sequences over 20 entries (5000000 unless given, at least 200000), with power cycles between
+test    all tests: N calls in random sequences over 21 entries (5000000 unless given, at least 200000), with power cycles between
         them, claims that passed sent again, every pair of bits of a class in both words, every pair of sessions of both ports,
         damaged states, fresh modules, images, the listing messages, and all messages of 004 clause 9.2. The same seed makes the
         same calls; it is 1 unless given.
