@@ -26,6 +26,9 @@ mod ports;
 mod protected;
 mod random;
 mod report;
+mod rescue_draw;
+mod rescue_test;
+mod rescue_tried;
 mod run;
 mod sequence;
 mod shrink;
@@ -52,8 +55,8 @@ usage: slavotuk-compare test [--calls N] [--seed S]
 
 test    all tests: N calls in random sequences over 21 entries (5000000 unless given, at least 200000), with power cycles between
         them, claims that passed sent again, every pair of bits of a class in both words, every pair of sessions of both ports,
-        damaged states, fresh modules, images, the listing messages, and all messages of 004 clause 9.2. The same seed makes the
-        same calls; it is 1 unless given.
+        damaged states, fresh modules, images, damaged images rescued, the listing messages, and all messages of 004 clause 9.2.
+        The same seed makes the same calls; it is 1 unless given.
 soak    random sequences, damaged states and damaged images for N seconds (60 unless given), with a line now and then. The seed
         is taken from the clock unless given, and printed.
 replay  one sequence again, by the seed that a failure printed. The failure is printed with its sequence shrunk.
