@@ -46,7 +46,15 @@ pub fn offset(image: &[u8]) -> usize {
     }
 }
 
-/// Whether it is that of the old layout.
+/// The image's own count of rows; 0 where it ends before.
+pub fn stated(image: &[u8]) -> usize {
+    match image.get(ROW_COUNT_AT..ROWS_OFFSET_AT) {
+        Some([low, high]) => u16::from_le_bytes([*low, *high]).into(),
+        _ => 0,
+    }
+}
+
+/// Whether its offset of rows is that of the old layout.
 pub fn is_old(image: &[u8]) -> bool {
     offset(image) == OLD_ROWS_AT
 }

@@ -1,6 +1,6 @@
 //! Damaged images on both sides of each bound, rescued.
 
-use crate::call::{Answer, Bytes, Call};
+use crate::call::{Answer, Call};
 use crate::images::{self, names, put, row_in};
 use crate::random::Random;
 use crate::report::Report;
@@ -31,12 +31,13 @@ const OFFSETS: [u16; 14] = [
 
 type Part = fn(&mut Tried, &[Image]) -> Result<String, String>;
 
-const PARTS: [Part; 7] = [
+const PARTS: [Part; 8] = [
     every_example,
     every_byte,
     every_number,
     every_length,
     every_count,
+    every_offset,
     every_room,
     long_bytes,
 ];
@@ -159,7 +160,6 @@ fn every_number(tried: &mut Tried, images: &[Image]) -> Result<String, String> {
             ("mask", MASK_AT, 256, 256),
             ("count of words", WORD_COUNT_AT, 1, 2),
             ("offset of words", WORDS_OFFSET_AT, 1, 2),
-            ("count of rows", ROW_COUNT_AT, 13, 1 + 11 * 2),
             ("offset of rows", ROWS_OFFSET_AT, 2, 2),
             ("credential", row + OWNER, 65_536, 65_536 + 2),
             ("next number", row + NEXT, 65_536, 65_536 + 65_535),
@@ -199,17 +199,12 @@ fn every_length(tried: &mut Tried, images: &[Image]) -> Result<String, String> {
         let tails = [
             vec![0; LENGTHS],
             tried.random.bytes(LENGTHS),
-            good_rows(&names, bytes),
+            other_rows(&names, bytes),
         ];
         for tail in tails {
             let longer = [bytes.as_slice(), &tail].concat();
             for length in 0..=LENGTHS {
-                let right = if length < images::offset(bytes) {
-                    14
-                } else {
-                    0
-                };
-                let outcome = tried.expect(&longer[..length], LONGEST, right);
+                let outcome = good_rows_at(tried, &longer[..length], images::offset(bytes));
                 outcome.map_err(|what| format!("'{name}' at length {length}: {what}"))?;
             }
         }
@@ -221,15 +216,27 @@ fn every_length(tried: &mut Tried, images: &[Image]) -> Result<String, String> {
 }
 
 /// Rows with these names that would be good ones in the image.
-fn good_rows(names: &[Name], image: &[u8]) -> Vec<u8> {
+fn other_rows(names: &[Name], image: &[u8]) -> Vec<u8> {
     let owner = image[MASK_AT].trailing_zeros() as u16;
     let rows: Vec<_> = names.iter().map(|name| (owner, 1, *name)).collect();
     let image = Parts::empty(0, [0; 8], None).with_rows(&rows);
     image.bytes()[OLD_ROWS_AT..].to_vec()
 }
 
+fn every_count(tried: &mut Tried, images: &[Image]) -> Result<String, String> {
+    for Image { name, bytes } in images {
+        let mut counted = bytes.clone();
+        for count in 0..=u16::MAX {
+            put(&mut counted, ROW_COUNT_AT, count);
+            let outcome = good_rows_at(tried, &counted, images::offset(bytes));
+            outcome.map_err(|what| format!("'{name}' with count {count}: {what}"))?;
+        }
+    }
+    tried.counted(&format!("{} images with every count of rows", images.len()))
+}
+
 /// Thirteen good rows at the place that each layout has for them, under each offset, with counts about the twelve and lengths about each row.
-fn every_count(tried: &mut Tried, _: &[Image]) -> Result<String, String> {
+fn every_offset(tried: &mut Tried, _: &[Image]) -> Result<String, String> {
     let names = names(PLACES + 1, &mut tried.random);
     let new = images::draw(0x5a, &names, &mut tried.random);
     for (mut rows, rows_at) in [(images::old(&new), OLD_ROWS_AT), (new, ROWS_AT)] {
@@ -240,7 +247,7 @@ fn every_count(tried: &mut Tried, _: &[Image]) -> Result<String, String> {
                 for place in 0..=PLACES + 1 {
                     let end = rows_at + ROW_LENGTH * place;
                     for length in (end - 1..end + 2).filter(|length| *length <= rows.len()) {
-                        let outcome = counted_rows(tried, &rows[..length], rows_at);
+                        let outcome = good_rows_at(tried, &rows[..length], rows_at);
                         outcome.map_err(|what| {
                             format!("rows at {rows_at}, offset {offset}, count {count}, length {length}: {what}")
                         })?;
@@ -255,21 +262,17 @@ fn every_count(tried: &mut Tried, _: &[Image]) -> Result<String, String> {
     ))
 }
 
-/// Good rows that begin there: as many are kept as are whole and stated.
-fn counted_rows(tried: &mut Tried, bytes: &[u8], rows_at: usize) -> Result<(), String> {
-    let offset = images::offset(bytes);
-    let stated = usize::from(bytes[ROW_COUNT_AT]) + 256 * usize::from(bytes[ROW_COUNT_AT + 1]);
-    let usable =
-        (offset == OLD_ROWS_AT || offset == ROWS_AT) && bytes.len() >= offset && stated <= PLACES;
+/// A good image but for its count of rows, its offset of rows and its length, whose rows begin there: as many are kept as are whole and stated.
+fn good_rows_at(tried: &mut Tried, bytes: &[u8], rows_at: usize) -> Result<(), String> {
+    let (offset, stated) = (images::offset(bytes), images::stated(bytes));
+    let is_layout = offset == OLD_ROWS_AT || offset == ROWS_AT;
+    let usable = is_layout && bytes.len() >= offset && stated <= PLACES;
     let before = tried.met.kept;
     tried.expect(bytes, LONGEST, if usable { 0 } else { 14 })?;
     let kept = tried.met.kept - before;
     let right = stated.min(images::rows(bytes)) as u64;
     match usable && offset == rows_at && kept != right {
-        true => Err(format!(
-            "{kept} rows kept, right: {right}; {}",
-            Bytes(bytes)
-        )),
+        true => Err(format!("{kept} rows kept, right: {right}")),
         false => Ok(()),
     }
 }
@@ -292,7 +295,7 @@ fn damaged_fields(seed: u64) -> Vec<Result<String, String>> {
     }
     vec![
         tried.counted("several damaged fields of an image"),
-        lost.judge(),
+        lost.judge(&tried.met),
     ]
 }
 
@@ -344,7 +347,7 @@ fn long_bytes(tried: &mut Tried, images: &[Image]) -> Result<String, String> {
     let lengths: Vec<usize> = lengths.chain(bounds.map(|more| WRAP + more)).collect();
     let names = names(PLACES, &mut tried.random);
     for Image { name, bytes } in images {
-        let rows = good_rows(&names, bytes).repeat(WRAP / ROW_LENGTH / PLACES + 3);
+        let rows = other_rows(&names, bytes).repeat(WRAP / ROW_LENGTH / PLACES + 3);
         for tail in [vec![0; WRAP + LONGEST], rows] {
             let mut longer = [bytes.as_slice(), &tail].concat();
             for count in [0, 1, 2, 12, 13, u16::MAX] {

@@ -6,7 +6,7 @@ use crate::images;
 use crate::random::Random;
 use crate::report::Singles;
 use slavotuk::entries;
-use slavotuk::layout::image::{NAME, ROWS_OFFSET_AT, ROW_COUNT_AT, ROW_LENGTH, WORDS_AT};
+use slavotuk::layout::image::{NAME, ROWS_OFFSET_AT, ROW_LENGTH, WORDS_AT};
 use slavotuk_model::layout::STATE_LENGTH;
 use slavotuk_model::rescue::{self, Reason};
 
@@ -147,8 +147,9 @@ impl Tried {
         if written[ROWS_OFFSET_AT..WORDS_AT] != bytes[ROWS_OFFSET_AT..WORDS_AT] {
             return Err("the layout is another");
         }
-        let stated = u16::from_le_bytes([bytes[ROW_COUNT_AT], bytes[ROW_COUNT_AT + 1]]);
-        if u32::from(kept) + dropped.count_ones() != stated.into() || dropped >> stated != 0 {
+        let stated = images::stated(bytes);
+        let places = dropped.count_ones() as usize;
+        if usize::from(kept) + places != stated || dropped >> stated != 0 {
             return Err("kept and dropped are not the stated rows");
         }
         let accepted = self.accepts(bytes);
@@ -244,8 +245,8 @@ impl Lost {
         self.freed += kept.iter().filter(follows).count() as u64;
     }
 
-    /// The line of what was lost: everything came up.
-    pub fn judge(&self) -> Result<String, String> {
+    /// The line of what was lost: everything came up, and every answer did.
+    pub fn judge(&self, met: &Met) -> Result<String, String> {
         let Lost {
             cleared,
             cleared_seconds,
@@ -268,6 +269,10 @@ impl Lost {
             name,
             freed,
             longer,
+            met.rescued,
+            met.unchanged,
+            met.unusable,
+            met.without_room,
         ];
         match all.iter().min() {
             Some(0) => Err(format!("{line}; each is wanted")),
@@ -319,7 +324,7 @@ mod tests {
 
     #[test]
     fn what_never_came_up_is_told() {
-        assert!(Lost::default().judge().is_err());
+        assert!(Lost::default().judge(&Met::default()).is_err());
         assert!(Tried::new(1).counted("nothing").is_err());
     }
 }

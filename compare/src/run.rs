@@ -1,4 +1,4 @@
-//! The three things the program does: test, soak, replay.
+//! What the program does with the archive: test, rescue, soak, replay.
 
 use crate::damage;
 use crate::depth::Depth;
@@ -59,6 +59,14 @@ pub fn test(calls: usize, seed: u64) -> ExitCode {
         report.judge(outcome);
     }
     println!("{:.1} s", begun.elapsed().as_secs_f64());
+    report.finish()
+}
+
+/// The tests that rescue damaged images, by themselves.
+pub fn rescue(seed: u64) -> ExitCode {
+    let mut report = Report::default();
+    println!("seed {seed}");
+    rescue_test::test(seed, &mut report);
     report.finish()
 }
 
