@@ -277,7 +277,7 @@ fn good_rows_at(tried: &mut Tried, bytes: &[u8], rows_at: usize) -> Result<(), S
     }
 }
 
-/// Several damaged fields at once. A difference is told with the seed that draws the image again.
+/// Several damaged fields at once. A difference is told with the seed that draws the image, and shrunk.
 fn damaged_fields(seed: u64) -> Vec<Result<String, String>> {
     let (mut tried, mut lost) = (Tried::new(seed), Lost::default());
     for _ in 0..DRAWN {
@@ -290,13 +290,29 @@ fn damaged_fields(seed: u64) -> Vec<Result<String, String>> {
         };
         lost.note(&bytes);
         if let Err(what) = tried.rescue(&bytes, room) {
-            return vec![Err(format!("several damaged fields, seed {seed}: {what}"))];
+            let shrunk = shrunk(bytes, room, &what);
+            return vec![Err(format!(
+                "several damaged fields, seed {seed}: {what}\n  shrunk: {shrunk}"
+            ))];
         }
     }
     vec![
         tried.counted("several damaged fields of an image"),
         lost.judge(&tried.met),
     ]
+}
+
+/// What is wrong with bytes that are as plain as they get while something is.
+fn shrunk(bytes: Vec<u8>, room: usize, what: &str) -> String {
+    let (mut bytes, mut what) = (bytes, what.to_string());
+    let still_wrong = |tried: Vec<u8>| {
+        let wrong = Tried::new(0).rescue(&tried, room).err()?;
+        Some((tried, wrong))
+    };
+    while let Some(found) = images::plainer(&bytes).into_iter().find_map(still_wrong) {
+        (bytes, what) = found;
+    }
+    what
 }
 
 /// Every length of the buffer: of good images, of others that get shorter, and of some of which nothing is rescued.
