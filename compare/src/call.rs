@@ -208,6 +208,6 @@ mod tests {
     #[test]
     fn the_states_entries_come_first() {
         let [last, next] = [STATE_ENTRIES - 1, STATE_ENTRIES].map(|at| Call::ENTRIES[at]);
-        assert_eq!([last, next], ["restore", "read_request"]);
+        assert_eq!([last, next], ["restore", "rescue"]);
     }
 }

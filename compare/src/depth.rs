@@ -30,6 +30,7 @@ const POSSIBLE: [&[usize]; ENTRIES] = [
     /* set_word      */ &[0, 1, 2, 3, 5, 6, 8, 9, 10, 13, 18],
     /* image         */ &[0, 15],
     /* restore       */ &[0, 14],
+    /* rescue        */ &[0, 14, 15],
     /* read_request  */ &[0, 14],
     /* write_request */ &[0, 15],
     /* read_count    */ &[0, 14],
@@ -74,6 +75,10 @@ pub struct Depth {
     restored: [u64; 3],
     /// Those of the old layout.
     restored_old: u64,
+    /// Those that were rescued before.
+    restored_rescued: u64,
+    /// Damaged images rescued: those that came out as they were, and others.
+    rescued: [u64; 2],
     /// Their rows.
     restored_rows: u64,
     /// Those of the processes from an image that were continued, and the claims that passed under them.
@@ -91,6 +96,8 @@ pub struct Trail {
     saved_in: HashMap<Name, Session>,
     /// The images that were written, the newest at the end.
     images: Vec<Vec<u8>>,
+    /// The images that were rescued and changed by it.
+    rescued: HashSet<Vec<u8>>,
     /// The processes that came from an image.
     restored: HashSet<Name>,
 }
@@ -117,6 +124,12 @@ impl Depth {
                 self.images += 1;
                 trail.images.push(image.as_ref()[..*length].to_vec());
             }
+            Call::Rescue {
+                bytes,
+                image,
+                length,
+                ..
+            } => self.note_rescue(trail, bytes, &image.as_ref()[..*length]),
             Call::End { keep: 1, .. } => self.note_save(trail, before, after),
             Call::Continue { name, .. } => self.note_continue(trail, session_of(call), name),
             _ => self.note_elevated(call, before),
@@ -164,10 +177,19 @@ impl Depth {
         };
         self.restored[whose] += 1;
         self.restored_old += u64::from(images::is_old(image));
+        self.restored_rescued += u64::from(trail.rescued.contains(image));
         self.restored_rows += after.processes.len() as u64;
         trail.used = after.processes.len();
         trail.saved_in.clear();
         trail.restored = after.processes.iter().map(|process| process.name).collect();
+    }
+
+    fn note_rescue(&mut self, trail: &mut Trail, bytes: &[u8], image: &[u8]) {
+        let changed = image != bytes;
+        self.rescued[usize::from(changed)] += 1;
+        if changed {
+            trail.rescued.insert(image.to_vec());
+        }
     }
 
     fn note_elevated(&mut self, call: &Call, before: &Module) {
@@ -232,6 +254,8 @@ impl Depth {
         self.images += other.images;
         add_each(&mut self.restored, &other.restored);
         self.restored_old += other.restored_old;
+        self.restored_rescued += other.restored_rescued;
+        add_each(&mut self.rescued, &other.rescued);
         self.restored_rows += other.restored_rows;
         self.restored_continued += other.restored_continued;
         self.restored_claims += other.restored_claims;
@@ -288,6 +312,7 @@ impl Depth {
         let [newest, older, others] = self.restored;
         let (images, rows) = (self.images, self.restored_rows);
         let (back, claims) = (self.restored_continued, self.restored_claims);
+        let ([as_it_was, changed], good) = (self.rescued, self.restored_rescued);
         vec![
             self.judge_possible(least),
             self.judge_impossible(),
@@ -326,6 +351,12 @@ impl Depth {
                 back.min(claims),
                 format!(
                     "{rows} processes came from an image, {back} were continued, {claims} claims passed under them"
+                ),
+            ),
+            reached(
+                as_it_was.min(changed).min(good),
+                format!(
+                    "{changed} damaged images rescued, and {as_it_was} that came out as they were; {good} power cycles with what was rescued"
                 ),
             ),
             self.across.judge(least),

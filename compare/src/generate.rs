@@ -9,7 +9,7 @@ use slavotuk::layout::listing::{row_at, FULL_LENGTH, ROWS_AT};
 use slavotuk_model::layout::{self, STATE_LENGTH};
 use slavotuk_model::module::{Credential, Grant, Kind, Name, Phase, Process, Session, Wanted};
 use slavotuk_model::module::{CREDENTIALS, NAME_LENGTH, PLACES, PORTS, SESSIONS, SPENT};
-use slavotuk_model::{image, messages, Module};
+use slavotuk_model::{image, messages, rescue, Module};
 
 /// Ports, handles, credentials, classes and flags on both sides of each width.
 const BOUNDS: [u32; 14] = [
@@ -47,10 +47,10 @@ enum Style {
 #[rustfmt::skip]
 fn weights(style: Style) -> [usize; ENTRIES] {
     match style {
-        //                    fresh holds open close drop select start cont. elev. end rec. list kill word image rest. requests listings
-        Style::Mixed =>       [2,   2,    30,  15,   12,  30,    100,  60,   40,   60, 120, 50,  40,  40,  6,    4,    5, 5,    10, 15],
-        Style::Crowded =>     [0,   2,    30,  2,    4,   40,    160,  30,   60,   80, 50,  40,  6,   20,  3,    3,    5, 5,    10, 15],
-        Style::NearlySpent => [0,   2,    10,  2,    5,   10,    30,   50,   20,   40, 120, 60,  50,  40,  3,    3,    5, 5,    10, 15],
+        //                    fresh holds open close drop select start cont. elev. end rec. list kill word image rest. resc. requests listings
+        Style::Mixed =>       [2,   2,    30,  15,   12,  30,    100,  60,   40,   60, 120, 50,  40,  40,  6,    4,    6,    5, 5,    10, 15],
+        Style::Crowded =>     [0,   2,    30,  2,    4,   40,    160,  30,   60,   80, 50,  40,  6,   20,  3,    3,    4,    5, 5,    10, 15],
+        Style::NearlySpent => [0,   2,    10,  2,    5,   10,    30,   50,   20,   40, 120, 60,  50,  40,  3,    3,    4,    5, 5,    10, 15],
     }
 }
 
@@ -61,7 +61,7 @@ pub struct Generator {
     names: Vec<Name>,
     /// The last listing that was answered, for the readers.
     listing: Vec<u8>,
-    /// The last images that were answered, the newest at the end.
+    /// The last images that were answered, written or rescued, the newest at the end.
     images: Vec<Vec<u8>>,
     /// Whether the power goes off after the newest of them.
     power_off: bool,
@@ -136,6 +136,7 @@ impl Generator {
             "set_word" => self.set_word(module),
             "image" => self.image(module),
             "restore" => self.restore(),
+            "rescue" => self.rescue(module),
             "read_request" => self.read_request(),
             "write_request" => self.write_request(),
             "read_count" => self.read_count(),
@@ -153,13 +154,21 @@ impl Generator {
                 response, length, ..
             } => self.listing = response.as_ref()[..*length].to_vec(),
             Call::Image { image, length } => {
-                self.images.push(image.as_ref()[..*length].to_vec());
-                let old = self.images.len().saturating_sub(KEPT_IMAGES);
-                self.images.drain(..old);
+                self.keep_image(&image.as_ref()[..*length]);
                 self.power_off = self.random.percent(30);
+            }
+            Call::Rescue { image, length, .. } => {
+                self.keep_image(&image.as_ref()[..*length]);
+                self.power_off = self.random.percent(5);
             }
             _ => {}
         }
+    }
+
+    fn keep_image(&mut self, image: &[u8]) {
+        self.images.push(image.to_vec());
+        let old = self.images.len().saturating_sub(KEPT_IMAGES);
+        self.images.drain(..old);
     }
 
     /// A state of many processes whose next numbers are near the last one.
@@ -424,7 +433,15 @@ impl Generator {
     }
 
     fn image(&mut self, module: &Module) -> Call {
-        let exact = image::write(module).len();
+        let room = self.image_room(image::write(module).len());
+        Call::Image {
+            image: self.random.bytes(room).into(),
+            length: self.random.next() as usize,
+        }
+    }
+
+    /// Around the length of an image of so many bytes.
+    fn image_room(&mut self, exact: usize) -> usize {
         let bounds = [
             places::WORDS_AT,
             places::old_row_at(0),
@@ -433,19 +450,26 @@ impl Generator {
             places::FULL_LENGTH,
         ];
         let at = self.random.pick(&bounds);
-        let room = self.room_about(exact, &[0, at - 1, at, at + 1]);
-        Call::Image {
-            image: self.random.bytes(room).into(),
-            length: self.random.next() as usize,
+        self.room_about(exact, &[0, at - 1, at, at + 1])
+    }
+
+    /// Mostly damaged, so that the state lives on.
+    fn restore(&mut self) -> Call {
+        let image = self.kept_image();
+        let image = self.damaged_image(image);
+        Call::Restore { image }
+    }
+
+    /// An image that was answered, the newest or an older one, or one of another module.
+    fn kept_image(&mut self) -> Vec<u8> {
+        match self.images.is_empty() || self.random.percent(15) {
+            true => self.drawn_image(),
+            false => self.images[self.random.below(self.images.len())].clone(),
         }
     }
 
-    /// An image that was written, the newest or an older one, or one of another module; mostly damaged, so that the state lives on.
-    fn restore(&mut self) -> Call {
-        let mut image = match self.images.is_empty() || self.random.percent(15) {
-            true => self.drawn_image(),
-            false => self.images[self.random.below(self.images.len())].clone(),
-        };
+    /// The image, now and then in the old layout, and mostly damaged.
+    fn damaged_image(&mut self, mut image: Vec<u8>) -> Vec<u8> {
         if self.random.percent(20) {
             image = images::old(&image);
         }
@@ -453,7 +477,26 @@ impl Generator {
             let fields = 1 + self.random.below(4);
             images::damage(&mut image, fields, &mut self.random);
         }
-        Call::Restore { image }
+        image
+    }
+
+    /// Half of them are of the module as it stands.
+    fn rescue(&mut self, module: &Module) -> Call {
+        let image = match self.random.percent(50) {
+            true => image::write(module),
+            false => self.kept_image(),
+        };
+        let bytes = self.damaged_image(image);
+        let rescued = rescue::rescue(&bytes);
+        let room = self.image_room(rescued.map_or(image::LONGEST, |rescued| rescued.image.len()));
+        Call::Rescue {
+            bytes,
+            image: self.random.bytes(room).into(),
+            length: self.random.next() as usize,
+            cleared: self.random.word() as u16,
+            kept: self.random.word() as u16,
+            dropped: self.random.word() as u16,
+        }
     }
 
     fn drawn_image(&mut self) -> Vec<u8> {

@@ -46,7 +46,15 @@ pub fn offset(image: &[u8]) -> usize {
     }
 }
 
-/// Whether it is that of the old layout.
+/// The image's own count of rows; 0 where it ends before.
+pub fn stated(image: &[u8]) -> usize {
+    match image.get(ROW_COUNT_AT..ROWS_OFFSET_AT) {
+        Some([low, high]) => u16::from_le_bytes([*low, *high]).into(),
+        _ => 0,
+    }
+}
+
+/// Whether its offset of rows is that of the old layout.
 pub fn is_old(image: &[u8]) -> bool {
     offset(image) == OLD_ROWS_AT
 }
@@ -210,6 +218,52 @@ pub fn without_row(bytes: &[u8], row: usize) -> Option<Vec<u8>> {
             false => shorter,
         }
     })
+}
+
+/// Bytes a little plainer than these, which may be damaged: with a row less, shorter, with a plainer name, or a number of 0 or 1. None of these is taken back by
+/// another.
+pub fn plainer(bytes: &[u8]) -> Vec<Vec<u8>> {
+    let length = bytes.len();
+    let mut plainer = vec![
+        bytes[..length / 2].to_vec(),
+        bytes[..length.saturating_sub(1)].to_vec(),
+    ];
+    if length >= WORDS_AT {
+        plainer.push(with_one_row_less_stated(bytes.to_vec()));
+    }
+    let mut numbers: Vec<usize> = (WORDS_AT..row_in(bytes, 0)).step_by(2).collect();
+    for (place, row) in (0..rows(bytes)).map(|row| row_in(bytes, row)).enumerate() {
+        let without = [&bytes[..row], &bytes[row + ROW_LENGTH..]].concat();
+        plainer.push(with_one_row_less_stated(without.clone()));
+        plainer.push(without);
+        let name = &bytes[row + NAME..row + ROW_LENGTH];
+        if runs(name) > 1 {
+            let mut renamed = bytes.to_vec();
+            rename(&mut renamed, name, &[place as u8 + 1; NAME_LENGTH]);
+            plainer.push(renamed);
+        }
+        numbers.extend([row + OWNER, row + NEXT]);
+    }
+    for at in numbers.into_iter().filter(|at| at + 2 <= length) {
+        for number in (0..2).take_while(|number| *number < get(bytes, at)) {
+            let mut lower = bytes.to_vec();
+            put(&mut lower, at, number);
+            plainer.push(lower);
+        }
+    }
+    plainer.retain(|tried| tried != bytes);
+    plainer
+}
+
+fn with_one_row_less_stated(mut bytes: Vec<u8>) -> Vec<u8> {
+    let stated = get(&bytes, ROW_COUNT_AT).saturating_sub(1);
+    put(&mut bytes, ROW_COUNT_AT, stated);
+    bytes
+}
+
+/// How many runs of equal bytes there are.
+pub fn runs(bytes: &[u8]) -> usize {
+    1 + bytes.windows(2).filter(|pair| pair[0] != pair[1]).count()
 }
 
 /// Gives the rows of one name another.

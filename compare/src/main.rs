@@ -26,6 +26,9 @@ mod ports;
 mod protected;
 mod random;
 mod report;
+mod rescue_draw;
+mod rescue_test;
+mod rescue_tried;
 mod run;
 mod sequence;
 mod shrink;
@@ -46,14 +49,16 @@ const HELP: &str = "\
 Runs the compiled archive and the program of order 6 beside the model of documents 01 and 02, and tells where they differ.
 
 usage: slavotuk-compare test [--calls N] [--seed S]
+       slavotuk-compare rescue [--seed S]
        slavotuk-compare soak [--seconds N | --forever] [--seed S]
        slavotuk-compare replay SEED
        slavotuk-compare figures [--drawers N] [--seed S] [--program FILE]
 
-test    all tests: N calls in random sequences over 20 entries (5000000 unless given, at least 200000), with power cycles between
+test    all tests: N calls in random sequences over 21 entries (5000000 unless given, at least 200000), with power cycles between
         them, claims that passed sent again, every pair of bits of a class in both words, every pair of sessions of both ports,
-        damaged states, fresh modules, images, the listing messages, and all messages of 004 clause 9.2. The same seed makes the
-        same calls; it is 1 unless given.
+        damaged states, fresh modules, images, damaged images rescued, the listing messages, and all messages of 004 clause 9.2.
+        The same seed makes the same calls; it is 1 unless given.
+rescue  of these, the tests that rescue damaged images.
 soak    random sequences, damaged states and damaged images for N seconds (60 unless given), with a line now and then. The seed
         is taken from the clock unless given, and printed.
 replay  one sequence again, by the seed that a failure printed. The failure is printed with its sequence shrunk.
@@ -72,6 +77,9 @@ enum Command {
     Help,
     Test {
         calls: usize,
+        seed: u64,
+    },
+    Rescue {
         seed: u64,
     },
     Soak {
@@ -103,6 +111,7 @@ fn run(command: Command) -> Result<ExitCode, String> {
             Ok(ExitCode::SUCCESS)
         }
         Command::Test { calls, seed } => Ok(run::test(calls, seed)),
+        Command::Rescue { seed } => Ok(run::rescue(seed)),
         Command::Soak { time, seed } => Ok(run::soak(time, seed)),
         Command::Replay { seed } => Ok(run::replay(seed)),
         Command::Figures {
@@ -123,6 +132,7 @@ fn parse(arguments: &[String]) -> Result<Command, String> {
     let mut words = arguments.iter().map(String::as_str);
     match words.next() {
         Some("test") => parse_test(words),
+        Some("rescue") => parse_rescue(words),
         Some("soak") => parse_soak(words),
         Some("figures") => parse_figures(words),
         Some("replay") => {
@@ -151,6 +161,17 @@ fn parse_test<'a>(mut words: impl Iterator<Item = &'a str>) -> Result<Command, S
     }
     let calls = calls as usize;
     Ok(Command::Test { calls, seed })
+}
+
+fn parse_rescue<'a>(mut words: impl Iterator<Item = &'a str>) -> Result<Command, String> {
+    let mut seed = 1;
+    while let Some(word) = words.next() {
+        match word {
+            "--seed" => seed = number(words.next(), word)?,
+            _ => return Err(format!("rescue has no option '{word}'")),
+        }
+    }
+    Ok(Command::Rescue { seed })
 }
 
 fn parse_soak<'a>(mut words: impl Iterator<Item = &'a str>) -> Result<Command, String> {

@@ -1,4 +1,4 @@
-//! The three things the program does: test, soak, replay.
+//! What the program does with the archive: test, rescue, soak, replay.
 
 use crate::damage;
 use crate::depth::Depth;
@@ -10,7 +10,7 @@ use crate::random::Random;
 use crate::report::Report;
 use crate::sequence::{self, Failure, Plan};
 use crate::shrink::{describe, shrink};
-use crate::{port_pairs, port_steps, ports, wire, wire_test};
+use crate::{port_pairs, port_steps, ports, rescue_test, wire, wire_test};
 use std::process::ExitCode;
 use std::sync::atomic::{AtomicBool, AtomicUsize, Ordering};
 use std::thread;
@@ -53,11 +53,20 @@ pub fn test(calls: usize, seed: u64) -> ExitCode {
     damage::test(seed, &mut report);
     damage::test_fresh(seed, &mut report);
     image_test::test(seed, &mut report);
+    rescue_test::test(seed, &mut report);
     messages::test(seed, &mut report);
     for outcome in wire_test::test(&wire::Archive, MESSAGES, seed) {
         report.judge(outcome);
     }
     println!("{:.1} s", begun.elapsed().as_secs_f64());
+    report.finish()
+}
+
+/// The tests that rescue damaged images, by themselves.
+pub fn rescue(seed: u64) -> ExitCode {
+    let mut report = Report::default();
+    println!("seed {seed}");
+    rescue_test::test(seed, &mut report);
     report.finish()
 }
 
@@ -207,6 +216,7 @@ fn soak_round(
     *damaged += damage::soak(pair.archive.state(), &mut Random::new(seed))?;
     if let Some(module) = pair.module() {
         *damaged += image_test::soak(module, seed)?;
+        *damaged += rescue_test::soak(module, seed)?;
     }
     Ok(())
 }

@@ -118,18 +118,13 @@ fn plainer_names(failure: &mut Failure) {
         let mut zeros = vec![0; name.len()];
         zeros[name.len() - 1] = byte;
         for plainer in [vec![byte; name.len()], zeros] {
-            if runs(&plainer) < runs(name)
+            if images::runs(&plainer) < images::runs(name)
                 && accept(failure, with_name(&failure.sequence, name, &plainer))
             {
                 break;
             }
         }
     }
-}
-
-/// How many runs of equal bytes there are.
-fn runs(bytes: &[u8]) -> usize {
-    1 + bytes.windows(2).filter(|pair| pair[0] != pair[1]).count()
 }
 
 fn with_name(sequence: &Sequence, from: &[u8], to: &[u8]) -> Sequence {
@@ -139,11 +134,20 @@ fn with_name(sequence: &Sequence, from: &[u8], to: &[u8]) -> Sequence {
         *name = to.to_vec();
     }
     for call in &mut changed.calls {
-        if let (Call::Restore { image }, NAME_LENGTH) = (call, to.len()) {
+        if let (Some(image), NAME_LENGTH) = (image_mut(call), to.len()) {
             images::rename(image, from, to);
         }
     }
     changed
+}
+
+/// The image handed in.
+fn image_mut(call: &mut Call) -> Option<&mut Vec<u8>> {
+    match call {
+        Call::Restore { image } => Some(image),
+        Call::Rescue { bytes, .. } => Some(bytes),
+        _ => None,
+    }
 }
 
 /// Each session becomes one of those before it, port 0's first.
@@ -208,18 +212,8 @@ fn plainer_calls(call: &Call) -> Vec<Call> {
             response: buffer, ..
         }
         | Call::Image { image: buffer, .. } => {
-            let room = buffer.as_ref().len();
-            let rooms = [
-                0,
-                listing::ROWS_AT,
-                image::ROWS_AT,
-                room / 2,
-                room.saturating_sub(1),
-                room,
-            ];
-            for room in rooms.into_iter().filter(|tried| *tried <= room) {
-                plainer.push(change(&|call| set_room(call, room)));
-            }
+            let rooms = plainer_rooms(buffer.as_ref().len()).into_iter();
+            plainer.extend(rooms.map(|room| change(&|call| set_room(call, room))));
         }
         Call::Restore { image } => {
             if images::is_old(image) && slavotuk_model::image::read(image).is_ok() {
@@ -231,6 +225,12 @@ fn plainer_calls(call: &Call) -> Vec<Call> {
                 plainer.extend(shorter.map(|image| Call::Restore { image }));
             }
         }
+        Call::Rescue { bytes, image, .. } => {
+            let plain = images::plainer(bytes).into_iter();
+            plainer.extend(plain.map(|bytes| change(&|call| set_bytes(call, &bytes))));
+            let rooms = plainer_rooms(image.as_ref().len()).into_iter();
+            plainer.extend(rooms.map(|room| change(&|call| set_room(call, room))));
+        }
         Call::SetWord { word, second, .. } => {
             let words = plainer_words(*word, *second).into_iter();
             plainer.extend(words.map(|words| change(&|call| set_words(call, words))));
@@ -238,6 +238,20 @@ fn plainer_calls(call: &Call) -> Vec<Call> {
         _ => {}
     }
     plainer
+}
+
+/// Rooms up to this one; with the same room the buffer is filled plainly.
+fn plainer_rooms(room: usize) -> Vec<usize> {
+    let rooms = [
+        0,
+        listing::ROWS_AT,
+        image::ROWS_AT,
+        room / 2,
+        room.saturating_sub(1),
+        room,
+    ];
+    let tried = rooms.into_iter().filter(|tried| *tried <= room);
+    tried.collect()
 }
 
 /// Words a little plainer than these, the plainest first.
@@ -287,10 +301,21 @@ fn set_room(call: &mut Call, room: usize) {
     | Call::Image {
         image: buffer,
         length,
+    }
+    | Call::Rescue {
+        image: buffer,
+        length,
+        ..
     } = call
     {
         *buffer = vec![0xee; room].into();
         *length = 0;
+    }
+}
+
+fn set_bytes(call: &mut Call, plain: &[u8]) {
+    if let Call::Rescue { bytes, .. } = call {
+        *bytes = plain.to_vec();
     }
 }
 
@@ -349,6 +374,7 @@ mod tests {
     use crate::depth::Depth;
     use crate::generate::Generator;
     use crate::sequence::Found;
+    use slavotuk_model::rescue;
 
     /// A sequence is called wrong where some process was saved; no side need be broken for that.
     fn find_save(sequence: &Sequence) -> Option<Found> {
@@ -376,7 +402,8 @@ mod tests {
         Sequence { lent, calls }
     }
 
-    /// From a fresh module it takes fresh, open, select, start and end; two calls more where the word is first given by another's set word.
+    /// From a fresh module it takes fresh, open, select, start and end; two calls more where the word is first given by another's set word, and again two where that
+    /// one got its own so.
     #[test]
     fn a_save_takes_few_calls() {
         let mut lengths = Vec::new();
@@ -399,8 +426,68 @@ mod tests {
             lengths.push(calls.len());
         }
         assert!(lengths.len() >= 10, "{lengths:?}");
-        assert!(lengths.iter().all(|length| *length <= 7), "{lengths:?}");
+        assert!(lengths.iter().all(|length| *length <= 9), "{lengths:?}");
         assert!(lengths.contains(&5), "{lengths:?}");
+    }
+
+    /// A sequence is called wrong where a rescue drops a row for its name.
+    fn find_equal_names(sequence: &Sequence) -> Option<Found> {
+        let mut pair = Pair::of(&sequence.lent);
+        for (at, call) in sequence.calls.iter().enumerate() {
+            let answer = pair.call(call).ok()?;
+            if let (Call::Rescue { bytes, .. }, 0) = (call, answer.number) {
+                let rescued = rescue::rescue(bytes).ok()?;
+                let for_its_name = |row: &rescue::Dropped| row.reason == rescue::Reason::Name;
+                if rescued.dropped.iter().any(for_its_name) {
+                    let what = "dropped".to_string();
+                    return Some(Found { at, what });
+                }
+            }
+        }
+        None
+    }
+
+    /// One call is left, with two rows of a plain name and no word.
+    #[test]
+    fn a_rescue_takes_few_bytes() {
+        let mut shown = 0;
+        for seed in 0..40 {
+            let sequence = drawn(seed, 400);
+            let Some(found) = find_equal_names(&sequence) else {
+                continue;
+            };
+            shown += 1;
+            let shrunk = shrink(Failure {
+                sequence,
+                found,
+                test: find_equal_names,
+            });
+            let calls = &shrunk.sequence.calls;
+            let [Call::Rescue { bytes, image, .. }] = &calls[..] else {
+                panic!("{} calls are left", calls.len());
+            };
+            let printed = Bytes(bytes).to_string();
+            let [words, first, second] = [0, 1, 2].map(|row| images::row_in(bytes, row));
+            assert_eq!(
+                (bytes.len(), bytes[image::ROW_COUNT_AT]),
+                (second, 2),
+                "{printed}"
+            );
+            assert_eq!(image.as_ref().len(), first, "{printed}");
+            assert!(
+                bytes[image::WORDS_AT..words].iter().all(|byte| *byte == 0),
+                "{printed}"
+            );
+            for row in [words, first] {
+                assert_eq!(bytes[row + image::NEXT], 1, "{printed}");
+                assert_eq!(
+                    images::runs(&bytes[row + image::NAME..][..NAME_LENGTH]),
+                    1,
+                    "{printed}"
+                );
+            }
+        }
+        assert!(shown >= 5, "{shown}");
     }
 
     #[test]

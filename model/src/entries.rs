@@ -6,6 +6,7 @@ use crate::messages;
 use crate::module::{Claim, Credential, Module, Name, Session, UserClaim, Wanted};
 use crate::module::{CREDENTIALS, PORTS, SESSIONS};
 use crate::number::{refuse_unless, refuse_when, Number};
+use crate::rescue;
 
 /// The wanted credential that stands for all.
 const ALL: u32 = 65_535;
@@ -259,6 +260,30 @@ pub fn restore(lent: &mut Lent, image: &[u8]) -> u32 {
     number_of(|| {
         refuse_unless(lent.length() == STATE_LENGTH, Number::Argument)?;
         *lent = Lent::State(image::read(image)?);
+        Ok(())
+    })
+}
+
+/// Writes a good image out of damaged bytes: 14 where header or words can't be used, then 15 for a buffer too short. The length handed out is the image's, 0 on a
+/// refusal; the report is handed out where nothing is refused. In `dropped`, bit i stands for the stated row i.
+pub fn rescue(
+    bytes: &[u8],
+    image: &mut [u8],
+    length: &mut usize,
+    cleared: &mut u16,
+    kept: &mut u16,
+    dropped: &mut u16,
+) -> u32 {
+    *length = 0;
+    number_of(|| {
+        let rescued = rescue::rescue(bytes)?;
+        let written = rescued.image;
+        let room = image.get_mut(..written.len()).ok_or(Number::Room)?;
+        room.copy_from_slice(&written);
+        *length = written.len();
+        *cleared = (rescued.cleared + rescued.cleared_seconds) as u16;
+        *kept = rescued.kept as u16;
+        *dropped = rescued.dropped.iter().map(|row| 1 << row.place).sum();
         Ok(())
     })
 }
