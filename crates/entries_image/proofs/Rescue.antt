@@ -1,12 +1,12 @@
 -- The laws of order 8 over the entry's contract: what it wrote is accepted, in the layout that it had; what is accepted it leaves as it is; its counts add up.
 -- Assumes nothing.
 use Prim.Native.Nat.{ℕ, _+_, _≤_}
-use mathlib.Core.Path.{_≡_, refl, sym, ap, _∙_}
-use mathlib.Core.Bool.{true, false}
+use mathlib.Core.Path.{_≡_, sym, _∙_}
+use mathlib.Core.Bool.{true}
 use mathlib.Core.List.{List, _++_}
 use native.Mathlib.Omega.{arith}
 use borrow.Author.Tests.{eq-eqb, ltb-false, le-ltb}
-use lib.Dec.{eqb, ltb}
+use lib.Dec.{ltb}
 use lib.ListN.{length, take, drop}
 use lib.Seq.{take-at}
 use Rattle.lists.proofs.Tests.{split}
@@ -16,8 +16,7 @@ use Rattle.rows.proofs.Over.{over-room}
 use Rattle.module_state.specs.Numbers.{_when_, _unless_, _▸_}
 use Rattle.state_layout.specs.Layout.{stateLength}
 use Rattle.image.specs.Image.{headIn, isImage}
-use Rattle.image.specs.Rescue as Rescue
-use Rattle.image.specs.Rescue.{isUsable, rowsKept, placesIn, rescued, rescuedLong, rescueNumber}
+use Rattle.image.specs.Rescue.{isUsable, placesIn, rescued, rescuedLong, rescueNumber}
 use Rattle.image.proofs.Rescue.{LeavesAll, leaves-all, kept-all, rescued-long, rescue-same, rescue-counts, rescued-accepted, rescued-layout, rescued-length, rescued-bytes}
 use Rattle.entries_image.specs.Entries.{restoreNumber, RestoreEntry, RescueEntry}
 
@@ -53,8 +52,8 @@ module _ {bytes old new : List ℕ} {cleared kept dropped answer long cleared₁
     -- what lies in front of the buffer then
     pub written-is : take long new ≡ rescued bytes
     written-is =
-        let written : new ≡ rescued bytes ++ drop (rescuedLong bytes) old = v .image-is ∙ rw number (over-room 0 (rescuedLong bytes) (rescued bytes) old (room-by bytes (length old) number)) in
-        rw (long-is, written) (take-at (rescued bytes) (drop (rescuedLong bytes) old) (rescuedLong bytes) (rescued-length bytes g usable))
+        let written : new ≡ rescued bytes ++ drop (0 + rescuedLong bytes) old = v .image-is ∙ rw number (over-room 0 (rescuedLong bytes) (rescued bytes) old (omega (arith, room-by bytes (length old) number))) in
+        rw (long-is, written) (take-at (rescued bytes) (drop (0 + rescuedLong bytes) old) (rescuedLong bytes) (rescued-length bytes g usable))
 
     -- "Its output is always accepted by the reader"; "The layout stays."
     pub entry-accepted : isImage (take long new) ≡ true

@@ -3,12 +3,12 @@
 use Prim.Native.Nat.{ℕ}
 use mathlib.Core.Path.{_≡_, refl, sym, ap, _∙_}
 use mathlib.Core.Bool.{Bool, true, false}
-use mathlib.Core.List.{List, [], _∷_, map}
+use mathlib.Core.List.{List, [], _∷_}
 use native.Mathlib.Omega.{arith}
 use lib.ListN.{length, getD, length-set, length-map, length-replicate}
 use lib.Seq.{getD-set-same}
 use Rattle.lists.specs.Each.{Each, each-nil, each-cons}
-use Rattle.lists.proofs.Tests.{split, clash}
+use Rattle.lists.proofs.Tests.{clash}
 use Rattle.lists.proofs.Each.{each-at, each-append, each-remove, each-set, each-reject}
 use Rattle.names.specs.declared.Credential.{Credential}
 use Rattle.names.specs.declared.Kind.the-variants.{User, Saved}
@@ -21,7 +21,7 @@ use Rattle.table.specs.declared.Process.{Process}
 use Rattle.table.specs.declared.Table.{Table}
 use Rattle.table.proofs.Laws.{standing-of, whole-of, standing-appended, standing-replaced, standing-removed, standing-without-session}
 use Rattle.table.proofs.Searched.{user-of, named-among, saved-of}
-use Rattle.module_state.specs.Module.{closedSession, wordsOf, phaseOf, isChosen, activePlace, activeProcess, sessionCount, taken}
+use Rattle.module_state.specs.Module.{closedSession, phaseOf, isChosen, activePlace, activeProcess, sessionCount, taken}
 use Rattle.module_state.specs.Claim.{checked}
 use Rattle.module_state.specs.declared.Claim.{Claim}
 use Rattle.module_state.specs.declared.Claim.the-variants.{Elevated, ByUser}
@@ -31,7 +31,7 @@ use Rattle.module_state.specs.declared.State.{State}
 use Rattle.module_state.specs.declared.UserClaim.{UserClaim}
 use Rattle.calls.specs.Calls.{Call, Open, Close, Drop, Select, Start, Continue, Elevate, End, Record, ListProcesses, Kill, SetWord, withTable, withPhase, withGrants, userProcess, elevation, activated, saved, oneMore, namedPlace, reach, counted, ended, effect, fresh}
 use Rattle.calls.specs.Run.{step, run}
-use Rattle.module_rules.specs.Facts.{AreWords, processes, Rules, FormedGrants, FormedProcess, IsState}
+use Rattle.module_rules.specs.Facts.{processes, Rules, FormedGrants, FormedProcess, IsState}
 use Rattle.module_rules.proofs.Laws.{provisioned-low, chosen-low, words-taken}
 use Rattle.history.specs.Fits.{Fits, Eight}
 use Rattle.history.proofs.Facts.{UserPassed, ClaimPassed, Facts, facts}

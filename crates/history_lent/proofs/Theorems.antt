@@ -53,7 +53,8 @@ use Rattle.image.specs.Image.{isImage, stateImage}
 use Rattle.image.proofs.Laws.{stands-is, image-state}
 use Rattle.history_resumed.specs.Resumed.{toldBy}
 use Rattle.history_resumed.proofs.Theorems.{image-tells}
-use Rattle.entries_image.specs.Entries.{ImageEntry, restoreNumber, RestoreEntry}
+use Rattle.entries_image.specs.Entries.{ImageEntry, restoreNumber, RestoreEntry, RescueEntry}
+use Rattle.entries_image.proofs.Rescue.{entry-bytes, entry-restored}
 use Rattle.history_lent.specs.Lent.{Slices, Response, Made, OfWords, Renewed, Restored, Entered, called, list-called, renewed, restored, Chain, none, then, Since, begun, reached, noted, noting, since, Small, IsSmall, Holds, Lent, cycledSince, IsImageOf}
 use Rattle.history_lent.proofs.Images.{restore-image, restore-done, image-written, image-of}
 
@@ -256,6 +257,14 @@ lent-made {before} {after} {pairs} h e k = lent-by (begun (fresh (pairsOf pairs)
 -- from a module that was restored on: "Demand 3 from then on counts from the number in the image"
 pub lent-restored : {before after : Slices} {image : List ℕ} → Bytes image → RestoreEntry (before .state) image 0 (after .state) → {entries : List Made} {last : Slices} → Chain after entries last → Lent (begun (Image.restored image) (toldBy image)) entries last
 lent-restored {before} {after} {image} h e k = lent-by (begun (Image.restored image) (toldBy image)) (goes-restored-done before after image h e) k
+
+-- and from what a rescue wrote, restored into any slice of a state's length
+pub lent-rescued : {bytes old new : List ℕ} {cleared kept dropped long cleared₁ kept₁ dropped₁ : ℕ} → Bytes bytes → RescueEntry bytes old cleared kept dropped 0 new long cleared₁ kept₁ dropped₁
+    → {before after : Slices} {number : ℕ} → length (before .state) ≡ stateLength → RestoreEntry (before .state) (take long new) number (after .state)
+    → {entries : List Made} {last : Slices} → Chain after entries last → Lent (begun (Image.restored (take long new)) (toldBy (take long new))) entries last
+lent-rescued {new = new} {long = long} g v {before} {after} l r k =
+    let done : RestoreEntry (before .state) (take long new) 0 (after .state) = rw (entry-restored v g refl l r) at r in
+    lent-restored {before} {after} (entry-bytes v g refl) done k
 
 -- ---- a module from the image of what entries left, in whatever slice
 pub goes-again : (w : Since) {last slices after : Slices} {image : List ℕ} → IsState (stateOf (last .state)) → Holds w last → Bytes image → image ≡ stateImage (stateOf (last .state)) → RestoreEntry (slices .state) image 0 (after .state) → Goes (cycledSince w) after

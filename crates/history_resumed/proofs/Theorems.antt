@@ -1,19 +1,18 @@
 -- Demand 3 from an image, and through a power cycle.
 -- Assumes nothing.
-use Prim.Native.Nat.{ℕ, zero, suc, _/_, _%_, _≤_, _<_}
+use Prim.Native.Nat.{ℕ, _≤_, _<_}
 use mathlib.Core.Path.{_≡_, refl, sym, ap, subst, _∙_}
 use mathlib.Core.Bool.{Bool, true, false, cond, not}
-use mathlib.Core.List.{List, [], _∷_, map}
+use mathlib.Core.List.{List, [], map}
 use native.Mathlib.Omega.{arith}
 use lib.ListN.{length}
-use Rattle.lists.specs.Each.{Each, each-nil, each-cons}
-use Rattle.lists.specs.Lists.{join, select, reject}
+use Rattle.lists.specs.Each.{Each, each-nil}
+use Rattle.lists.specs.Lists.{select, reject}
 use Rattle.lists.proofs.Lists.{length-reject}
 use Rattle.lists.proofs.Tests.{clash}
 use Rattle.lists.proofs.Each.{each-imp, each-imp₂, each-all, each-reject, each-left, pairs-imp, pairs-reject}
-use Rattle.rows.specs.Bytes.{Bytes, bytesOf}
+use Rattle.rows.specs.Bytes.{Bytes}
 use Rattle.rows.specs.Rows.{rows}
-use Rattle.rows.proofs.Rows.{each-append}
 use Rattle.names.specs.declared.Credential.{Credential}
 use Rattle.names.specs.declared.Kind.{Kind}
 use Rattle.names.specs.declared.Kind.the-variants.{User, Elevation, Saved}
@@ -23,7 +22,7 @@ use Rattle.table.specs.Table.{isSaved}
 use Rattle.table.specs.declared.Active.the-variants.{UserOf}
 use Rattle.table.specs.declared.Process.{Process}
 use Rattle.table.proofs.Laws.{standing-of}
-use Rattle.module_state.specs.Module.{provisioned, activeProcess, wordSize}
+use Rattle.module_state.specs.Module.{provisioned, activeProcess}
 use Rattle.module_state.specs.Claim.{admitted}
 use Rattle.module_state.specs.declared.Claim.the-variants.{ByUser}
 use Rattle.module_state.specs.declared.Grants.{Grants}
@@ -44,9 +43,11 @@ use Rattle.history.proofs.Calls.{steps}
 use Rattle.history.proofs.Since.{follow-gone}
 use Rattle.history.proofs.Theorems.{tells-from, in-turn-from, demand3-told, claim-told-from}
 use Rattle.image.specs.declared.SavedRow.{SavedRow}
-use Rattle.image.specs.Image.{hasSeconds, secondsBytes, Image, isSavedOne, savedOf, savedIn, imageIn, savedProcess, isImage, restored, cycled, numbersBytes, imageOf, imageBytes, stateImage}
+use Rattle.image.specs.Image.{Image, isSavedOne, savedOf, savedIn, imageIn, savedProcess, isImage, restored, cycled, imageOf, stateImage}
+use Rattle.image.specs.Rescue.{isUsable, rescued}
 use Rattle.image.proofs.Rows.{select-reject}
 use Rattle.image.proofs.Laws.{each-map, each-unmap, stands-is, image-bytes, image-back, image-state, state-fit, state-image, state-restored, stands-cycled}
+use Rattle.image.proofs.Rescue.{rescued-accepted, rescued-bytes}
 use Rattle.history_resumed.specs.Resumed.{toldBy, FromImage, cut}
 
 -- ---- no history comes to a saved process at next number 0: "a save has counted one"
@@ -83,6 +84,14 @@ module _ (b : List ℕ) (g : Bytes b) (e : isImage b ≡ true) where
 
   pub image-claim : (calls : List Call) (s : Session) (u : UserClaim) → admitted (run (restored b) calls) s (ByUser u) ≡ 0 → IsClaimFrom (toldBy b) (history (restored b) calls) s u (activeProcess (run (restored b) calls) (UserOf s (u .credential)) .name)
   image-claim calls = claim-told-from (steps (restored b) calls) (image-state b g e .rules) (toldBy b) image-tells
+
+-- ---- order 8: a rescued image is an image, and demand 3 counts from its numbers as from those of any
+module _ (b : List ℕ) (g : Bytes b) (u : isUsable b ≡ true) where
+  pub rescued-from : FromImage (rescued b)
+  rescued-from = from-image (rescued b) (rescued-bytes b g u) (rescued-accepted b g u)
+
+  pub rescued-demand3 : (calls : List Call) → Demand3From (toldBy (rescued b)) (history (restored (rescued b)) calls) (run (restored (rescued b)) calls)
+  rescued-demand3 = image-demand3 (rescued b) (rescued-bytes b g u) (rescued-accepted b g u)
 
 -- ---- a power cycle
 cut-life : (k : Kind) (s : Session) (c : Credential) (n : ℕ) → cut (life k s c n) ≡ cond (not (isSaved k)) Gone (life k s c n)

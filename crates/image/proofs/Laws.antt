@@ -4,7 +4,7 @@
 use Prim.Native.Nat.{ℕ, _+_, _-_, _*_, _<_, _≤_}
 use mathlib.Core.Path.{_≡_, refl, sym, ap, _∙_}
 use mathlib.Core.Logic.{_↔_, _⊎_, inl, inr, ⊎-elim}
-use mathlib.Core.Bool.{Bool, true, false, _&&_}
+use mathlib.Core.Bool.{true, false}
 use mathlib.Core.List.{List, [], _∷_, _++_, map, append-nil, append-assoc}
 use native.Mathlib.Omega.{arith}
 use mir.Syntax.{w64}
@@ -17,12 +17,11 @@ use Rattle.lists.specs.Lists.{join, select}
 use Rattle.lists.specs.Each.{Each, each-nil, each-cons, Pairs, pairs-nil, pairs-cons}
 use Rattle.lists.proofs.Tests.{split, clash, and-left, and-right, and-both}
 use Rattle.lists.proofs.Lists.{length-select}
-use Rattle.lists.proofs.Each.{each-imp, each-imp₂, each-both, each-all, pairs-imp}
+use Rattle.lists.proofs.Each.{each-imp, each-imp₂, each-both, pairs-imp}
 use Rattle.rows.specs.Bytes.{Bytes, bytesOf, numberOf, numberAt}
 use Rattle.rows.specs.Rows.{rows, every, pairwise}
 use Rattle.rows.proofs.Bytes.{bytes-drop, number-back, number-taken, part-front}
 use Rattle.rows.proofs.Rows.{each-bytes, bytes-each, number-each, each-append, rows-length, every-by, by-every, pairwise-by, by-pairwise, each-take, each-replicate, array-back, array-forth, array-good}
-use Rattle.rows.proofs.Loops.{and-true, and-assoc}
 use Rattle.names.specs.Names.{nameLength, sameName}
 use Rattle.names.proofs.Laws.{differ-iff}
 use Rattle.names.specs.declared.Credential.{Credential}
@@ -40,7 +39,7 @@ use Rattle.module_rules.specs.Facts.{AreWords, processes, Owned, Apart, FormedG
 use Rattle.module_rules.proofs.Laws.{provisioned-low}
 use Rattle.image.specs.declared.ImageHead.{ImageHead}
 use Rattle.image.specs.declared.SavedRow.{SavedRow}
-use Rattle.image.specs.Image.{maskAt, wordCountAt, wordOffsetAt, rowCountAt, rowOffsetAt, wordsAt, wordsSize, secondsAt, savedAt, oldSavedAt, savedSize, hasSeconds, isRowOffset, imageLong, Image, numbersBytes, numbersIn, headNumbers, maskOf, grantIn, secondIn, secondsBytes, savedBytes, imageBytes, frontBytes, frontLong, headIn, wordsFrom, secondsFrom, grantsSaid, grantsIn, savedFrom, savedIn, imageIn, isOwner, isKeepable, differ, headFits, wordsFit, imageFits, isImage, savedProcess, moduleOf, restored, savedRow, isSavedOne, savedOf, imageOf, stateImage, renewed, cycled, imageRoom, SavedLie}
+use Rattle.image.specs.Image.{maskAt, wordCountAt, wordOffsetAt, rowCountAt, rowOffsetAt, wordsAt, wordsSize, secondsAt, savedAt, oldSavedAt, savedSize, hasSeconds, isRowOffset, imageLong, Image, numbersBytes, numbersIn, headNumbers, maskOf, grantIn, secondIn, secondsBytes, savedBytes, imageBytes, frontBytes, frontLong, headIn, wordsFrom, secondsFrom, grantsIn, savedFrom, savedIn, imageIn, isOwner, isKeepable, differ, headFits, wordsFit, imageFits, isImage, savedProcess, moduleOf, restored, savedRow, isSavedOne, savedOf, imageOf, stateImage, renewed, cycled, imageRoom, SavedLie}
 use Rattle.image.proofs.Rows.{every-anything, Small, number-codec, numbers-long, numbers-each, mask-small, grant-is, second-is, words-fit, grants-back, grants-length, mask-back, words-back, said-words, words-formed, NoSecond, said-zero, seconds-zero, RowFits, rows-long, saved-codec, each-select, pairs-select}
 
 -- ---- lists made by a function

@@ -4,7 +4,7 @@
 use Prim.Native.Nat.{ℕ, zero, suc, _+_, _*_, _≤_}
 use mathlib.Core.Path.{_≡_, refl, sym, ap, _∙_}
 use mathlib.Core.Logic.{_↔_}
-use mathlib.Core.Bool.{Bool, true, false, cond, not, _&&_}
+use mathlib.Core.Bool.{Bool, true, false, cond, _&&_}
 use mathlib.Core.List.{List, [], _∷_, _++_, map, append-nil}
 use native.Mathlib.Omega.{arith}
 use borrow.Author.Tests.{eqb-true, leb-true, eq-eqb, le-leb}
@@ -13,20 +13,20 @@ use lib.ListN.{length, getD, drop, length-append, length-map, length-drop, List�
 use lib.Seq.{append-snoc}
 use Rattle.lists.specs.Lists.{sum}
 use Rattle.lists.specs.Each.{Each, each-nil, each-cons, Pairs, pairs-nil, pairs-cons}
-use Rattle.lists.proofs.Tests.{split, clash, and-left, and-right, and-both}
+use Rattle.lists.proofs.Tests.{split, and-left, and-right, and-both}
 use Rattle.lists.proofs.Each.{each-imp, each-imp₂, each-all, each-append, pairs-append}
 use Rattle.rows.specs.Bytes.{Bytes, bitsNumber}
-use Rattle.rows.specs.Rows.{rows, every, pairwise}
+use Rattle.rows.specs.Rows.{rows, every}
 use Rattle.rows.proofs.Bytes.{bytes-drop, bits-first, bits-rest}
 use Rattle.rows.proofs.Rows.{rows-length, rows-bytes, rows-whole, every-by, by-every, pairwise-by, by-pairwise}
 use Rattle.rows.proofs.Loops.{and-true, and-assoc}
 use Rattle.table.specs.Table.{places}
-use Rattle.module_state.specs.Module.{unprovisioned, credentialCount, wordsOf, taken}
+use Rattle.module_state.specs.Module.{unprovisioned, wordsOf, taken}
 use Rattle.module_state.specs.declared.Grants.{Grants}
 use Rattle.module_state.specs.declared.Words.{Words}
 use Rattle.module_rules.proofs.Laws.{words-taken}
 use Rattle.image.specs.declared.SavedRow.{SavedRow}
-use Rattle.image.specs.Image.{wordsAt, savedAt, oldSavedAt, savedSize, savedNameAt, hasSeconds, imageLong, Image, maskOf, grantIn, secondIn, secondsBytes, imageBytes, headIn, grantsIn, savedFrom, savedIn, imageIn, isWhole, isOwner, isKeepable, differ, headFits, wordsFit, imageFits, isImage}
+use Rattle.image.specs.Image.{wordsAt, savedSize, savedNameAt, imageLong, Image, maskOf, grantIn, secondIn, secondsBytes, imageBytes, headIn, grantsIn, savedFrom, savedIn, imageIn, isWhole, isOwner, isKeepable, differ, headFits, wordsFit, imageFits, isImage}
 use Rattle.image.specs.Rescue.{isUsable, nonzero, wordsCleared, cleared, stated, isNew, isKept, keptWith, keep, rowsKept, drops, rowsDropped, placesOf, dropped, placesIn, rescuedImage, rescued, rescuedLong}
 use Rattle.image.proofs.Rows.{NoSecond, RowFits, saved-codec, taken-same, words-fit}
 use Rattle.image.proofs.Laws.{each-map, each-unmap, pairs-map, pairs-unmap, Head, head-has, Sound, sound, image, offset-high, Fit, grants-eight, grants-words, no-seconds, saved-length, image-is, image-back, image-bytes, image-forth}

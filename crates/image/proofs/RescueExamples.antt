@@ -3,13 +3,13 @@
 use Prim.Native.Nat.{ℕ, zero, suc, _+_, _*_}
 use mathlib.Core.Path.{_≡_, refl}
 use mathlib.Core.List.{List, [], _∷_, _++_}
-use lib.ListN.{take, drop, set, replicate}
+use lib.ListN.{take, set, replicate}
 use Rattle.lists.specs.Lists.{sum}
 use Rattle.names.proofs.Examples.{P, Q, R}
 use Rattle.module_state.specs.Module.{taken}
 use Rattle.module_state.specs.Numbers.{_when_, _unless_, _▸_}
 use Rattle.image.specs.declared.Rescued.{Rescued}
-use Rattle.image.specs.Image.{maskAt, wordCountAt, wordOffsetAt, rowCountAt, rowOffsetAt, wordsAt, savedAt, oldSavedAt, savedOwnerAt, savedNextAt, savedNameAt, savedSize, isWhole}
+use Rattle.image.specs.Image.{maskAt, wordCountAt, wordOffsetAt, rowCountAt, rowOffsetAt, oldSavedAt, savedOwnerAt, savedNextAt, savedNameAt, savedSize, isWhole}
 use Rattle.image.specs.Rescue.{isUsable, nonzero, wordsCleared, cleared, stated, isNew, isKept, keptWith, keep, rowsKept, drops, rowsDropped, dropped, placesIn, rescuedImage, rescued, rescuedLong, rescueNumber, rescueAnswer}
 use Rattle.image.proofs.Examples.{computed, head, grants, saved, old, word}
 

@@ -2,17 +2,17 @@
 -- Assumes nothing.
 use Prim.Native.Nat.{ℕ, suc, _+_, _-_, _*_, _^_, _<_, _≤_}
 use mathlib.Core.Path.{_≡_, refl, sym, ap, _∙_}
-use mathlib.Core.Bool.{Bool, true, false, cond, not, _&&_}
-use mathlib.Core.List.{List, [], _∷_, _++_, map, append-nil, append-assoc}
+use mathlib.Core.Bool.{Bool, true, false, cond, not}
+use mathlib.Core.List.{List, [], _∷_, _++_, map, append-nil}
 use native.Mathlib.Nat.{zero-add, pow-suc}
 use native.Mathlib.Numerals.{add-one}
 use native.Mathlib.Omega.{arith}
 use borrow.Author.Needs.{needs}
-use borrow.Author.Tests.{lt-ltb, le-ltb, ne-eqb, eq-eqb, leb-true, le-leb, lt-leb, not-true, not-false, eqb-true}
+use borrow.Author.Tests.{lt-ltb, le-ltb, ne-eqb, eq-eqb, leb-true, not-true, not-false, eqb-true}
 use borrow.Rule.Slice.PartMut.{putMid}
 use mir.Syntax.{w16, w64}
 use mir.Val.{Fits}
-use lib.Dec.{eqb, leb, ltb}
+use lib.Dec.{eqb, leb}
 use lib.Pow.{pow-mono}
 use lib.ListN.{length, getD, take, drop, set, length-set, length-take, length-drop, length-append, drop-of-length-le}
 use lib.Seq.{take-at, set-split, drop-cons, drop-drop, getD-take, length-take-le, append-snoc}
@@ -20,7 +20,7 @@ use Rattle.lists.specs.Lists.{sum, join}
 use Rattle.lists.proofs.Lists.{length-mapped}
 use Rattle.lists.proofs.Tests.{split, and-left}
 use Rattle.rows.specs.Bytes.{bitsNumber}
-use Rattle.rows.specs.Rows.{rows, every, over, Put}
+use Rattle.rows.specs.Rows.{rows, over, Put}
 use Rattle.rows.proofs.Bytes.{bits-small, bits-more}
 use Rattle.rows.proofs.Rows.{rows-length, row-at}
 use Rattle.rows.proofs.Over.{put-length, put-next}
@@ -34,11 +34,13 @@ use Rattle.image.specs.declared.ImageHead.{ImageHead}
 use Rattle.image.specs.declared.Rescued.{Rescued}
 use Rattle.image.specs.declared.SavedRead.{SavedRead}
 use Rattle.image.specs.declared.SavedRow.{SavedRow}
-use Rattle.image.specs.Image.{wordsAt, savedSize, isRowOffset, imageLong, Image, imageBytes, frontBytes, frontLong, headIn, grantsAmong, grantsIn, savedFrom, savedBytes, isWhole, readSaved, savedOver, isKeepable, differ, headFits}
+use Rattle.image.specs.Image.{wordsAt, savedSize, isRowOffset, imageLong, imageBytes, frontBytes, frontLong, headIn, grantsAmong, grantsIn, savedFrom, savedBytes, isWhole, readSaved, savedOver, isKeepable, differ, headFits}
 use Rattle.image.specs.Rescue.{isUsable, nonzero, wordsCleared, isNew, cleared, stated, isKept, keptWith, keep, rowsKept, drops, rowsDropped, dropped, rescuedImage, rescued, rescuedLong, rescueNumber, refusedBy, rescueAnswer, RescueWritten}
 use Rattle.image.proofs.Rows.{SummedTo, sum-begin, sum-few, sum-next, sum-done}
-use Rattle.image.proofs.Laws.{offset-low, Head, front-long, front-at, front-rows}
+use Rattle.image.proofs.Laws.{offset-low, Head, front-rows}
 use Rattle.image.proofs.Rescue.{with-kept, with-dropped, usable-head, usable-is, taken-bytes}
+use Rattle.image_row.proofs.Laws.{row-read, row-over}
+use Rattle.image_front.proofs.Laws.{front-put}
 use Rattle.image_rescue.specs.Sorted.{SortedAs}
 use Rattle.image_rescue.specs.declared.Sorted.{Sorted}
 
@@ -142,13 +144,15 @@ module _ (b : List ℕ) (at : ℕ) where
   same-part = let e : at + savedSize - at ≡ savedSize = omega arith in rw e
 
   module _ (h : at + savedSize ≤ length b) where
+    long : length part ≡ savedSize
+    long = simp (length-take, length-drop) (omega arith)
+
     whole : isWhole part ≡ true
     unfolding isWhole
-    whole = eq-eqb (length part) savedSize (simp (length-take, length-drop) (omega arith))
+    whole = eq-eqb (length part) savedSize long
 
     pub saved-is : {read : SavedRead} → read ≡ readSaved lent → read .row ≡ savedFrom part
-    unfolding readSaved
-    saved-is e = rw (e, same-part, whole)
+    saved-is e = rw (e, same-part, row-read part long)
 
     module _ (grants : List Grants) (before : List SavedRow) {k : Bool} (e : k ≡ isKeepable grants (savedFrom lent)) where
       pub kept-not : not k ≡ true → false ≡ isKept grants before part
@@ -316,14 +320,12 @@ module _ {offset : ℕ} {held : List SavedRow} {kept : ℕ} {old new : List ℕ}
     pub put-on : (d : SavedRow) {ys : List ℕ} → ys ≡ savedOver (take (offset + i * savedSize + savedSize - (offset + i * savedSize)) (drop (offset + i * savedSize) new)) (getD held i d)
         → length ys ≡ length (take (offset + i * savedSize + savedSize - (offset + i * savedSize)) (drop (offset + i * savedSize) new))
         → PutTo offset held kept old (putMid (offset + i * savedSize) (offset + i * savedSize + savedSize - (offset + i * savedSize)) new ys) (i + 1)
-    unfolding savedOver isWhole
     put-on d e g =
-        let whole = eq-eqb _ savedSize (wrote-part (v .wrote) inside-rows) in
         record {
           from = v .from;
           few = v .few;
           long = v .long;
-          wrote = wrote-on (v .wrote) d inside-rows (e ∙ rw (whole, getD-take kept held i d h)) g;
+          wrote = wrote-on (v .wrote) d inside-rows (e ∙ row-over _ (wrote-part (v .wrote) inside-rows) (getD held i d) ∙ ap savedBytes (sym (getD-take kept held i d h))) g;
         }
 
   pub put-all : kept ≤ i → Put offset (kept * savedSize) (join (map savedBytes (take kept held))) old new
@@ -340,11 +342,11 @@ module _ (offset kept : ℕ) (o : isRowOffset offset ≡ true) (h : kept ≤ pla
   module _ (old : List ℕ) (grants : List Grants) (held : List SavedRow) (r : imageLong offset kept ≤ length old) {front : List ℕ}
       (p : front ≡ over 0 (frontLong offset) (frontBytes grants kept offset) old) where
     module _ (eight : length grants ≡ credentialCount) where
-      front-put : Put 0 offset (frontBytes grants kept offset) old front
-      front-put = record { long = front-long grants kept offset eight ∙ front-at offset o; is = p ∙ rw (front-at offset o) }
+      in-front : Put 0 offset (frontBytes grants kept offset) old front
+      in-front = front-put grants kept offset eight o p
 
       pub front-room : imageLong offset kept ≤ length front
-      front-room = rw (put-length front-put) r
+      front-room = rw (put-length in-front) r
 
       pub image-put : length held ≡ places → {new : List ℕ} → Put offset (kept * savedSize) (join (map savedBytes (take kept held))) front new
           → new ≡ over 0 (imageLong offset kept) (imageBytes (record { offset = offset; grants = grants; saved = take kept held })) old
@@ -352,7 +354,7 @@ module _ (offset kept : ℕ) (o : isRowOffset offset ≡ true) (h : kept ≤ pla
       image-put l {new} q =
           let behind : Put (0 + offset) (kept * savedSize) (join (map savedBytes (take kept held))) front new = rw zero-add q in
           let many : length (take kept held) ≡ kept = held-many offset held kept l h in
-          put-next front-put behind (omega arith) .is
+          put-next in-front behind (omega arith) .is
           ∙ ap (λ x. over 0 (offset + kept * savedSize) x old) (sym (front-rows (record { offset = offset; grants = grants; saved = take kept held }) ∙ rw many))
 
 -- ---- the whole
