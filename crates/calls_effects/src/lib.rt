@@ -1,6 +1,7 @@
 // What the calls make: outcomes, states with one part changed, processes; and a fresh module.
 ghost use mathlib.Core.Path.{_≡_};
-ghost use Rattle.calls.specs.Calls.{withTable, withPhase, withGrants, userProcess, elevation, activated, saved, ended, taken, fresh};
+ghost use Rattle.calls.specs.Calls.{withTable, withPhase, withGrants, userProcess, elevation, activated, saved, ended, fresh};
+ghost use Rattle.module_state.specs.Module.{taken};
 use calls::Answer;
 use calls::Outcome;
 use module_state::CREDENTIALS;

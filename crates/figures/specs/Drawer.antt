@@ -6,7 +6,8 @@ use mathlib.Core.List.{List, [], _∷_, _++_, map}
 use lib.Dec.{eqb, ltb}
 use lib.IntN.{ℤ, pos, negsuc}
 use lib.ListN.{length, take, drop}
-use Rattle.image_figures.specs.Figures.{sum, lengthSize, sizeSaid, lineOf}
+use Rattle.lists.specs.Lists.{sum}
+use Rattle.image_figures.specs.Figures.{lengthSize, sizeSaid, lineOf}
 use Rattle.image_figures.specs.declared.Figures.{Figures}
 use Rattle.image_figures.specs.declared.Line.{Line}
 use Rattle.image_figures.specs.declared.Line.the-variants.{Bad, Good}

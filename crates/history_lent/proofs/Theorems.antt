@@ -264,7 +264,7 @@ pub lent-rescued : {bytes old new : List ℕ} {cleared kept dropped long cleared
     → {entries : List Made} {last : Slices} → Chain after entries last → Lent (begun (Image.restored (take long new)) (toldBy (take long new))) entries last
 lent-rescued {new = new} {long = long} g v {before} {after} l r k =
     let done : RestoreEntry (before .state) (take long new) 0 (after .state) = rw (entry-restored v g refl l r) at r in
-    lent-restored {before} {after} (entry-bytes v g refl) done k
+    lent-restored {before = before} {after = after} (entry-bytes v g refl) done k
 
 -- ---- a module from the image of what entries left, in whatever slice
 pub goes-again : (w : Since) {last slices after : Slices} {image : List ℕ} → IsState (stateOf (last .state)) → Holds w last → Bytes image → image ≡ stateImage (stateOf (last .state)) → RestoreEntry (slices .state) image 0 (after .state) → Goes (cycledSince w) after

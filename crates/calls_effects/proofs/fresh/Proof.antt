@@ -1,6 +1,5 @@
 -- written by tools/scaffold, which keeps the answers that are not a plain search
 use Rattle.lists.proofs.Loops.{Mapped}
-use Rattle.calls.specs.Calls.{taken}
 use Prim.Native.Nat.{_-_}
 use Rattle.module_state.specs.Module.{credentialCount, taken}
 use Rattle.calls.proofs.Rules.{rules}
