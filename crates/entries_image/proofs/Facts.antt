@@ -5,7 +5,7 @@ use mathlib.Core.Path.{refl}
 use mathlib.Core.List.{List}
 use Rattle.module_state.specs.Numbers as No
 use Rattle.calls.proofs.Facts.{known-unless, known-when, known-then}
-use Rattle.image.specs.Rescue.{rescueNumber}
+use Rattle.image_damaged.specs.Rescue.{rescueNumber}
 use Rattle.entries_image.specs.Entries.{imageNumber, restoreNumber, ImageEntry, RestoreEntry, RescueEntry}
 
 pub image-known : {state old new : List ℕ} {answer long : ℕ} → ImageEntry state old answer new long → No.IsKnown answer

@@ -16,8 +16,8 @@ use Rattle.rows.proofs.Over.{over-room}
 use Rattle.module_state.specs.Numbers.{_when_, _unless_, _▸_}
 use Rattle.state_layout.specs.Layout.{stateLength}
 use Rattle.image.specs.Image.{headIn, isImage}
-use Rattle.image.specs.Rescue.{isUsable, placesIn, rescued, rescuedLong, rescueNumber}
-use Rattle.image.proofs.Rescue.{LeavesAll, leaves-all, kept-all, rescued-long, rescue-same, rescue-counts, rescued-accepted, rescued-layout, rescued-length, rescued-bytes}
+use Rattle.image_damaged.specs.Rescue.{isUsable, placesIn, rescued, rescuedLong, rescueNumber}
+use Rattle.image_damaged.proofs.Laws.{LeavesAll, leaves-all, kept-all, rescued-long, rescue-same, rescue-counts, rescued-accepted, rescued-layout, rescued-length, rescued-bytes}
 use Rattle.entries_image.specs.Entries.{restoreNumber, RestoreEntry, RescueEntry}
 
 -- ---- what a number of 0 tells: the bytes are usable, and the buffer has the room

@@ -17,8 +17,8 @@ use Rattle.module_state.specs.declared.State.{State}
 use Rattle.state_layout.specs.Layout.{stateLength, stateOf, stateWritten, holdsState}
 use Rattle.state_layout.proofs.Laws.{state-written}
 use Rattle.image.specs.declared.ImageRead.{ImageRead}
-use Rattle.image.specs.declared.Rescued.{Rescued}
-use Rattle.image.specs.Rescue.{rescueNumber, rescueAnswer, RescueWritten}
+use Rattle.image_damaged.specs.declared.Rescued.{Rescued}
+use Rattle.image_damaged.specs.Rescue.{rescueNumber, rescueAnswer, RescueWritten}
 use Rattle.image.specs.Image.{imageLong, stateImage, imageRoom, lacksRoom, isImage, restored, readImage, ImageWritten}
 use Rattle.entries_image.specs.Entries.{imageNumber, restoreNumber, ImageEntry, RestoreEntry, RescueEntry}
 

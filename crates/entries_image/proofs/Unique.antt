@@ -1,8 +1,8 @@
 -- No second answer, and no second content of what was lent, meets the contract of any public function of this crate.
 -- Assumes nothing.
 use Prim.Native.Nat.{ℕ}
-use mathlib.Core.Path.{_≡_, sym, ap, _∙_}
-use mathlib.Core.List.{List, [], _∷_}
+use mathlib.Core.Path.{sym, ap, _∙_}
+use mathlib.Core.List.{[], _∷_}
 use denote.Ref.{now}
 use Rattle.lists.proofs.Once.{OneAnswer, OneContent}
 use Rattle.entries_image.proofs.slavotuk_image.Kinds as image-kinds
@@ -33,10 +33,14 @@ rescue-once κs a x y s t p q = p .number-is ∙ sym (q .number-is)
 pub rescue-bytes : OneContent 6 rescue-kinds.ps rescue-kinds.r rescue-reads.Post (λ κs s. now (s .1 .0))
 rescue-bytes κs a x y s t p q = p .image-is ∙ sym (q .image-is)
 
--- the length and the report
-pub rescue-report : OneContent 6 rescue-kinds.ps rescue-kinds.r rescue-reads.Post (λ κs s. now (s .1 .1 .0) ∷ now (s .1 .1 .1 .0) ∷ now (s .1 .1 .1 .1 .0) ∷ now (s .1 .1 .1 .1 .1 .0) ∷ [])
-rescue-report κs a x y s t p q =
-    four (p .length-is ∙ sym (q .length-is)) (p .cleared-is ∙ sym (q .cleared-is)) (p .kept-is ∙ sym (q .kept-is)) (p .dropped-is ∙ sym (q .dropped-is))
-  where
-    four : {a b c d a′ b′ c′ d′ : ℕ} → a ≡ a′ → b ≡ b′ → c ≡ c′ → d ≡ d′ → _≡_ {A = List ℕ} (a ∷ b ∷ c ∷ d ∷ []) (a′ ∷ b′ ∷ c′ ∷ d′ ∷ [])
-    four e f g h = rw (e, f, g, h)
+pub rescue-length : OneContent 6 rescue-kinds.ps rescue-kinds.r rescue-reads.Post (λ κs s. now (s .1 .1 .0) ∷ [])
+rescue-length κs a x y s t p q = ap (λ (n : ℕ). n ∷ []) (p .length-is ∙ sym (q .length-is))
+
+pub rescue-cleared : OneContent 6 rescue-kinds.ps rescue-kinds.r rescue-reads.Post (λ κs s. now (s .1 .1 .1 .0) ∷ [])
+rescue-cleared κs a x y s t p q = ap (λ (n : ℕ). n ∷ []) (p .cleared-is ∙ sym (q .cleared-is))
+
+pub rescue-kept : OneContent 6 rescue-kinds.ps rescue-kinds.r rescue-reads.Post (λ κs s. now (s .1 .1 .1 .1 .0) ∷ [])
+rescue-kept κs a x y s t p q = ap (λ (n : ℕ). n ∷ []) (p .kept-is ∙ sym (q .kept-is))
+
+pub rescue-dropped : OneContent 6 rescue-kinds.ps rescue-kinds.r rescue-reads.Post (λ κs s. now (s .1 .1 .1 .1 .1 .0) ∷ [])
+rescue-dropped κs a x y s t p q = ap (λ (n : ℕ). n ∷ []) (p .dropped-is ∙ sym (q .dropped-is))

@@ -9,8 +9,8 @@ use Rattle.rows.specs.Rows.{over}
 use Rattle.module_state.specs.Numbers as No
 use Rattle.module_state.specs.Numbers.{_when_, _unless_, _▸_}
 use Rattle.state_layout.specs.Layout.{stateLength, stateOf, stateBytes, holdsState}
-use Rattle.image.specs.Rescue as Rescue
-use Rattle.image.specs.Rescue.{rowsKept, rescued, rescuedLong, rescueNumber}
+use Rattle.image_damaged.specs.Rescue as Rescue
+use Rattle.image_damaged.specs.Rescue.{rowsKept, rescued, rescuedLong, rescueNumber}
 use Rattle.image.specs.Image.{stateImage, imageRoom, lacksRoom, isImage, restored}
 
 -- ---- the writer: 1 for "a slice that holds no state", 15 for a buffer that is too short

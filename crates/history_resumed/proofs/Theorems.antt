@@ -44,10 +44,10 @@ use Rattle.history.proofs.Since.{follow-gone}
 use Rattle.history.proofs.Theorems.{tells-from, in-turn-from, demand3-told, claim-told-from}
 use Rattle.image.specs.declared.SavedRow.{SavedRow}
 use Rattle.image.specs.Image.{Image, isSavedOne, savedOf, savedIn, imageIn, savedProcess, isImage, restored, cycled, imageOf, stateImage}
-use Rattle.image.specs.Rescue.{isUsable, rescued}
+use Rattle.image_damaged.specs.Rescue.{isUsable, rescued}
 use Rattle.image.proofs.Rows.{select-reject}
 use Rattle.image.proofs.Laws.{each-map, each-unmap, stands-is, image-bytes, image-back, image-state, state-fit, state-image, state-restored, stands-cycled}
-use Rattle.image.proofs.Rescue.{rescued-accepted, rescued-bytes}
+use Rattle.image_damaged.proofs.Laws.{rescued-accepted, rescued-bytes}
 use Rattle.history_resumed.specs.Resumed.{toldBy, FromImage, cut}
 
 -- ---- no history comes to a saved process at next number 0: "a save has counted one"

@@ -1,5 +1,3 @@
 pub mod Rows
 pub mod Laws
 pub mod Examples
-pub mod Rescue
-pub mod RescueExamples

@@ -79,13 +79,3 @@ pub struct ImageRead {
     pub fits: bool,
     pub state: State,
 }
-
-// What rescue answers: the length of the image that it wrote, how many nonzero words it cleared, how many rows it kept, and in the bits of a number the place of
-// each row that it dropped. All are 0 on a refusal.
-pub struct Rescued {
-    pub number: u8,
-    pub length: usize,
-    pub cleared: u16,
-    pub kept: u16,
-    pub dropped: u16,
-}

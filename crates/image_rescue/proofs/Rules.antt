@@ -31,14 +31,14 @@ use Rattle.module_state.specs.Module.{unprovisioned, credentialCount}
 use Rattle.module_state.specs.Numbers.{_when_, _unless_, _▸_}
 use Rattle.module_state.specs.declared.Grants.{Grants}
 use Rattle.image.specs.declared.ImageHead.{ImageHead}
-use Rattle.image.specs.declared.Rescued.{Rescued}
+use Rattle.image_damaged.specs.declared.Rescued.{Rescued}
 use Rattle.image.specs.declared.SavedRead.{SavedRead}
 use Rattle.image.specs.declared.SavedRow.{SavedRow}
 use Rattle.image.specs.Image.{wordsAt, savedSize, isRowOffset, imageLong, imageBytes, frontBytes, frontLong, headIn, grantsAmong, grantsIn, savedFrom, savedBytes, isWhole, readSaved, savedOver, isKeepable, differ, headFits}
-use Rattle.image.specs.Rescue.{isUsable, nonzero, wordsCleared, isNew, cleared, stated, isKept, keptWith, keep, rowsKept, drops, rowsDropped, dropped, rescuedImage, rescued, rescuedLong, rescueNumber, refusedBy, rescueAnswer, RescueWritten}
+use Rattle.image_damaged.specs.Rescue.{isUsable, nonzero, wordsCleared, isNew, cleared, stated, isKept, keptWith, keep, rowsKept, drops, rowsDropped, dropped, rescuedImage, rescued, rescuedLong, rescueNumber, refusedBy, rescueAnswer, RescueWritten}
 use Rattle.image.proofs.Rows.{SummedTo, sum-begin, sum-few, sum-next, sum-done}
 use Rattle.image.proofs.Laws.{offset-low, Head, front-rows}
-use Rattle.image.proofs.Rescue.{with-kept, with-dropped, usable-head, usable-is, taken-bytes}
+use Rattle.image_damaged.proofs.Laws.{with-kept, with-dropped, usable-head, usable-is, taken-bytes}
 use Rattle.image_row.proofs.Laws.{row-read, row-over}
 use Rattle.image_front.proofs.Laws.{front-put}
 use Rattle.image_rescue.specs.Sorted.{SortedAs}

@@ -1,7 +1,7 @@
 -- written by tools/scaffold, which keeps the answers that are not a plain search
 use Prim.Native.Nat.{_-_}
 use Rattle.module_state.specs.Module.{credentialCount}
-use Rattle.image.specs.Rescue.{wordsCleared}
+use Rattle.image_damaged.specs.Rescue.{wordsCleared}
 use Rattle.image.proofs.Rows.{SummedTo}
 use Rattle.image_rescue.proofs.Rules.{rules}
 use Rattle.image_rescue.proofs.cleared_in.Statement.{statement}

@@ -8,10 +8,10 @@ use Rattle.lists.specs.Lists.{sum}
 use Rattle.names.proofs.Examples.{P, Q, R}
 use Rattle.module_state.specs.Module.{taken}
 use Rattle.module_state.specs.Numbers.{_when_, _unless_, _▸_}
-use Rattle.image.specs.declared.Rescued.{Rescued}
+use Rattle.image_damaged.specs.declared.Rescued.{Rescued}
 use Rattle.image.specs.Image.{maskAt, wordCountAt, wordOffsetAt, rowCountAt, rowOffsetAt, oldSavedAt, savedOwnerAt, savedNextAt, savedNameAt, savedSize, isWhole}
-use Rattle.image.specs.Rescue.{isUsable, nonzero, wordsCleared, cleared, stated, isNew, isKept, keptWith, keep, rowsKept, drops, rowsDropped, dropped, placesIn, rescuedImage, rescued, rescuedLong, rescueNumber, rescueAnswer}
+use Rattle.image_damaged.specs.Rescue.{isUsable, nonzero, wordsCleared, cleared, stated, isNew, isKept, keptWith, keep, rowsKept, drops, rowsDropped, dropped, placesIn, rescuedImage, rescued, rescuedLong, rescueNumber, rescueAnswer}
 use Rattle.image.proofs.Examples.{computed, head, grants, saved, old, word}
 
 -- the number, the length, the cleared words, the kept rows, and the place of each row dropped
 abbrev answered : Rescued → List ℕ
@@ -63,6 +63,7 @@ pub record Examples : Type 0 where
   -- a row that is cut is dropped, and one that is missing; the words are needed whole
   pub cut-145 : told (take 145 X) ≡ 0 ∷ 94 ∷ 0 ∷ 1 ∷ 1 ∷ []
   pub cut-94 : told (take 94 X) ≡ 0 ∷ 94 ∷ 0 ∷ 1 ∷ 1 ∷ []
+  pub cut-fits : told-in 94 (take 145 X) ≡ 0 ∷ 94 ∷ 0 ∷ 1 ∷ 1 ∷ []
   pub cut-room : told-in 93 (take 94 X) ≡ no-room
   pub cut-93 : told (take 93 X) ≡ 0 ∷ 42 ∷ 0 ∷ 0 ∷ 0 ∷ 1 ∷ []
   pub cut-42 : told (take 42 X) ≡ 0 ∷ 42 ∷ 0 ∷ 0 ∷ 0 ∷ 1 ∷ []
@@ -75,6 +76,7 @@ pub record Examples : Type 0 where
   pub new-74 : told (take 74 Y) ≡ 0 ∷ 74 ∷ 0 ∷ 0 ∷ 0 ∷ 1 ∷ []
   pub new-73 : told (take 73 Y) ≡ unusable
   -- "bytes after those are ignored"
+  pub longer-room : told-in 146 (X ++ (1 ∷ [])) ≡ 0 ∷ 146 ∷ 0 ∷ 2 ∷ []
   pub longer : told (X ++ (1 ∷ [])) ≡ 0 ∷ 146 ∷ 0 ∷ 2 ∷ []
   pub row-more : told (X ++ (0 ∷ 0 ∷ 1 ∷ 0 ∷ R)) ≡ 0 ∷ 146 ∷ 0 ∷ 2 ∷ []
   -- "up to the stated count", which is "at most 12"
@@ -117,4 +119,4 @@ pub record Examples : Type 0 where
 
 pub examples : Examples
 unfolding computed sum taken _when_ _unless_ _▸_ isWhole isUsable nonzero wordsCleared cleared stated isNew isKept keptWith keep rowsKept drops rowsDropped dropped placesIn rescuedImage rescued rescuedLong rescueNumber rescueAnswer
-examples = record { room-145 = refl; room-146 = refl; cut-145 = refl; cut-94 = refl; cut-room = refl; cut-93 = refl; cut-42 = refl; cut-41 = refl; cut-10 = refl; cut-9 = refl; nothing = refl; new-177 = refl; new-125 = refl; new-74 = refl; new-73 = refl; longer = refl; row-more = refl; count-0 = refl; count-1 = refl; count-3 = refl; count-12 = refl; count-13 = refl; mask-1 = refl; mask-2 = refl; mask-0 = refl; new-mask-1 = refl; new-mask-2 = refl; new-mask-0 = refl; mask-131 = refl; mask-259 = refl; word-2 = refl; stray-old = refl; stray-new = refl; number-0 = refl; name-twice = refl; name-close = refl; name-free = refl; owner-8 = refl; owner-256 = refl; spent = refl; three-names = refl; words-7 = refl; words-at-11 = refl; rows-at-43 = refl; rows-at-74 = refl; same = refl; same-new = refl; moved = refl; words-cleared = refl }
+examples = record { room-145 = refl; room-146 = refl; cut-145 = refl; cut-94 = refl; cut-fits = refl; cut-room = refl; cut-93 = refl; cut-42 = refl; cut-41 = refl; cut-10 = refl; cut-9 = refl; nothing = refl; new-177 = refl; new-125 = refl; new-74 = refl; new-73 = refl; longer-room = refl; longer = refl; row-more = refl; count-0 = refl; count-1 = refl; count-3 = refl; count-12 = refl; count-13 = refl; mask-1 = refl; mask-2 = refl; mask-0 = refl; new-mask-1 = refl; new-mask-2 = refl; new-mask-0 = refl; mask-131 = refl; mask-259 = refl; word-2 = refl; stray-old = refl; stray-new = refl; number-0 = refl; name-twice = refl; name-close = refl; name-free = refl; owner-8 = refl; owner-256 = refl; spent = refl; three-names = refl; words-7 = refl; words-at-11 = refl; rows-at-43 = refl; rows-at-74 = refl; same = refl; same-new = refl; moved = refl; words-cleared = refl }

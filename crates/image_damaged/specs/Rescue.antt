@@ -13,9 +13,9 @@ use Rattle.module_state.specs.Module.{taken}
 use Rattle.module_state.specs.Numbers as No
 use Rattle.module_state.specs.Numbers.{_when_, _unless_, _▸_}
 use Rattle.module_state.specs.declared.Grants.{Grants}
-use Rattle.image.specs.declared.Rescued.{Rescued}
+use Rattle.image_damaged.specs.declared.Rescued.{Rescued}
 use Rattle.image.specs.declared.SavedRow.{SavedRow}
 use Rattle.image.specs.Image.{wordsAt, savedSize, imageLong, Image, imageBytes, headIn, grantsIn, savedFrom, isWhole, isKeepable, differ, headFits}
 
 -- ---- "It needs a whole header with high mask bits zero, 8 words, a row count of at most 12 and the offsets of either layout, and all words."
 unfoldable pub isUsable : List ℕ → Bool

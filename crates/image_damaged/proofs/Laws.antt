@@ -25,11 +25,11 @@ use Rattle.module_state.specs.Module.{unprovisioned, wordsOf, taken}
 use Rattle.module_state.specs.declared.Grants.{Grants}
 use Rattle.module_state.specs.declared.Words.{Words}
 use Rattle.module_rules.proofs.Laws.{words-taken}
 use Rattle.image.specs.declared.SavedRow.{SavedRow}
 use Rattle.image.specs.Image.{wordsAt, savedSize, savedNameAt, imageLong, Image, maskOf, grantIn, secondIn, secondsBytes, imageBytes, headIn, grantsIn, savedFrom, savedIn, imageIn, isWhole, isOwner, isKeepable, differ, headFits, wordsFit, imageFits, isImage}
-use Rattle.image.specs.Rescue.{isUsable, nonzero, wordsCleared, cleared, stated, isNew, isKept, keptWith, keep, rowsKept, drops, rowsDropped, placesOf, dropped, placesIn, rescuedImage, rescued, rescuedLong}
+use Rattle.image_damaged.specs.Rescue.{isUsable, nonzero, wordsCleared, cleared, stated, isNew, isKept, keptWith, keep, rowsKept, drops, rowsDropped, placesOf, dropped, placesIn, rescuedImage, rescued, rescuedLong}
 use Rattle.image.proofs.Rows.{NoSecond, RowFits, saved-codec, taken-same, words-fit}
 use Rattle.image.proofs.Laws.{each-map, each-unmap, pairs-map, pairs-unmap, Head, head-has, Sound, sound, image, offset-high, Fit, grants-eight, grants-words, no-seconds, saved-length, image-is, image-back, image-bytes, image-forth}
 
 -- ---- the words: none is cleared exactly where all fit
 nonzero-none : (word : ℕ) → nonzero word ≡ 0 → eqb word 0 ≡ true
