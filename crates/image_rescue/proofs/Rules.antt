@@ -70,18 +70,17 @@ module _ (word : ℕ) where
   unfolding nonzero
   nonzero-low = split (eqb word 0) (λ e. rw e (omega arith)) (λ e. rw e (omega arith))
 
+pub both-fit : (a b : ℕ) {x y : ℕ} → x ≡ nonzero a → y ≡ nonzero b → Fits w16 (x + y)
+both-fit a b p q = omega (arith, p, q, nonzero-low a, nonzero-low b)
+
 module _ (g : Grants) where
   pub cleared-none : g .provisioned ≡ true → 0 ≡ wordsCleared g
   unfolding wordsCleared
   cleared-none e = rw e
 
-  module _ {x y : ℕ} (p : x ≡ nonzero (g .words .grant)) (q : y ≡ nonzero (g .words .second)) where
-    pub both-fit : Fits w16 (x + y)
-    both-fit = omega (arith, p, q, nonzero-low (g .words .grant), nonzero-low (g .words .second))
-
-    pub cleared-both : g .provisioned ≡ false → x + y ≡ wordsCleared g
-    unfolding wordsCleared
-    cleared-both e = rw (e, p, q)
+  pub cleared-both : {x y : ℕ} → g .provisioned ≡ false → x ≡ nonzero (g .words .grant) → y ≡ nonzero (g .words .second) → x + y ≡ wordsCleared g
+  unfolding wordsCleared
+  cleared-both e p q = rw (e, p, q)
 
   cleared-few : wordsCleared g ≤ 2
   unfolding wordsCleared
