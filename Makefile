@@ -46,7 +46,7 @@ help:
 	@echo "make edits    how long each wrong build took to refuse in the last run; make edits CRATE=NAME tries those of a crate first"
 	@echo "make scaffold CRATE=NAME FUNCTIONS='F ..'  writes the frames of these functions' proofs, and keeps the answers that stand in them"
 	@echo "make soak     the compiled module against the model, until it is stopped; make soak TIME=600 for so many seconds"
-	@echo "make faults   breaks the model in some two hundred and sixty ways and asks that the comparison tells"
+	@echo "make faults   breaks the model in some three hundred and thirty ways and asks that the comparison tells"
 	@echo "make bench    the record entry against ordinary Rust, in time and in instructions, what the other entries cost, and the figures against cksum;"
 	@echo "              the other kind of machine's instructions under an emulator. It fails where order 12's bound is not kept"
 	@echo "              INPUT=FILE: the calls of a file alone"
