@@ -25,7 +25,7 @@ use names::Name;
 use table::PLACES;
 
 // The rows that are kept, in front; how many; and the places of those that are dropped, in the bits of a number.
-pub struct Sorted {
+struct Sorted {
     pub rows: [SavedRow; PLACES],
     pub kept: usize,
     pub dropped: u16,
