@@ -16,7 +16,7 @@ use Rattle.rows.proofs.Over.{over-room}
 use Rattle.module_state.specs.Numbers.{_when_, _unless_, _▸_}
 use Rattle.state_layout.specs.Layout.{stateLength}
 use Rattle.image.specs.Image.{headIn, isImage}
-use Rattle.image_damaged.specs.Rescue.{isUsable, placesIn, rescued, rescuedLong, rescueNumber}
+use Rattle.image_damaged.specs.Rescue.{isUsable, placesTold, rescued, rescuedLong, rescueNumber}
 use Rattle.image_damaged.proofs.Laws.{LeavesAll, leaves-all, kept-all, rescued-long, rescue-same, rescue-counts, rescued-accepted, rescued-layout, rescued-length, rescued-bytes}
 use Rattle.entries_image.specs.Entries.{restoreNumber, RestoreEntry, RescueEntry}
 
@@ -71,7 +71,7 @@ module _ {bytes old new : List ℕ} {cleared kept dropped answer long cleared₁
     entry-restored {before} l r = r .number-is ∙ rw (eq-eqb (length before) stateLength l, entry-accepted)
 
     -- "kept plus dropped equals the stated rows, missing ones counted as dropped"
-    pub entry-counts : kept₁ + length (placesIn 16 0 dropped₁) ≡ headIn bytes .rows
+    pub entry-counts : kept₁ + length (placesTold 16 0 dropped₁) ≡ headIn bytes .rows
     entry-counts = rw (v .kept-is, v .dropped-is, number) (rescue-counts bytes usable)
 
   -- ---- "on an accepted image it changes nothing", and reports nothing

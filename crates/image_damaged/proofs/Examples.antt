@@ -10,12 +10,12 @@ use Rattle.module_state.specs.Module.{taken}
 use Rattle.module_state.specs.Numbers.{_when_, _unless_, _▸_}
 use Rattle.image_damaged.specs.declared.Rescued.{Rescued}
 use Rattle.image.specs.Image.{maskAt, wordCountAt, wordOffsetAt, rowCountAt, rowOffsetAt, oldSavedAt, savedOwnerAt, savedNextAt, savedNameAt, savedSize, isWhole}
-use Rattle.image_damaged.specs.Rescue.{isUsable, nonzero, wordsCleared, cleared, stated, isNew, isKept, keptWith, keep, rowsKept, drops, rowsDropped, dropped, placesIn, rescuedImage, rescued, rescuedLong, rescueNumber, rescueAnswer}
+use Rattle.image_damaged.specs.Rescue.{isUsable, nonzero, wordsCleared, cleared, stated, hasNewName, isKept, keptWith, keep, rowsKept, areDropped, rowsDropped, dropped, placesTold, rescuedImage, rescued, rescuedLong, rescueNumber, rescueAnswer}
 use Rattle.image.proofs.Examples.{computed, head, grants, saved, old, word}
 
 -- the number, the length, the cleared words, the kept rows, and the place of each row dropped
 abbrev answered : Rescued → List ℕ
-answered a = a .number ∷ a .length ∷ a .cleared ∷ a .kept ∷ placesIn 16 0 (a .dropped)
+answered a = a .number ∷ a .length ∷ a .cleared ∷ a .kept ∷ placesTold 16 0 (a .dropped)
 
 -- into a buffer with room for every image, and into one of some length
 abbrev told-in : ℕ → List ℕ → List ℕ
@@ -118,5 +118,5 @@ pub record Examples : Type 0 where
   pub words-cleared : rescued (set (take 74 Y) maskAt 1) ≡ set (head 0 0x4a) maskAt 1 ++ ((15 ∷ 0 ∷ 0 ∷ 0 ∷ []) ++ replicate 60 0)
 
 pub examples : Examples
-unfolding computed sum taken _when_ _unless_ _▸_ isWhole isUsable nonzero wordsCleared cleared stated isNew isKept keptWith keep rowsKept drops rowsDropped dropped placesIn rescuedImage rescued rescuedLong rescueNumber rescueAnswer
+unfolding computed sum taken _when_ _unless_ _▸_ isWhole isUsable nonzero wordsCleared cleared stated hasNewName isKept keptWith keep rowsKept areDropped rowsDropped dropped placesTold rescuedImage rescued rescuedLong rescueNumber rescueAnswer
 examples = record { room-145 = refl; room-146 = refl; cut-145 = refl; cut-94 = refl; cut-fits = refl; cut-room = refl; cut-93 = refl; cut-42 = refl; cut-41 = refl; cut-10 = refl; cut-9 = refl; nothing = refl; new-177 = refl; new-125 = refl; new-74 = refl; new-73 = refl; longer-room = refl; longer = refl; row-more = refl; count-0 = refl; count-1 = refl; count-3 = refl; count-12 = refl; count-13 = refl; mask-1 = refl; mask-2 = refl; mask-0 = refl; new-mask-1 = refl; new-mask-2 = refl; new-mask-0 = refl; mask-131 = refl; mask-259 = refl; word-2 = refl; stray-old = refl; stray-new = refl; number-0 = refl; name-twice = refl; name-close = refl; name-free = refl; owner-8 = refl; owner-256 = refl; spent = refl; three-names = refl; words-7 = refl; words-at-11 = refl; rows-at-43 = refl; rows-at-74 = refl; same = refl; same-new = refl; moved = refl; words-cleared = refl }

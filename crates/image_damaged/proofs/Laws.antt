@@ -27,7 +27,7 @@ use Rattle.module_state.specs.declared.Words.{Words}
 use Rattle.module_rules.proofs.Laws.{words-taken}
 use Rattle.image.specs.declared.SavedRow.{SavedRow}
 use Rattle.image.specs.Image.{wordsAt, savedSize, savedNameAt, imageLong, Image, maskOf, grantIn, secondIn, secondsBytes, imageBytes, headIn, grantsIn, savedFrom, savedIn, imageIn, isWhole, isOwner, isKeepable, differ, headFits, wordsFit, imageFits, isImage}
-use Rattle.image_damaged.specs.Rescue.{isUsable, nonzero, wordsCleared, cleared, stated, isNew, isKept, keptWith, keep, rowsKept, drops, rowsDropped, placesOf, dropped, placesIn, rescuedImage, rescued, rescuedLong}
+use Rattle.image_damaged.specs.Rescue.{isUsable, nonzero, wordsCleared, cleared, stated, hasNewName, isKept, keptWith, keep, rowsKept, areDropped, rowsDropped, placesOf, dropped, placesTold, rescuedImage, rescued, rescuedLong}
 use Rattle.image.proofs.Rows.{NoSecond, RowFits, saved-codec, taken-same, words-fit}
 use Rattle.image.proofs.Laws.{each-map, each-unmap, pairs-map, pairs-unmap, Head, head-has, Sound, sound, image, offset-high, Fit, grants-eight, grants-words, no-seconds, saved-length, image-is, image-back, image-bytes, image-forth}
 
@@ -70,10 +70,10 @@ none-cleared (g ∷ l) e = each-cons (cleared-fits g (omega arith)) (none-cleare
 
 -- ---- the rows: which are kept, and which are dropped
 module _ (grants : List Grants) where
-  new-snoc : (before : List SavedRow) (r x : SavedRow) → isNew (before ++ (r ∷ [])) x ≡ (isNew before x && differ r x)
-  unfolding isNew every
+  new-snoc : (before : List SavedRow) (r x : SavedRow) → hasNewName (before ++ (r ∷ [])) x ≡ (hasNewName before x && differ r x)
+  unfolding hasNewName every
   new-snoc [] r x = and-true (differ r x)
-  new-snoc (q ∷ before) r x = rw (new-snoc before r x) (sym (and-assoc (differ q x) (isNew before x) (differ r x)))
+  new-snoc (q ∷ before) r x = rw (new-snoc before r x) (sym (and-assoc (differ q x) (hasNewName before x) (differ r x)))
 
   module _ (before : List SavedRow) (part : List ℕ) where
     pub with-kept : isKept grants before part ≡ true → keptWith grants before part ≡ before ++ (savedFrom part ∷ [])
@@ -87,7 +87,7 @@ module _ (grants : List Grants) where
     record Kept : Type 0 where
       pub whole : length part ≡ savedSize
       pub keepable : isKeepable grants (savedFrom part) ≡ true
-      pub new : isNew before (savedFrom part) ≡ true
+      pub new : hasNewName before (savedFrom part) ≡ true
 
     kept-has : isKept grants before part ≡ true → Kept
     unfolding isKept isWhole
@@ -107,33 +107,33 @@ module _ (grants : List Grants) where
   record AllKept (before : List SavedRow) (l : List (List ℕ)) : Type 0 where
     pub whole : Each (λ p. length p ≡ savedSize) l
     pub keepable : Each (λ p. isKeepable grants (savedFrom p) ≡ true) l
-    pub new : Each (λ p. isNew before (savedFrom p) ≡ true) l
+    pub new : Each (λ p. hasNewName before (savedFrom p) ≡ true) l
     pub names : Pairs (λ p q. differ (savedFrom p) (savedFrom q) ≡ true) l
 
-  all-keep : (before : List SavedRow) (l : List (List ℕ)) → Each (λ p. length p ≡ savedSize) l → Each (λ p. isKeepable grants (savedFrom p) ≡ true) l → Each (λ p. isNew before (savedFrom p) ≡ true) l
-      → Pairs (λ p q. differ (savedFrom p) (savedFrom q) ≡ true) l → (keep grants before l ≡ before ++ map savedFrom l) × (bitsNumber (drops grants before l) ≡ 0)
-  unfolding keep drops bitsNumber
+  all-keep : (before : List SavedRow) (l : List (List ℕ)) → Each (λ p. length p ≡ savedSize) l → Each (λ p. isKeepable grants (savedFrom p) ≡ true) l → Each (λ p. hasNewName before (savedFrom p) ≡ true) l
+      → Pairs (λ p q. differ (savedFrom p) (savedFrom q) ≡ true) l → (keep grants before l ≡ before ++ map savedFrom l) × (bitsNumber (areDropped grants before l) ≡ 0)
+  unfolding keep areDropped bitsNumber
   all-keep before [] each-nil each-nil each-nil pairs-nil = (sym (append-nil before), refl)
   all-keep before (p ∷ l) (each-cons w ws) (each-cons k ks) (each-cons n ns) (pairs-cons d ds) =
       let t : isKept grants before p ≡ true = kept-is before p (record { whole = w; keepable = k; new = n }) in
       let rest = all-keep (before ++ (savedFrom p ∷ [])) l ws ks (each-imp₂ (λ x a e. new-snoc before (savedFrom p) (savedFrom x) ∙ and-both a e) ns d) ds in
       (rw (with-kept before p t) (rest .0 ∙ append-snoc before (savedFrom p) (map savedFrom l)), rw (with-kept before p t, t, rest .1))
 
-  keep-all : (before : List SavedRow) (l : List (List ℕ)) → bitsNumber (drops grants before l) ≡ 0 → AllKept before l
-  unfolding drops bitsNumber
+  keep-all : (before : List SavedRow) (l : List (List ℕ)) → bitsNumber (areDropped grants before l) ≡ 0 → AllKept before l
+  unfolding areDropped bitsNumber
   keep-all before [] e = record { whole = each-nil; keepable = each-nil; new = each-nil; names = pairs-nil }
   keep-all before (p ∷ l) e =
       split (isKept grants before p)
       (λ t.
       let here : Kept before p = kept-has before p t in
-      let left : bitsNumber (drops grants (before ++ (savedFrom p ∷ [])) l) * 2 + 0 ≡ 0 = rw (t, with-kept before p t) at e in
+      let left : bitsNumber (areDropped grants (before ++ (savedFrom p ∷ [])) l) * 2 + 0 ≡ 0 = rw (t, with-kept before p t) at e in
       let rest : AllKept (before ++ (savedFrom p ∷ [])) l = keep-all (before ++ (savedFrom p ∷ [])) l (omega arith) in
-      let both : Each (λ x. (isNew before (savedFrom x) && differ (savedFrom p) (savedFrom x)) ≡ true) l = each-imp (λ x h. sym (new-snoc before (savedFrom p) (savedFrom x)) ∙ h) (rest .new) in
+      let both : Each (λ x. (hasNewName before (savedFrom x) && differ (savedFrom p) (savedFrom x)) ≡ true) l = each-imp (λ x h. sym (new-snoc before (savedFrom p) (savedFrom x)) ∙ h) (rest .new) in
       record {
         whole = each-cons (here .whole) (rest .whole);
         keepable = each-cons (here .keepable) (rest .keepable);
-        new = each-cons (here .new) (each-imp (λ x h. and-left (isNew before (savedFrom x)) (differ (savedFrom p) (savedFrom x)) h) both);
-        names = pairs-cons (each-imp (λ x h. and-right (isNew before (savedFrom x)) (differ (savedFrom p) (savedFrom x)) h) both) (rest .names);
+        new = each-cons (here .new) (each-imp (λ x h. and-left (hasNewName before (savedFrom x)) (differ (savedFrom p) (savedFrom x)) h) both);
+        names = pairs-cons (each-imp (λ x h. and-right (hasNewName before (savedFrom x)) (differ (savedFrom p) (savedFrom x)) h) both) (rest .names);
       })
       (λ t. absurd (omega (arith, rw t at e)))
 
@@ -152,7 +152,7 @@ module _ (grants : List Grants) where
       rw (with-kept before part t)
       (record {
         keepable = each-append (savedFrom part) (v .keepable) (here .keepable);
-        names = pairs-append (savedFrom part) (v .names) (every-by (λ q d. d) before (unfold isNew in here .new));
+        names = pairs-append (savedFrom part) (v .names) (every-by (λ q d. d) before (unfold hasNewName in here .new));
         fits = each-append (savedFrom part) (v .fits) (saved-codec .good part (here .whole) h refl);
         bytes = each-append (savedFrom part) (v .bytes) (unfold savedFrom in bytes-drop savedNameAt part h);
       }))
@@ -167,16 +167,16 @@ module _ (grants : List Grants) where
   abbrev trues : List Bool → ℕ
   trues l = sum (map (λ f. cond f 1 0) l)
 
-  kept-or-dropped : (before : List SavedRow) (l : List (List ℕ)) → length (keep grants before l) + trues (drops grants before l) ≡ length before + length l
-  unfolding keep drops sum
+  kept-or-dropped : (before : List SavedRow) (l : List (List ℕ)) → length (keep grants before l) + trues (areDropped grants before l) ≡ length before + length l
+  unfolding keep areDropped sum
   kept-or-dropped before [] = refl
   kept-or-dropped before (p ∷ l) =
       split (isKept grants before p)
       (λ t. rw (with-kept before p t, t) (omega (arith, kept-or-dropped (before ++ (savedFrom p ∷ [])) l, length-append before (savedFrom p ∷ []))))
       (λ t. rw (with-dropped before p t, t) (omega (arith, kept-or-dropped before l)))
 
-  drops-length : (before : List SavedRow) (l : List (List ℕ)) → length (drops grants before l) ≡ length l
-  unfolding drops
+  drops-length : (before : List SavedRow) (l : List (List ℕ)) → length (areDropped grants before l) ≡ length l
+  unfolding areDropped
   drops-length before [] = refl
   drops-length before (p ∷ l) = rw (drops-length (keptWith grants before p) l)
 
@@ -185,14 +185,14 @@ bits-none : bitsNumber [] ≡ 0
 unfolding bitsNumber
 bits-none = refl
 
-places-none : (n at : ℕ) → placesIn n at 0 ≡ []
-unfolding placesIn
+places-none : (n at : ℕ) → placesTold n at 0 ≡ []
+unfolding placesTold
 places-none zero at = refl
 places-none (suc n) at = places-none n (at + 1)
 
-pub places-back : (n at : ℕ) (l : List Bool) → length l ≤ n → placesIn n at (bitsNumber l) ≡ placesOf at l
-unfolding placesIn placesOf
-places-back n at [] h = ap (placesIn n at) bits-none ∙ places-none n at
+pub places-back : (n at : ℕ) (l : List Bool) → length l ≤ n → placesTold n at (bitsNumber l) ≡ placesOf at l
+unfolding placesTold placesOf
+places-back n at [] h = ap (placesTold n at) bits-none ∙ places-none n at
 places-back zero at (f ∷ l) h = absurd (omega arith)
 places-back (suc n) at (f ∷ l) h = rw (bits-first f l, bits-rest f l, places-back n (at + 1) l (omega arith))
 
@@ -233,19 +233,19 @@ stated-length b = rows-length (headIn b .rows) savedSize (drop (headIn b .offset
 -- the law of counts, of any bytes: each stated row is kept or dropped
 pub counts-are : (b : List ℕ) → length (rowsKept b) + length (placesOf 0 (rowsDropped b)) ≡ headIn b .rows
 unfolding rowsKept rowsDropped
-counts-are b = rw (places-many 0 (drops (grantsIn b) [] (stated b))) (omega (arith, kept-or-dropped (grantsIn b) [] (stated b), stated-length b))
+counts-are b = rw (places-many 0 (areDropped (grantsIn b) [] (stated b))) (omega (arith, kept-or-dropped (grantsIn b) [] (stated b), stated-length b))
 
 pub kept-few : (b : List ℕ) → length (rowsKept b) ≤ headIn b .rows
 kept-few b = omega (arith, counts-are b)
 
 module _ (b : List ℕ) (u : isUsable b ≡ true) where
   -- so the report tells the places: "the place of each row dropped"
-  pub places-are : placesIn 16 0 (dropped b) ≡ placesOf 0 (rowsDropped b)
+  pub places-are : placesTold 16 0 (dropped b) ≡ placesOf 0 (rowsDropped b)
   unfolding dropped rowsDropped
-  places-are = places-back 16 0 (drops (grantsIn b) [] (stated b)) (rw (drops-length (grantsIn b) [] (stated b), stated-length b) (omega (arith, usable-head b u .few)))
+  places-are = places-back 16 0 (areDropped (grantsIn b) [] (stated b)) (rw (drops-length (grantsIn b) [] (stated b), stated-length b) (omega (arith, usable-head b u .few)))
 
   -- "kept plus dropped equals the stated rows, missing ones counted as dropped"
-  pub rescue-counts : length (rowsKept b) + length (placesIn 16 0 (dropped b)) ≡ headIn b .rows
+  pub rescue-counts : length (rowsKept b) + length (placesTold 16 0 (dropped b)) ≡ headIn b .rows
   rescue-counts = rw places-are (counts-are b)
 
 -- ---- an image is written with the words of the unprovisioned taken as zero, whatever they are
@@ -357,7 +357,7 @@ module _ (b : List ℕ) (e : isImage b ≡ true) where
       all-keep (grantsIn b) [] parts
       (rows-whole (headIn b .rows) savedSize (drop (headIn b .offset) b) room)
       (each-unmap savedFrom parts (every-by (λ r q. q) (map savedFrom parts) (held .keepable)))
-      (each-all parts (λ p. unfold isNew every in refl))
+      (each-all parts (λ p. unfold hasNewName every in refl))
       (pairs-unmap savedFrom parts (pairwise-by (λ p q d. d) (map savedFrom parts) (held .names)))
 
   words-all : Each (λ g. wordsFit g ≡ true) (grantsIn b)

@@ -37,11 +37,11 @@ unfoldable pub stated : List ℕ → List (List ℕ)
 stated b = rows (headIn b .rows) savedSize (drop (headIn b .offset) b)
 
 -- "A row is kept if its owner is provisioned, its next number is at least 1 and its name differs from all names kept before."
-unfoldable pub isNew : List SavedRow → SavedRow → Bool
-isNew before r = every (λ q. differ q r) before
+unfoldable pub hasNewName : List SavedRow → SavedRow → Bool
+hasNewName before r = every (λ q. differ q r) before
 
 unfoldable pub isKept : List Grants → List SavedRow → List ℕ → Bool
-isKept grants before part = isWhole part && (isKeepable grants (savedFrom part) && isNew before (savedFrom part))
+isKept grants before part = isWhole part && (isKeepable grants (savedFrom part) && hasNewName before (savedFrom part))
 
 unfoldable pub keptWith : List Grants → List SavedRow → List ℕ → List SavedRow
 keptWith grants before part = cond (isKept grants before part) (before ++ (savedFrom part ∷ [])) before
@@ -55,12 +55,12 @@ unfoldable pub rowsKept : List ℕ → List SavedRow
 rowsKept b = keep (grantsIn b) [] (stated b)
 
 -- ---- "and the place of each row dropped": whether each stated row is, "missing ones counted as dropped"
-unfoldable pub drops : List Grants → List SavedRow → List (List ℕ) → List Bool
-drops grants before [] = []
-drops grants before (part ∷ parts) = not (isKept grants before part) ∷ drops grants (keptWith grants before part) parts
+unfoldable pub areDropped : List Grants → List SavedRow → List (List ℕ) → List Bool
+areDropped grants before [] = []
+areDropped grants before (part ∷ parts) = not (isKept grants before part) ∷ areDropped grants (keptWith grants before part) parts
 
 unfoldable pub rowsDropped : List ℕ → List Bool
-rowsDropped b = drops (grantsIn b) [] (stated b)
+rowsDropped b = areDropped (grantsIn b) [] (stated b)
 
 -- these places, counted from `at` on
 unfoldable pub placesOf : ℕ → List Bool → List ℕ
@@ -72,9 +72,9 @@ unfoldable pub dropped : List ℕ → ℕ
 dropped b = bitsNumber (rowsDropped b)
 
 -- and read again: the places of the bits that are set among the n lowest
-unfoldable pub placesIn : ℕ → ℕ → ℕ → List ℕ
-placesIn zero at mask = []
-placesIn (suc n) at mask = cond (eqb (mask % 2) 1) (at ∷ placesIn n (at + 1) (mask / 2)) (placesIn n (at + 1) (mask / 2))
+unfoldable pub placesTold : ℕ → ℕ → ℕ → List ℕ
+placesTold zero at mask = []
+placesTold (suc n) at mask = cond (eqb (mask % 2) 1) (at ∷ placesTold n (at + 1) (mask / 2)) (placesTold n (at + 1) (mask / 2))
 
 -- ---- what is written. "The layout stays."
 unfoldable pub rescuedImage : List ℕ → Image

@@ -35,7 +35,7 @@ use Rattle.image_damaged.specs.declared.Rescued.{Rescued}
 use Rattle.image.specs.declared.SavedRead.{SavedRead}
 use Rattle.image.specs.declared.SavedRow.{SavedRow}
 use Rattle.image.specs.Image.{wordsAt, savedSize, isRowOffset, imageLong, imageBytes, frontBytes, frontLong, headIn, grantsAmong, grantsIn, savedFrom, savedBytes, isWhole, readSaved, savedOver, isKeepable, differ, headFits}
-use Rattle.image_damaged.specs.Rescue.{isUsable, nonzero, wordsCleared, isNew, cleared, stated, isKept, keptWith, keep, rowsKept, drops, rowsDropped, dropped, rescuedImage, rescued, rescuedLong, rescueNumber, refusedBy, rescueAnswer, RescueWritten}
+use Rattle.image_damaged.specs.Rescue.{isUsable, nonzero, wordsCleared, hasNewName, cleared, stated, isKept, keptWith, keep, rowsKept, areDropped, rowsDropped, dropped, rescuedImage, rescued, rescuedLong, rescueNumber, refusedBy, rescueAnswer, RescueWritten}
 use Rattle.image.proofs.Rows.{SummedTo, sum-begin, sum-few, sum-next, sum-done}
 use Rattle.image.proofs.Laws.{offset-low, Head, front-rows}
 use Rattle.image_damaged.proofs.Laws.{with-kept, with-dropped, usable-head, usable-is, taken-bytes}
@@ -121,12 +121,12 @@ module _ {row : SavedRow} {before : List SavedRow} {kept i : ℕ} (v : NewTo row
     pub new-on : s ≡ false → NewTo row before kept (i + 1)
     new-on t = record { long = v .long; within = v .within; passed = every-on d (v .passed) inside (there t) }
 
-    pub new-not : s ≡ true → false ≡ isNew (take kept before) row
-    unfolding isNew
+    pub new-not : s ≡ true → false ≡ hasNewName (take kept before) row
+    unfolding hasNewName
     new-not t = sym (every-fail d (v .passed) inside (there t))
 
-  pub new-all : kept ≤ i → true ≡ isNew (take kept before) row
-  unfolding isNew
+  pub new-all : kept ≤ i → true ≡ hasNewName (take kept before) row
+  unfolding hasNewName
   new-all h =
       let past : length (take kept before) ≤ i = omega (arith, length-take-le kept before (omega (arith, v .long, v .within))) in
       sym (every-all (v .passed) past)
@@ -158,7 +158,7 @@ module _ (b : List ℕ) (at : ℕ) where
       unfolding isKept
       kept-not n = rw (whole, rw same-part at (sym e ∙ not-true k n))
 
-      pub kept-new : not k ≡ false → {row : SavedRow} {n : Bool} → row ≡ savedFrom part → n ≡ isNew before row → n ≡ isKept grants before part
+      pub kept-new : not k ≡ false → {row : SavedRow} {n : Bool} → row ≡ savedFrom part → n ≡ hasNewName before row → n ≡ isKept grants before part
       unfolding isKept
       kept-new n f g = g ∙ rw (f, whole, rw same-part at (sym e ∙ not-false k n))
 
@@ -180,7 +180,7 @@ pub record Sorting (grants : List Grants) (b : List ℕ) (offset n : ℕ) (held 
   pub rest : keep grants [] (partsOf b offset n) ≡ keep grants (take kept held) (drop i (partsOf b offset n))
   pub told : List Bool
   pub told-many : length told ≡ i
-  pub flags : drops grants [] (partsOf b offset n) ≡ told ++ drops grants (take kept held) (drop i (partsOf b offset n))
+  pub flags : areDropped grants [] (partsOf b offset n) ≡ told ++ areDropped grants (take kept held) (drop i (partsOf b offset n))
   pub dropped-is : dropped ≡ bitsNumber told
   pub bit-is : bit ≡ 2 ^ i
 
@@ -240,7 +240,7 @@ module _ {grants : List Grants} {b : List ℕ} {offset n : ℕ} {held : List Sav
 
       turned : {held′ : List SavedRow} {kept′ dropped′ : ℕ} → length held′ ≡ places → kept′ ≤ i + 1 → take kept′ held′ ≡ keptWith grants before here → dropped′ ≡ dropped + cond (not t) bit 0
           → Sorting grants b offset n held′ kept′ dropped′ (bit * 2) (i + 1)
-      unfolding keep drops
+      unfolding keep areDropped
       turned m w k d =
           record {
             small = v .small;
@@ -250,7 +250,7 @@ module _ {grants : List Grants} {b : List ℕ} {offset n : ℕ} {held : List Sav
             rest = v .rest ∙ rw (ahead, k);
             told = v .told ++ (not t ∷ []);
             told-many = rw length-append (omega (arith, v .told-many));
-            flags = v .flags ∙ rw (ahead, k, ← e) (sym (append-snoc (v .told) (not t) (drops grants (keptWith grants before here) (drop (i + 1) parts))));
+            flags = v .flags ∙ rw (ahead, k, ← e) (sym (append-snoc (v .told) (not t) (areDropped grants (keptWith grants before here) (drop (i + 1) parts))));
             dropped-is = d ∙ rw (bits-more (v .told) (not t), v .told-many, ← v .dropped-is, ← v .bit-is);
             bit-is = rw (add-one, pow-suc, v .bit-is);
           }
@@ -268,7 +268,7 @@ module _ {grants : List Grants} {b : List ℕ} {offset n : ℕ} {held : List Sav
       sorted-dropped y s p q = rw (s, p, q) (turned (v .long) (omega (arith, v .few)) (sym (with-dropped grants before here (sym e ∙ y))) (rw y))
 
   pub sorted-all : n ≤ i → SortedAs grants (rows n savedSize (drop offset b)) (record { rows = held; kept = kept; dropped = dropped })
-  unfolding keep drops
+  unfolding keep areDropped
   sorted-all h =
       let past : length parts ≤ i = omega (arith, parts-many) in
       let none : drop i parts ≡ [] = drop-of-length-le parts past in

@@ -6,10 +6,10 @@ use lib.ListN.{take}
 use Rattle.rows.specs.Bytes.{bitsNumber}
 use Rattle.table.specs.Table.{places}
 use Rattle.module_state.specs.declared.Grants.{Grants}
-use Rattle.image_damaged.specs.Rescue.{keep, drops}
+use Rattle.image_damaged.specs.Rescue.{keep, areDropped}
 use Rattle.image_rescue.specs.declared.Sorted.{Sorted}
 
 pub record SortedAs (grants : List Grants) (parts : List (List ℕ)) (r : Sorted) : Type 0 where
   pub few : r .kept ≤ places
   pub rows-are : take (r .kept) (r .rows) ≡ keep grants [] parts
-  pub dropped-are : r .dropped ≡ bitsNumber (drops grants [] parts)
+  pub dropped-are : r .dropped ≡ bitsNumber (areDropped grants [] parts)

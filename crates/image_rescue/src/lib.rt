@@ -8,7 +8,7 @@ ghost use Rattle.lists.specs.Lists.{sum, join};
 ghost use Rattle.rows.specs.Rows.{rows, over, Put};
 ghost use Rattle.table.specs.Table.{places};
 ghost use Rattle.image.specs.Image.{savedSize, isRowOffset, imageLong, Image, imageBytes, headIn, savedFrom, savedBytes};
-ghost use Rattle.image_damaged.specs.Rescue.{isUsable, nonzero, wordsCleared, isNew, isKept, refusedBy, RescueWritten};
+ghost use Rattle.image_damaged.specs.Rescue.{isUsable, nonzero, wordsCleared, hasNewName, isKept, refusedBy, RescueWritten};
 ghost use Rattle.image_rescue.specs.Sorted.{SortedAs};
 use image::ImageHead;
 use image::SAVED_SIZE;
@@ -77,7 +77,7 @@ fn cleared_in(grants: [Grants; CREDENTIALS]) -> u16
 // Whether a row's name differs from that of each of those kept before.
 fn is_new(held: [SavedRow; PLACES], kept: usize, row: SavedRow) -> bool
     requires { ⌜ kept ≤ places ⌝ }
-    ensures { λ r. ⌜ r ≡ isNew (take kept held) row ⌝ }
+    ensures { λ r. ⌜ r ≡ hasNewName (take kept held) row ⌝ }
 {
     let mut i: usize = 0;
     while i < kept {
