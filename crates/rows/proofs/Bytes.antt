@@ -168,7 +168,7 @@ bit-low : (f : Bool) → cond f 1 0 < 2
 bit-low true = omega arith
 bit-low false = omega arith
 
-pub bit-back : (f : Bool) → eqb (cond f 1 0) 1 ≡ f
+bit-back : (f : Bool) → eqb (cond f 1 0) 1 ≡ f
 bit-back true = refl
 bit-back false = refl
 
