@@ -98,7 +98,7 @@ unfolding computed
 old-drawn = record { long = refl; accepted = refl; read = refl; anew = refl; again = refl }
 
 -- where a credential's words and a row begin
-abbrev pub word : ℕ → ℕ
+abbrev word : ℕ → ℕ
 word c = wordsAt + c * wordSize
 
 abbrev second : ℕ → ℕ

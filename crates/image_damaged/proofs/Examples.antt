@@ -1,4 +1,4 @@
--- Examples of order 8, on both sides of each bound. X is the drawn image in the old layout, and Y in the new one, but that credential 1 alone has a second word, 16.
+-- Examples of order 8, one or two for each of its rules. X is the drawn image in the old layout, and Y in the new one, but that credential 1 alone has a second word, 16.
 -- Assumes nothing.
 use Prim.Native.Nat.{ℕ, zero, suc, _+_, _*_}
 use mathlib.Core.Path.{_≡_, refl}
@@ -9,9 +9,9 @@ use Rattle.names.proofs.Examples.{P, Q, R}
 use Rattle.module_state.specs.Module.{taken}
 use Rattle.module_state.specs.Numbers.{_when_, _unless_, _▸_}
 use Rattle.image_damaged.specs.declared.Rescued.{Rescued}
-use Rattle.image.specs.Image.{maskAt, wordCountAt, wordOffsetAt, rowCountAt, rowOffsetAt, oldSavedAt, savedOwnerAt, savedNextAt, savedNameAt, savedSize, isWhole}
+use Rattle.image.specs.Image.{maskAt, rowCountAt, rowOffsetAt, oldSavedAt, savedOwnerAt, savedNextAt, savedNameAt, savedSize, isWhole}
 use Rattle.image_damaged.specs.Rescue.{isUsable, nonzero, wordsCleared, cleared, stated, hasNewName, isKept, keptWith, keep, rowsKept, areDropped, rowsDropped, dropped, placesTold, rescuedImage, rescued, rescuedLong, rescueNumber, rescueAnswer}
-use Rattle.image.proofs.Examples.{computed, head, grants, saved, old, word}
+use Rattle.image.proofs.Examples.{computed, head, grants, saved, old}
 
 -- the number, the length, the cleared words, the kept rows, and the place of each row dropped
 abbrev answered : Rescued → List ℕ
@@ -62,61 +62,39 @@ pub record Examples : Type 0 where
   pub room-146 : told-in 146 X ≡ 0 ∷ 146 ∷ 0 ∷ 2 ∷ []
   -- a row that is cut is dropped, and one that is missing; the words are needed whole
   pub cut-145 : told (take 145 X) ≡ 0 ∷ 94 ∷ 0 ∷ 1 ∷ 1 ∷ []
-  pub cut-94 : told (take 94 X) ≡ 0 ∷ 94 ∷ 0 ∷ 1 ∷ 1 ∷ []
   pub cut-fits : told-in 94 (take 145 X) ≡ 0 ∷ 94 ∷ 0 ∷ 1 ∷ 1 ∷ []
-  pub cut-room : told-in 93 (take 94 X) ≡ no-room
-  pub cut-93 : told (take 93 X) ≡ 0 ∷ 42 ∷ 0 ∷ 0 ∷ 0 ∷ 1 ∷ []
   pub cut-42 : told (take 42 X) ≡ 0 ∷ 42 ∷ 0 ∷ 0 ∷ 0 ∷ 1 ∷ []
   pub cut-41 : told (take 41 X) ≡ unusable
-  pub cut-10 : told (take 10 X) ≡ unusable
   pub cut-9 : told (take 9 X) ≡ unusable
-  pub nothing : told-in 0 [] ≡ unusable
-  pub new-177 : told (take 177 Y) ≡ 0 ∷ 126 ∷ 0 ∷ 1 ∷ 1 ∷ []
-  pub new-125 : told (take 125 Y) ≡ 0 ∷ 74 ∷ 0 ∷ 0 ∷ 0 ∷ 1 ∷ []
   pub new-74 : told (take 74 Y) ≡ 0 ∷ 74 ∷ 0 ∷ 0 ∷ 0 ∷ 1 ∷ []
   pub new-73 : told (take 73 Y) ≡ unusable
   -- "bytes after those are ignored"
   pub longer-room : told-in 146 (X ++ (1 ∷ [])) ≡ 0 ∷ 146 ∷ 0 ∷ 2 ∷ []
-  pub longer : told (X ++ (1 ∷ [])) ≡ 0 ∷ 146 ∷ 0 ∷ 2 ∷ []
   pub row-more : told (X ++ (0 ∷ 0 ∷ 1 ∷ 0 ∷ R)) ≡ 0 ∷ 146 ∷ 0 ∷ 2 ∷ []
   -- "up to the stated count", which is "at most 12"
-  pub count-0 : told (set X rowCountAt 0) ≡ 0 ∷ 42 ∷ 0 ∷ 0 ∷ []
   pub count-1 : told (set X rowCountAt 1) ≡ 0 ∷ 94 ∷ 0 ∷ 1 ∷ []
   pub count-3 : told (set X rowCountAt 3) ≡ 0 ∷ 146 ∷ 0 ∷ 2 ∷ 2 ∷ []
-  pub count-12 : told (set X rowCountAt 12) ≡ 0 ∷ 146 ∷ 0 ∷ 2 ∷ 2 ∷ 3 ∷ 4 ∷ 5 ∷ 6 ∷ 7 ∷ 8 ∷ 9 ∷ 10 ∷ 11 ∷ []
   pub count-13 : told (set X rowCountAt 13) ≡ unusable
   -- "It clears words of unprovisioned credentials", of both kinds
-  pub mask-1 : told (set X maskAt 1) ≡ 0 ∷ 94 ∷ 1 ∷ 1 ∷ 1 ∷ []
-  pub mask-2 : told (set X maskAt 2) ≡ 0 ∷ 94 ∷ 1 ∷ 1 ∷ 0 ∷ []
-  pub mask-0 : told (set X maskAt 0) ≡ 0 ∷ 42 ∷ 2 ∷ 0 ∷ 0 ∷ 1 ∷ []
   pub new-mask-1 : told (set Y maskAt 1) ≡ 0 ∷ 126 ∷ 2 ∷ 1 ∷ 1 ∷ []
-  pub new-mask-2 : told (set Y maskAt 2) ≡ 0 ∷ 126 ∷ 1 ∷ 1 ∷ 0 ∷ []
-  pub new-mask-0 : told (set Y maskAt 0) ≡ 0 ∷ 74 ∷ 3 ∷ 0 ∷ 0 ∷ 1 ∷ []
-  pub mask-131 : told (set X maskAt 0x83) ≡ 0 ∷ 146 ∷ 0 ∷ 2 ∷ []
   pub mask-259 : told (set X (maskAt + 1) 1) ≡ unusable
-  pub word-2 : told (set X (word 2) 5) ≡ 0 ∷ 146 ∷ 1 ∷ 2 ∷ []
-  pub stray-old : told (stray 42 8) ≡ 0 ∷ 42 ∷ 8 ∷ 0 ∷ []
   pub stray-new : told (stray 74 16) ≡ 0 ∷ 74 ∷ 16 ∷ 0 ∷ []
   -- which row is kept
   pub number-0 : told (uncounted X) ≡ 0 ∷ 94 ∷ 0 ∷ 1 ∷ 0 ∷ []
   pub name-twice : told (second-named P) ≡ 0 ∷ 94 ∷ 0 ∷ 1 ∷ 1 ∷ []
   pub name-close : told (second-named R) ≡ 0 ∷ 146 ∷ 0 ∷ 2 ∷ []
   pub name-free : told (uncounted (second-named P)) ≡ 0 ∷ 94 ∷ 0 ∷ 1 ∷ 0 ∷ []
-  pub owner-8 : told (set X (rowAt 0 + savedOwnerAt) 8) ≡ 0 ∷ 94 ∷ 0 ∷ 1 ∷ 0 ∷ []
   pub owner-256 : told (set X (rowAt 0 + savedOwnerAt + 1) 1) ≡ 0 ∷ 94 ∷ 0 ∷ 1 ∷ 0 ∷ []
   pub spent : told (set (set X (rowAt 1 + savedNextAt) 255) (rowAt 1 + savedNextAt + 1) 255) ≡ 0 ∷ 146 ∷ 0 ∷ 2 ∷ []
   pub three-names : told ((1 ∷ 0 ∷ 8 ∷ 0 ∷ 10 ∷ 0 ∷ 12 ∷ 0 ∷ 42 ∷ 0 ∷ []) ++ (replicate 32 0 ++ three 4)) ≡ 0 ∷ 198 ∷ 0 ∷ 3 ∷ 3 ∷ 4 ∷ 5 ∷ 6 ∷ 7 ∷ 8 ∷ 9 ∷ 10 ∷ 11 ∷ []
   -- "the offsets of either layout": a damaged one is read as what it says, and the rest of the head has to fit
-  pub words-7 : told (set X wordCountAt 7) ≡ unusable
-  pub words-at-11 : told (set X wordOffsetAt 11) ≡ unusable
   pub rows-at-43 : told (set X rowOffsetAt 43) ≡ unusable
   pub rows-at-74 : told (set X rowOffsetAt 74) ≡ 0 ∷ 74 ∷ 3 ∷ 0 ∷ 0 ∷ 1 ∷ []
   -- what is written: an image as it was; row 1 moved up behind a head that counts one, where row 0 is dropped; words cleared
   pub same : rescued X ≡ X
-  pub same-new : rescued Y ≡ Y
   pub moved : rescued (uncounted X) ≡ head 1 0x2a ++ (grants ++ (1 ∷ 0 ∷ 0x2c ∷ 0x01 ∷ Q))
   pub words-cleared : rescued (set (take 74 Y) maskAt 1) ≡ set (head 0 0x4a) maskAt 1 ++ ((15 ∷ 0 ∷ 0 ∷ 0 ∷ []) ++ replicate 60 0)
 
 pub examples : Examples
 unfolding computed sum taken _when_ _unless_ _▸_ isWhole isUsable nonzero wordsCleared cleared stated hasNewName isKept keptWith keep rowsKept areDropped rowsDropped dropped placesTold rescuedImage rescued rescuedLong rescueNumber rescueAnswer
-examples = record { room-145 = refl; room-146 = refl; cut-145 = refl; cut-94 = refl; cut-fits = refl; cut-room = refl; cut-93 = refl; cut-42 = refl; cut-41 = refl; cut-10 = refl; cut-9 = refl; nothing = refl; new-177 = refl; new-125 = refl; new-74 = refl; new-73 = refl; longer-room = refl; longer = refl; row-more = refl; count-0 = refl; count-1 = refl; count-3 = refl; count-12 = refl; count-13 = refl; mask-1 = refl; mask-2 = refl; mask-0 = refl; new-mask-1 = refl; new-mask-2 = refl; new-mask-0 = refl; mask-131 = refl; mask-259 = refl; word-2 = refl; stray-old = refl; stray-new = refl; number-0 = refl; name-twice = refl; name-close = refl; name-free = refl; owner-8 = refl; owner-256 = refl; spent = refl; three-names = refl; words-7 = refl; words-at-11 = refl; rows-at-43 = refl; rows-at-74 = refl; same = refl; same-new = refl; moved = refl; words-cleared = refl }
+examples = record { room-145 = refl; room-146 = refl; cut-145 = refl; cut-fits = refl; cut-42 = refl; cut-41 = refl; cut-9 = refl; new-74 = refl; new-73 = refl; longer-room = refl; row-more = refl; count-1 = refl; count-3 = refl; count-13 = refl; new-mask-1 = refl; mask-259 = refl; stray-new = refl; number-0 = refl; name-twice = refl; name-close = refl; name-free = refl; owner-256 = refl; spent = refl; three-names = refl; rows-at-43 = refl; rows-at-74 = refl; same = refl; moved = refl; words-cleared = refl }
