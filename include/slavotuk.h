@@ -9,22 +9,18 @@
  * - A slice is two parameters, a pointer and a size_t with the count of its elements. A pointer is valid for its length; with
  *   length 0 it may be null. What a call writes to overlaps with nothing else that it is lent. A pointer through which a number
  *   is handed out is not null.
- * - A refusal leaves the state, the store and every buffer as they were, but for one number: a user claim that passes its tests
- *   is counted also where the call is refused after them, see below. What is handed out through a pointer is written where the
- *   answer is SLAVOTUK_DONE, and stays as it was otherwise. The exceptions are the length of slavotuk_list, slavotuk_image and
- *   slavotuk_rescue, and the length and the lock of slavotuk_get_parameters, which a refusal sets to 0.
- * - state is a slice of SLAVOTUK_STATE_SIZE bytes that slavotuk_fresh, slavotuk_restore or slavotuk_restore_with_store has
- *   filled and that only these functions write; docs/STATE.md draws it.
- * - store is a slice of SLAVOTUK_STORE_SIZE bytes beside the state, which the calls of provisioning are lent and no others, and
- *   which only these functions write; docs/STORE.md draws it. Zero bytes are an empty store, in the default state, and fit
- *   every state: slavotuk_fresh does not touch the store, so who makes a module anew zeroes it.
+ * - A refusal leaves the state and every buffer as they were, but for one number: a user claim that passes its tests is
+ *   counted also where the call is refused after them, see below. What is handed out through a pointer is written where the
+ *   answer is SLAVOTUK_DONE, and stays as it was otherwise. The one exception is the length of slavotuk_list, slavotuk_image
+ *   and slavotuk_rescue, which a refusal sets to 0.
+ * - state is a slice of SLAVOTUK_STATE_SIZE bytes that slavotuk_fresh or slavotuk_restore has filled and that only these
+ *   functions write; docs/STATE.md draws it.
  * - Nothing is kept between calls but what stands there, nothing is locked, and nothing is allocated: threads, and a signal
  *   handler, may call at the same time on states of their own; a state that they share, or that lies in memory shared between
  *   programs, takes one call at a time, which is for the host to see to.
  * - ARGUMENT, wherever it is listed, is for a port over 1, a session over 3 on either port, a credential over 7, a flag (kind,
- *   verdict, keep, provisioned) other than 0 or 1, a name not of SLAVOTUK_NAME_SIZE bytes, and a slice that holds no state; in
- *   the calls of provisioning also for a store that does not fit the state. SLAVOTUK_CLAIM_NONE as kind is refused so where a
- *   claim must be. A comment adds what else it is for.
+ *   verdict, keep, provisioned) other than 0 or 1, a name not of SLAVOTUK_NAME_SIZE bytes, and a slice that holds no state. A
+ *   comment adds what else it is for.
  * - Where it compares names, it reads all bytes of both every time: what it reads does not tell at which byte two names differ.
  *   docs/TRACE.md says how that is checked, and what the reads still tell.
  * - Ports, sessions, credentials, classes, versions and flags are 32 bits wide, so that a wrong value arrives as one. A claim's
@@ -38,7 +34,6 @@
  *
  * - SLAVOTUK_PROCESSES processes stand on both ports together, and no two of them have one name: so one port can meet FULL or
  *   NAME_TAKEN because of the other.
- * - The default state, the locks and the parameters are the module's: what is open in the default state is open to both ports.
  * - slavotuk_list has the processes of both ports, and a row does not tell its port. slavotuk_kill reaches both.
  * - slavotuk_close touches its own session alone.
  * - A saved process has no port: it may be continued on either.
@@ -57,10 +52,6 @@
  *             OUT_OF_TURN where the number is not the next
  *             VERDICT where the verdict is 0
  *
- * slavotuk_set_parameters, slavotuk_get_parameters and slavotuk_reset carry a claim or none. None is kind SLAVOTUK_CLAIM_NONE,
- * and the other three are then ignored, whatever they hold. A claim that is there is tested and counted as everywhere, whether
- * the call would need one or not. None is NO_PROCESS unless the module is in the default state.
- *
  * A credential has two words, the grant word and the second word. A class is granted where its bit is set in the grant word;
  * where its bit in the second word is set too, it is granted only under elevation, that is to an elevated claim. A bit of the
  * second word alone says nothing. NOT_GRANTED, wherever it is listed, is for a claim whose credential lacks the class in its
@@ -68,17 +59,16 @@
  * while an elevation stands in the session.
  *
  * A user claim that passes its tests adds one to that process's next number, whatever the call is answered afterwards; no other
- * byte of the state changes with a refusal, and none of the store. A claim that fails one adds nothing, nor does an elevated
- * claim. The refusals after a claim are NOT_GRANTED, ONLY_ELEVATED, LOCKED, OWNED, ROOM in slavotuk_list and
- * slavotuk_get_parameters, NO_PROCESS in slavotuk_kill and CREDENTIAL in slavotuk_set_word and slavotuk_get_parameters; each
- * comment has them behind "the claim's tests". So no number passes twice while its process stands, and whoever tries again
- * after such a refusal, say with a longer buffer or under elevation, signs anew: the old number is OUT_OF_TURN.
+ * byte of the state changes with a refusal. A claim that fails one adds nothing, nor does an elevated claim. The refusals after
+ * a claim are NOT_GRANTED, ONLY_ELEVATED, ROOM in slavotuk_list, NO_PROCESS in slavotuk_kill and CREDENTIAL in
+ * slavotuk_set_word; each comment has them behind "the claim's tests". So no number passes twice while its process stands, and
+ * whoever tries again after such a refusal, say with a longer buffer or under elevation, signs anew: the old number is
+ * OUT_OF_TURN.
  *
- * In short: after DONE, NOT_GRANTED, ONLY_ELEVATED, LOCKED, OWNED, ROOM, NO_PROCESS and CREDENTIAL the next user claim has the
- * next number, after any other answer of this header the same. Where NO_PROCESS or CREDENTIAL came of the claim's own tests,
- * there is no process to go on with, nor where DONE has removed the claim's own process. A process that is spent, by an
- * accepted call or by a refused one, can't end itself: a kill under another claim or the closing of its session removes it, and
- * so does the setting of its credential's parameters or a reset of it.
+ * In short: after DONE, NOT_GRANTED, ONLY_ELEVATED, ROOM, NO_PROCESS and CREDENTIAL the next user claim has the next number,
+ * after any other answer of this header the same. Where NO_PROCESS or CREDENTIAL came of the claim's own tests, there is no
+ * process to go on with. A process that is spent, by an accepted call or by a refused one, can't end itself: a kill under
+ * another claim or the closing of its session removes it.
  */
 #ifndef SLAVOTUK_H
 #define SLAVOTUK_H
@@ -106,12 +96,10 @@ extern "C" {
  * refuses a new image (14). With version 4 there is a second port: every call on a session takes the port before it, and the
  * state has 717 bytes, for four sessions more. A host comes from version 3 by writing an image with the old library and
  * restoring it with the new; active processes end, and a slice of 713 bytes holds no state. Images are those of version 3, and
- * on port 0 the answers are those of version 3 while nothing is called on port 1. Since 4.1.0 there is slavotuk_rescue. Since
- * 4.2.0 there is the store, with the calls of provisioning: a host that uses none of them goes on as it is. A host of 4.1.0
- * that wants them begins with a store of zero bytes beside its image, and so in the default state.
+ * on port 0 the answers are those of version 3 while nothing is called on port 1. Since 4.1.0 there is slavotuk_rescue.
  */
 #define SLAVOTUK_VERSION_MAJOR 4
-#define SLAVOTUK_VERSION_MINOR 2
+#define SLAVOTUK_VERSION_MINOR 1
 #define SLAVOTUK_VERSION_PATCH 0
 
 /* The same as one number, in which a later version is larger. */
@@ -120,7 +108,7 @@ extern "C" {
 /* What a call can answer. */
 enum slavotuk_number {
     SLAVOTUK_DONE = 0,                   /* accepted */
-    SLAVOTUK_REFUSED_ARGUMENT = 1,       /* a value out of its range, or a slice that holds no state or no store */
+    SLAVOTUK_REFUSED_ARGUMENT = 1,       /* a value out of its range, or a slice that holds no state */
     SLAVOTUK_REFUSED_SESSION = 2,        /* closed; for open: already open */
     SLAVOTUK_REFUSED_NO_VERSION = 3,     /* the session has no version yet */
     SLAVOTUK_REFUSED_VERSION = 4,        /* a version other than SLAVOTUK_VERSION_1_0 */
@@ -135,8 +123,6 @@ enum slavotuk_number {
     SLAVOTUK_REFUSED_SPENT = 13,         /* the next number is 65535 */
     SLAVOTUK_REFUSED_MESSAGE = 14,       /* the bytes don't fit the message's layout, or are no image */
     SLAVOTUK_REFUSED_ROOM = 15,          /* the buffer is too short */
-    SLAVOTUK_REFUSED_LOCKED = 16,        /* the credential to be changed is locked */
-    SLAVOTUK_REFUSED_OWNED = 17,         /* taking ownership outside the default state */
     SLAVOTUK_REFUSED_ONLY_ELEVATED = 18  /* a user claim, and the class is granted only under elevation */
 };
 
@@ -160,8 +146,6 @@ static inline const char *slavotuk_number_name(uint32_t number)
     case SLAVOTUK_REFUSED_SPENT: return "spent";
     case SLAVOTUK_REFUSED_MESSAGE: return "message";
     case SLAVOTUK_REFUSED_ROOM: return "room";
-    case SLAVOTUK_REFUSED_LOCKED: return "locked";
-    case SLAVOTUK_REFUSED_OWNED: return "owned";
     case SLAVOTUK_REFUSED_ONLY_ELEVATED: return "only elevated";
     default: return "unknown";
     }
@@ -191,17 +175,12 @@ static inline const char *slavotuk_number_name(uint32_t number)
 /* Bytes of the longest image: a buffer of this size always has the room. */
 #define SLAVOTUK_IMAGE_SIZE (SLAVOTUK_IMAGE_HEADER_SIZE + SLAVOTUK_IMAGE_ROW_SIZE * SLAVOTUK_PROCESSES)
 
-/* Bytes of the store, and the most that the parameters of a credential have: a buffer of that size always has the room. */
-#define SLAVOTUK_STORE_SIZE 4121
-#define SLAVOTUK_PARAMETERS_SIZE 512
-
 /* Version 1.0 of the protocol as its byte, the only one that a session can select. */
 #define SLAVOTUK_VERSION_1_0 0x10
 
-/* Kinds of a claim; the last is for the calls that carry a claim or none. */
+/* Kinds of a claim. */
 #define SLAVOTUK_CLAIM_USER 0
 #define SLAVOTUK_CLAIM_ELEVATED 1
-#define SLAVOTUK_CLAIM_NONE 2
 
 /* Types of a process, as a row has them. */
 #define SLAVOTUK_TYPE_ACTIVE_USER 0
@@ -221,9 +200,6 @@ static inline const char *slavotuk_number_name(uint32_t number)
 
 /* The wanted credential of a listing of all processes. */
 #define SLAVOTUK_WANTED_ALL 65535
-
-/* The target of a reset of all credentials that are not locked. */
-#define SLAVOTUK_RESET_ALL 65535
 
 /* Codes of the messages of 004 clause 9.2: the requests of Table 16, and the responses of Table 17. */
 enum slavotuk_code {
@@ -437,13 +413,10 @@ uint32_t slavotuk_set_word(uint8_t *state, size_t state_length, uint32_t port, u
  * saved and continued. It knows no port: what was saved on one may be continued on the other.
  *
  * It changes where slavotuk_end keeps a process, slavotuk_continue takes one up, slavotuk_kill removes a saved one,
- * slavotuk_set_word or slavotuk_first_word sets words, slavotuk_set_parameters or slavotuk_reset changes a credential, and
- * where slavotuk_fresh, slavotuk_restore or slavotuk_restore_with_store makes a module: write it again after each of these that
- * is done, before the answer goes out and before the next call; after a restore from the newest it is the same. No other call
- * changes it, and none that is refused. The memory that keeps it has to hand back the newest. From an older one, numbers that
- * were spent since are good again, processes that were killed since stand again, and words are the old ones.
- *
- * The store is not in it. A host that has one keeps it beside the image, and restores by slavotuk_restore_with_store.
+ * slavotuk_set_word sets words, and where slavotuk_fresh or slavotuk_restore makes a module: write it again after each of these
+ * that is done, before the answer goes out and before the next call; after a restore from the newest it is the same. No other
+ * call changes it, and none that is refused. The memory that keeps it has to hand back the newest. From an older one, numbers
+ * that were spent since are good again, processes that were killed since stand again, and words are the old ones.
  *
  * An image of before version 3 has the old layout: no second words, and the rows where they would stand. It is restored with
  * all second words zero. What slavotuk_image writes has the new layout, so after such a restore write the image at once.
@@ -466,9 +439,6 @@ uint32_t slavotuk_image(const uint8_t *state, size_t state_length, uint8_t *SLAV
  * their order and with their next numbers. The state's old bytes don't matter.
  *
  *   image  the whole image and no byte more, in the new layout or the old
- *
- * It is for a host without a store. Beside a store that holds something of a credential which the image does not provision, the
- * calls of provisioning answer ARGUMENT from then on.
  *
  * Refused: ARGUMENT, for a slice of another length and for nothing else; MESSAGE for bytes that are no image.
  */
@@ -501,159 +471,6 @@ uint32_t slavotuk_restore(uint8_t *SLAVOTUK_RESTRICT state, size_t state_length,
 uint32_t slavotuk_rescue(const uint8_t *bytes, size_t bytes_length, uint8_t *SLAVOTUK_RESTRICT image, size_t image_length,
                          size_t *SLAVOTUK_RESTRICT length, uint16_t *SLAVOTUK_RESTRICT cleared,
                          uint16_t *SLAVOTUK_RESTRICT kept, uint16_t *SLAVOTUK_RESTRICT dropped);
-
-/*
- * ---- provisioning, ownership and reset
- *
- * What a credential is provisioned with, its parameters, stands in the store, up to SLAVOTUK_PARAMETERS_SIZE bytes for each:
- * the fields of 004's Table 2 from CredentialType on, as they came in SET_CRED_ID_PARAMS. The module keeps them and hands them
- * out, and judges nothing of them. Beside them the store has a lock for each credential, and whether the module is owned. A
- * provisioned credential may have no parameters; one that is not provisioned has none and is not locked, or the store does not
- * fit the state.
- *
- * A module is in the default state until somebody has taken ownership of it, and then owned. What the calls ask for:
- *
- *   slavotuk_set_parameters, slavotuk_reset    in the default state a claim or none, where owned a claim
- *   slavotuk_get_parameters                    the same, and of a locked credential a claim in the default state too
- *   slavotuk_first_word                        the default state; it carries no claim
- *   slavotuk_lock, slavotuk_unlock, slavotuk_take_ownership
- *                                              a claim, in either state
- *
- * So in the default state whoever reaches a session of either port may provision credentials, give them words and reset all
- * that are not locked: a host keeps the second network off until the module is owned. All other calls are the same in both
- * states, and none of them asks for a lock: slavotuk_set_word sets the words of a locked credential too.
- *
- * A locked credential keeps its parameters and stays provisioned until it is unlocked, under its own claim. A reset of all
- * leaves it, with its processes.
- *
- * The store changes with slavotuk_set_parameters, slavotuk_reset, slavotuk_take_ownership, slavotuk_lock and slavotuk_unlock,
- * and with slavotuk_restore_with_store. A host copies it out of its own slice after each of these that is done, and writes it
- * and the image as one record: both have to come back as the newest, and of one age. An older store opens an owned module to
- * everybody, opens a lock and brings back an old key.
- */
-
-/*
- * Asks whether a slice holds a state, and another one a store that fits it. Both are only read, so read-only memory serves.
- *
- * Refused: ARGUMENT where it is not so, and for nothing else.
- */
-uint32_t slavotuk_holds_store(const uint8_t *state, size_t state_length, const uint8_t *store, size_t store_length);
-
-/*
- * Sets the parameters of a credential and provisions it. All its processes are removed, of every type and on both ports, also
- * where the parameters are what they were. Its words stay; where it was not provisioned both are zero.
- *
- *   kind        a claim's, or SLAVOTUK_CLAIM_NONE
- *   target      the credential
- *   parameters  at most SLAVOTUK_PARAMETERS_SIZE bytes; none is taken too
- *
- * Refused: ARGUMENT, for more parameters too; SESSION; NO_VERSION; the claim's tests, then NOT_GRANTED and ONLY_ELEVATED by
- * SLAVOTUK_CLASS_SET_WORDS, also for one's own; where there is none, NO_PROCESS unless the module is in the default state;
- * LOCKED where the target is locked.
- */
-uint32_t slavotuk_set_parameters(uint8_t *SLAVOTUK_RESTRICT state, size_t state_length, uint8_t *SLAVOTUK_RESTRICT store,
-                                 size_t store_length, uint32_t port, uint32_t session, uint32_t kind, uint32_t credential,
-                                 uint16_t number, uint32_t verdict, uint32_t target, const uint8_t *parameters,
-                                 size_t parameters_length);
-
-/*
- * Copies the parameters of a credential to the front of a buffer. Later bytes of the buffer are not touched. The store is only
- * read.
- *
- *   kind    a claim's, or SLAVOTUK_CLAIM_NONE
- *   target  the credential
- *   buffer  SLAVOTUK_PARAMETERS_SIZE bytes are always enough
- *   length  handed out: that of the parameters, 0 on a refusal
- *   locked  handed out: 1 where the credential is locked, else 0; 0 on a refusal
- *
- * Refused: ARGUMENT; SESSION; NO_VERSION; the claim's tests, then, where the target is not the claim's credential, NOT_GRANTED
- * and ONLY_ELEVATED by SLAVOTUK_CLASS_SET_WORDS; where there is none, NO_PROCESS unless the module is in the default state and
- * the target is not locked; CREDENTIAL where the target is not provisioned; ROOM. To try again with a longer buffer takes the
- * next number.
- */
-uint32_t slavotuk_get_parameters(uint8_t *SLAVOTUK_RESTRICT state, size_t state_length, const uint8_t *store,
-                                 size_t store_length, uint32_t port, uint32_t session, uint32_t kind, uint32_t credential,
-                                 uint16_t number, uint32_t verdict, uint32_t target, uint8_t *SLAVOTUK_RESTRICT buffer,
-                                 size_t buffer_length, size_t *SLAVOTUK_RESTRICT length, uint32_t *SLAVOTUK_RESTRICT locked);
-
-/*
- * Sets both words of a credential in the default state, without a claim. Its processes stay. The store is only read.
- *
- *   target  the credential whose words are set
- *   word    the new grant word; every value is taken
- *   second  the new second word; every value is taken
- *
- * Refused: ARGUMENT; SESSION; NO_VERSION; NO_PROCESS where the module is owned; LOCKED where the target is locked; CREDENTIAL
- * where it is not provisioned.
- */
-uint32_t slavotuk_first_word(uint8_t *SLAVOTUK_RESTRICT state, size_t state_length, const uint8_t *store, size_t store_length,
-                             uint32_t port, uint32_t session, uint32_t target, uint32_t word, uint32_t second);
-
-/*
- * Resets a credential to default: it is no longer provisioned, has no parameters, both words are zero, and all its processes
- * are removed, of every type and on both ports. One that is not provisioned is there already. Of SLAVOTUK_RESET_ALL, all
- * credentials that are not locked are reset, locked ones lose nothing, and the module is in the default state again; a reset of
- * one credential leaves the ownership.
- *
- *   kind    a claim's, or SLAVOTUK_CLAIM_NONE
- *   target  a credential, or SLAVOTUK_RESET_ALL
- *
- * Refused: ARGUMENT, for every other target too; SESSION; NO_VERSION; the claim's tests, then NOT_GRANTED and ONLY_ELEVATED by
- * SLAVOTUK_CLASS_SET_WORDS; where there is none, NO_PROCESS unless the module is in the default state; LOCKED where the target
- * is one credential and locked.
- */
-uint32_t slavotuk_reset(uint8_t *SLAVOTUK_RESTRICT state, size_t state_length, uint8_t *SLAVOTUK_RESTRICT store,
-                        size_t store_length, uint32_t port, uint32_t session, uint32_t kind, uint32_t credential,
-                        uint16_t number, uint32_t verdict, uint32_t target);
-
-/*
- * Takes ownership of the module: it is then owned, until a reset of SLAVOTUK_RESET_ALL.
- *
- * Refused: ARGUMENT; SESSION; NO_VERSION; the claim's tests; NOT_GRANTED and ONLY_ELEVATED by SLAVOTUK_CLASS_SET_WORDS; OWNED
- * where the module is owned already.
- */
-uint32_t slavotuk_take_ownership(uint8_t *SLAVOTUK_RESTRICT state, size_t state_length, uint8_t *SLAVOTUK_RESTRICT store,
-                                 size_t store_length, uint32_t port, uint32_t session, uint32_t kind, uint32_t credential,
-                                 uint16_t number, uint32_t verdict);
-
-/*
- * Locks the claim's own credential: until it is unlocked, its parameters can't be set, nor first words, and no reset reaches
- * it.
- *
- *   target  the credential, which has to be the claim's
- *
- * Refused: ARGUMENT; SESSION; NO_VERSION; the claim's tests; NOT_GRANTED where the target is not the claim's credential, also
- * where that has the class only under elevation; NOT_GRANTED and ONLY_ELEVATED by SLAVOTUK_CLASS_SET_WORDS; LOCKED where it is
- * locked already.
- */
-uint32_t slavotuk_lock(uint8_t *SLAVOTUK_RESTRICT state, size_t state_length, uint8_t *SLAVOTUK_RESTRICT store,
-                       size_t store_length, uint32_t port, uint32_t session, uint32_t kind, uint32_t credential,
-                       uint16_t number, uint32_t verdict, uint32_t target);
-
-/*
- * Unlocks the claim's own credential. To unlock what is not locked is done and changes nothing but the claim's number.
- *
- *   target  the credential, which has to be the claim's
- *
- * Refused: as slavotuk_lock, without LOCKED.
- */
-uint32_t slavotuk_unlock(uint8_t *SLAVOTUK_RESTRICT state, size_t state_length, uint8_t *SLAVOTUK_RESTRICT store,
-                         size_t store_length, uint32_t port, uint32_t session, uint32_t kind, uint32_t credential,
-                         uint16_t number, uint32_t verdict, uint32_t target);
-
-/*
- * Makes a module from an image as slavotuk_restore does, beside a store that was kept with it. The store stays, with its
- * ownership, except that a credential which the image does not provision is unlocked and has no parameters. The state's old
- * bytes don't matter.
- *
- *   store  one by itself: of its length, each field in its range, and zero where there are no parameters
- *   image  the whole image and no byte more, in the new layout or the old
- *
- * Refused: ARGUMENT, for a state's slice of another length and a store that is none, and for nothing else; MESSAGE for bytes
- * that are no image. Neither slice has then changed.
- */
-uint32_t slavotuk_restore_with_store(uint8_t *SLAVOTUK_RESTRICT state, size_t state_length, uint8_t *SLAVOTUK_RESTRICT store,
-                                     size_t store_length, const uint8_t *image, size_t image_length);
 
 /* ---- the listing messages. These take no state */
 

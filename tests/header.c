@@ -12,11 +12,7 @@
 
 #define USER(credential, number) SLAVOTUK_CLAIM_USER, credential, number, 1
 #define ELEVATED SLAVOTUK_CLAIM_ELEVATED, 99, 99, 99
-#define NO_CLAIM SLAVOTUK_CLAIM_NONE, 99, 99, 99
 #define MODULE state, SLAVOTUK_STATE_SIZE
-#define STORE store, SLAVOTUK_STORE_SIZE
-#define BOARD MODULE, STORE
-#define PARAMETERS parameters, SLAVOTUK_PARAMETERS_SIZE
 #define NAMED(last) named(last), SLAVOTUK_NAME_SIZE
 #define VALUES values, SLAVOTUK_MESSAGE_VALUES
 #define WORDS words, SLAVOTUK_CREDENTIALS
@@ -32,44 +28,25 @@
 
 #define EXPECT(value, expected) expect(__LINE__, #value, (unsigned long)(value), (unsigned long)(expected))
 
-/* What is kept of the state and the store, and whether both are as they were. */
-#define KEEP() (memcpy(kept, state, SLAVOTUK_STATE_SIZE), memcpy(kept_store, store, SLAVOTUK_STORE_SIZE))
-#define EXPECT_KEPT()                                                                                                          \
-    do {                                                                                                                       \
-        EXPECT(memcmp(kept, state, SLAVOTUK_STATE_SIZE), 0);                                                                   \
-        EXPECT(memcmp(kept_store, store, SLAVOTUK_STORE_SIZE), 0);                                                             \
-    } while (0)
-
-/* A call that is refused and leaves both. */
-#define LEAVES(call, refusal)                                                                                                  \
-    do {                                                                                                                       \
-        KEEP();                                                                                                                \
-        EXPECT(call, refusal);                                                                                                 \
-        EXPECT_KEPT();                                                                                                         \
-    } while (0)
-
 /*
  * A call that is refused after the tests of its claim, the process standing at that place: its next number is one more, and no
- * other byte of the state has changed, nor one of the store. The same call is then out of turn.
+ * other byte of the state has changed. The same call is then out of turn.
  */
 #define SPENDS(place, call, refusal)                                                                                           \
     do {                                                                                                                       \
-        KEEP();                                                                                                                \
+        memcpy(kept, state, SLAVOTUK_STATE_SIZE);                                                                              \
         EXPECT(call, refusal);                                                                                                 \
         kept[NEXT_NUMBER(place)]++;                                                                                            \
-        EXPECT_KEPT();                                                                                                         \
+        EXPECT(memcmp(kept, state, SLAVOTUK_STATE_SIZE), 0);                                                                   \
         EXPECT(call, SLAVOTUK_REFUSED_OUT_OF_TURN);                                                                            \
-        EXPECT_KEPT();                                                                                                         \
+        EXPECT(memcmp(kept, state, SLAVOTUK_STATE_SIZE), 0);                                                                   \
     } while (0)
 
 static int disagreements = 0;
 static uint8_t kept[SLAVOTUK_STATE_SIZE];
-static uint8_t kept_store[SLAVOTUK_STORE_SIZE];
 static uint8_t *state;
-static uint8_t *store;
 static uint8_t *name;
 static uint8_t *listing;
-static uint8_t *parameters;
 
 static void expect(int line, const char *text, unsigned long value, unsigned long expected)
 {
@@ -139,12 +116,8 @@ static void make_module(void)
                           SLAVOTUK_CREDENTIALS), SLAVOTUK_DONE);
 }
 
-/*
- * What lies in read-only memory: a write would end the program. All zero is a fresh module without credentials, and an empty
- * store.
- */
+/* What lies in read-only memory: a write would end the program. All zero is a fresh module without credentials. */
 static const uint8_t read_only[SLAVOTUK_STATE_SIZE] = {0};
-static const uint8_t read_only_store[SLAVOTUK_STORE_SIZE] = {0};
 
 /* The module is a state; a byte more or less of it is none. */
 static void check_holds(void)
@@ -165,13 +138,13 @@ static void check_version(void)
     EXPECT(slavotuk_version(), SLAVOTUK_VERSION_NUMBER);
 }
 
-/* As document 01's table of numbers has them, and document 02's 16 to 18. */
+/* As document 01's table of numbers has them, and document 02's 18. */
 static void check_names(void)
 {
     static const char *const names[] = {
         "done",          "argument",       "session", "no version",  "version",     "credential",
         "no process",    "already active", "verdict", "out of turn", "not granted", "full",
-        "name taken",    "spent",          "message", "room",        "locked",      "owned",
+        "name taken",    "spent",          "message", "room",        "unknown",     "unknown",
         "only elevated", "unknown",
     };
     for (uint32_t number = 0; number <= SLAVOTUK_REFUSED_ONLY_ELEVATED + 1; number++) {
@@ -261,39 +234,6 @@ static void check_nulls(void)
     EXPECT(type, 1);
 }
 
-/* The same of the calls that are lent a store, on a board in the default state. */
-static void check_store_nulls(void)
-{
-    size_t length = 1;
-    uint32_t locked = 1;
-    EXPECT(slavotuk_holds_store(NULL, 0, STORE), SLAVOTUK_REFUSED_ARGUMENT);
-    EXPECT(slavotuk_holds_store(MODULE, NULL, 0), SLAVOTUK_REFUSED_ARGUMENT);
-    EXPECT(slavotuk_set_parameters(NULL, 0, STORE, HERE, NO_CLAIM, 5, NULL, 0), SLAVOTUK_REFUSED_ARGUMENT);
-    EXPECT(slavotuk_set_parameters(MODULE, NULL, 0, HERE, NO_CLAIM, 5, NULL, 0), SLAVOTUK_REFUSED_ARGUMENT);
-    EXPECT(slavotuk_get_parameters(NULL, 0, STORE, HERE, NO_CLAIM, 0, PARAMETERS, &length, &locked), SLAVOTUK_REFUSED_ARGUMENT);
-    EXPECT(length + locked, 0);
-    length = locked = 1;
-    EXPECT(slavotuk_get_parameters(MODULE, NULL, 0, HERE, NO_CLAIM, 0, PARAMETERS, &length, &locked),
-           SLAVOTUK_REFUSED_ARGUMENT);
-    EXPECT(length + locked, 0);
-    EXPECT(slavotuk_first_word(NULL, 0, STORE, HERE, 0, 0, 0), SLAVOTUK_REFUSED_ARGUMENT);
-    EXPECT(slavotuk_first_word(MODULE, NULL, 0, HERE, 0, 0, 0), SLAVOTUK_REFUSED_ARGUMENT);
-    EXPECT(slavotuk_reset(NULL, 0, STORE, HERE, NO_CLAIM, 0), SLAVOTUK_REFUSED_ARGUMENT);
-    EXPECT(slavotuk_reset(MODULE, NULL, 0, HERE, NO_CLAIM, 0), SLAVOTUK_REFUSED_ARGUMENT);
-    EXPECT(slavotuk_take_ownership(NULL, 0, STORE, HERE, USER(0, 0)), SLAVOTUK_REFUSED_ARGUMENT);
-    EXPECT(slavotuk_take_ownership(MODULE, NULL, 0, HERE, USER(0, 0)), SLAVOTUK_REFUSED_ARGUMENT);
-    EXPECT(slavotuk_lock(NULL, 0, STORE, HERE, USER(0, 0), 0), SLAVOTUK_REFUSED_ARGUMENT);
-    EXPECT(slavotuk_lock(MODULE, NULL, 0, HERE, USER(0, 0), 0), SLAVOTUK_REFUSED_ARGUMENT);
-    EXPECT(slavotuk_unlock(NULL, 0, STORE, HERE, USER(0, 0), 0), SLAVOTUK_REFUSED_ARGUMENT);
-    EXPECT(slavotuk_unlock(MODULE, NULL, 0, HERE, USER(0, 0), 0), SLAVOTUK_REFUSED_ARGUMENT);
-    EXPECT(slavotuk_restore_with_store(NULL, 0, STORE, no_credentials, sizeof no_credentials), SLAVOTUK_REFUSED_ARGUMENT);
-    EXPECT(slavotuk_restore_with_store(MODULE, NULL, 0, no_credentials, sizeof no_credentials), SLAVOTUK_REFUSED_ARGUMENT);
-    EXPECT(slavotuk_restore_with_store(BOARD, NULL, 0), SLAVOTUK_REFUSED_MESSAGE);
-    /* where nothing is to be read or written, null will do */
-    EXPECT(slavotuk_get_parameters(BOARD, HERE, NO_CLAIM, 0, NULL, 0, &length, &locked), SLAVOTUK_DONE);
-    EXPECT(slavotuk_set_parameters(BOARD, HERE, NO_CLAIM, 5, NULL, 0), SLAVOTUK_DONE);
-}
-
 /* The same of what reads and writes all messages. */
 static void check_message_nulls(void)
 {
@@ -338,8 +278,7 @@ static void check_sessions(void)
 static void check_no_session(uint32_t port, uint32_t session)
 {
     size_t length = 1;
-    uint32_t locked = 1;
-    KEEP();
+    memcpy(kept, state, SLAVOTUK_STATE_SIZE);
     EXPECT(slavotuk_open(MODULE, port, session), SLAVOTUK_REFUSED_ARGUMENT);
     EXPECT(slavotuk_close(MODULE, port, session), SLAVOTUK_REFUSED_ARGUMENT);
     EXPECT(slavotuk_select(MODULE, port, session, SLAVOTUK_VERSION_1_0), SLAVOTUK_REFUSED_ARGUMENT);
@@ -354,16 +293,7 @@ static void check_no_session(uint32_t port, uint32_t session)
     EXPECT(length, 0);
     EXPECT(slavotuk_kill(MODULE, port, session, USER(0, 0), NAMED(0)), SLAVOTUK_REFUSED_ARGUMENT);
     EXPECT(slavotuk_set_word(MODULE, port, session, USER(0, 0), 0, 0, 0), SLAVOTUK_REFUSED_ARGUMENT);
-    EXPECT(slavotuk_set_parameters(BOARD, port, session, NO_CLAIM, 0, PARAMETERS), SLAVOTUK_REFUSED_ARGUMENT);
-    length = 1;
-    EXPECT(slavotuk_get_parameters(BOARD, port, session, NO_CLAIM, 0, PARAMETERS, &length, &locked), SLAVOTUK_REFUSED_ARGUMENT);
-    EXPECT(length + locked, 0);
-    EXPECT(slavotuk_first_word(BOARD, port, session, 0, 0, 0), SLAVOTUK_REFUSED_ARGUMENT);
-    EXPECT(slavotuk_reset(BOARD, port, session, NO_CLAIM, 0), SLAVOTUK_REFUSED_ARGUMENT);
-    EXPECT(slavotuk_take_ownership(BOARD, port, session, USER(0, 0)), SLAVOTUK_REFUSED_ARGUMENT);
-    EXPECT(slavotuk_lock(BOARD, port, session, USER(0, 0), 0), SLAVOTUK_REFUSED_ARGUMENT);
-    EXPECT(slavotuk_unlock(BOARD, port, session, USER(0, 0), 0), SLAVOTUK_REFUSED_ARGUMENT);
-    EXPECT_KEPT();
+    EXPECT(memcmp(kept, state, SLAVOTUK_STATE_SIZE), 0);
 }
 
 /* No session of port 0 is one of port 1, also where that one is open. */
@@ -894,201 +824,9 @@ static void check_spent(void)
     EXPECT(slavotuk_end(MODULE, HERE, 0, 65535, 1, 0), SLAVOTUK_REFUSED_SPENT);
 }
 
-/*
- * Credential 3 has class 3, 1 has it not, 6 has it only under elevation, and each has a process in session 0 of port 0, at the
- * places 0, 1 and 2; 7 is not provisioned. The store is empty.
- */
-static void make_board(void)
-{
-    make_module();
-    EXPECT(slavotuk_open(MODULE, HERE), SLAVOTUK_DONE);
-    EXPECT(slavotuk_select(MODULE, HERE, SLAVOTUK_VERSION_1_0), SLAVOTUK_DONE);
-    memset(store, 0, SLAVOTUK_STORE_SIZE);
-    EXPECT(slavotuk_first_word(BOARD, HERE, 6, UINT32_MAX, UINT32_MAX), SLAVOTUK_DONE);
-    EXPECT(slavotuk_start(MODULE, HERE, 3, NAMED(3)), SLAVOTUK_DONE);
-    EXPECT(slavotuk_start(MODULE, HERE, 1, NAMED(1)), SLAVOTUK_DONE);
-    EXPECT(slavotuk_start(MODULE, HERE, 6, NAMED(6)), SLAVOTUK_DONE);
-}
-
-/* The store is one; a byte more or less of it is none, nor is one that does not fit. */
-static void check_store(void)
-{
-    uint8_t *longer = allocate(SLAVOTUK_STORE_SIZE + 1);
-    EXPECT(slavotuk_holds_store(read_only, sizeof read_only, read_only_store, sizeof read_only_store), SLAVOTUK_DONE);
-    EXPECT(slavotuk_holds_store(BOARD), SLAVOTUK_DONE);
-    memset(longer, 0, SLAVOTUK_STORE_SIZE + 1);
-    EXPECT(slavotuk_holds_store(MODULE, longer, SLAVOTUK_STORE_SIZE - 1), SLAVOTUK_REFUSED_ARGUMENT);
-    EXPECT(slavotuk_holds_store(MODULE, longer, SLAVOTUK_STORE_SIZE + 1), SLAVOTUK_REFUSED_ARGUMENT);
-    EXPECT(slavotuk_holds_store(state, SLAVOTUK_STATE_SIZE - 1, longer, SLAVOTUK_STORE_SIZE), SLAVOTUK_REFUSED_ARGUMENT);
-    EXPECT(slavotuk_holds_store(MODULE, longer + 1, SLAVOTUK_STORE_SIZE), SLAVOTUK_DONE);
-    /* a lock of the last credential, which the module has not provisioned */
-    longer[1 + 3 * (SLAVOTUK_CREDENTIALS - 1)] = 1;
-    EXPECT(slavotuk_holds_store(MODULE, longer, SLAVOTUK_STORE_SIZE), SLAVOTUK_REFUSED_ARGUMENT);
-    EXPECT(slavotuk_reset(MODULE, longer, SLAVOTUK_STORE_SIZE, HERE, NO_CLAIM, SLAVOTUK_RESET_ALL), SLAVOTUK_REFUSED_ARGUMENT);
-    free(longer);
-}
-
-/* Parameters at their bound and one past it, set and handed out. The default state asks for no claim. */
-static void check_parameters(void)
-{
-    uint8_t *longer = allocate(SLAVOTUK_PARAMETERS_SIZE + 1);
-    size_t length = 1;
-    uint32_t locked = 1;
-    memset(longer, 0x5a, SLAVOTUK_PARAMETERS_SIZE + 1);
-    LEAVES(slavotuk_set_parameters(BOARD, HERE, NO_CLAIM, 7, longer, SLAVOTUK_PARAMETERS_SIZE + 1), SLAVOTUK_REFUSED_ARGUMENT);
-    LEAVES(slavotuk_set_parameters(BOARD, HERE, NO_CLAIM, SLAVOTUK_CREDENTIALS, longer, 1), SLAVOTUK_REFUSED_ARGUMENT);
-    LEAVES(slavotuk_set_parameters(BOARD, HERE, SLAVOTUK_CLAIM_NONE + 1, 3, 0, 1, 7, longer, 1), SLAVOTUK_REFUSED_ARGUMENT);
-    LEAVES(slavotuk_first_word(BOARD, HERE, 7, 1, 1), SLAVOTUK_REFUSED_CREDENTIAL);
-    LEAVES(slavotuk_get_parameters(BOARD, HERE, NO_CLAIM, 7, PARAMETERS, &length, &locked), SLAVOTUK_REFUSED_CREDENTIAL);
-    EXPECT(length + locked, 0);
-    EXPECT(slavotuk_set_parameters(BOARD, HERE, NO_CLAIM, 7, longer, SLAVOTUK_PARAMETERS_SIZE), SLAVOTUK_DONE);
-    EXPECT(slavotuk_first_word(BOARD, HERE, 7, 0, 0), SLAVOTUK_DONE);
-    memset(parameters, 0xee, SLAVOTUK_PARAMETERS_SIZE);
-    length = locked = 1;
-    LEAVES(slavotuk_get_parameters(BOARD, HERE, NO_CLAIM, 7, parameters, SLAVOTUK_PARAMETERS_SIZE - 1, &length, &locked),
-           SLAVOTUK_REFUSED_ROOM);
-    EXPECT(length + locked, 0);
-    EXPECT(parameters[0], 0xee);
-    EXPECT(slavotuk_get_parameters(BOARD, HERE, NO_CLAIM, 7, PARAMETERS, &length, &locked), SLAVOTUK_DONE);
-    EXPECT(length, SLAVOTUK_PARAMETERS_SIZE);
-    EXPECT(memcmp(parameters, longer, SLAVOTUK_PARAMETERS_SIZE), 0);
-    /* later bytes stay, of the store none */
-    EXPECT(slavotuk_set_parameters(BOARD, HERE, NO_CLAIM, 7, (const uint8_t *)"abc", 3), SLAVOTUK_DONE);
-    EXPECT(slavotuk_get_parameters(BOARD, HERE, NO_CLAIM, 7, PARAMETERS, &length, &locked), SLAVOTUK_DONE);
-    EXPECT(length == 3 && locked == 0 && parameters[2] == 'c' && parameters[3] == 0x5a, 1);
-    EXPECT(store[SLAVOTUK_STORE_SIZE - SLAVOTUK_PARAMETERS_SIZE + 2] == 'c', 1);
-    EXPECT(store[SLAVOTUK_STORE_SIZE - SLAVOTUK_PARAMETERS_SIZE + 3], 0);
-    free(longer);
-}
-
-/* What is asked of a claim that is there, in the default state too: the process stands at that place. */
-static void check_claims(void)
-{
-    size_t length = 1;
-    uint32_t locked = 1;
-    SPENDS(1, slavotuk_set_parameters(BOARD, HERE, USER(1, 0), 1, NULL, 0), SLAVOTUK_REFUSED_NOT_GRANTED);
-    SPENDS(1, slavotuk_get_parameters(BOARD, HERE, USER(1, 1), 7, PARAMETERS, &length, &locked), SLAVOTUK_REFUSED_NOT_GRANTED);
-    SPENDS(1, slavotuk_reset(BOARD, HERE, USER(1, 2), SLAVOTUK_RESET_ALL), SLAVOTUK_REFUSED_NOT_GRANTED);
-    SPENDS(1, slavotuk_take_ownership(BOARD, HERE, USER(1, 3)), SLAVOTUK_REFUSED_NOT_GRANTED);
-    SPENDS(1, slavotuk_lock(BOARD, HERE, USER(1, 4), 1), SLAVOTUK_REFUSED_NOT_GRANTED);
-    SPENDS(2, slavotuk_set_parameters(BOARD, HERE, USER(6, 0), 6, NULL, 0), SLAVOTUK_REFUSED_ONLY_ELEVATED);
-    SPENDS(2, slavotuk_lock(BOARD, HERE, USER(6, 1), 6), SLAVOTUK_REFUSED_ONLY_ELEVATED);
-    SPENDS(2, slavotuk_unlock(BOARD, HERE, USER(6, 2), 3), SLAVOTUK_REFUSED_NOT_GRANTED);
-    /* its own parameters ask for no class */
-    EXPECT(slavotuk_get_parameters(BOARD, HERE, USER(1, 5), 1, NULL, 0, &length, &locked), SLAVOTUK_DONE);
-    LEAVES(slavotuk_reset(BOARD, HERE, SLAVOTUK_CLAIM_USER, 3, 0, 0, 1), SLAVOTUK_REFUSED_VERDICT);
-    LEAVES(slavotuk_reset(BOARD, HERE, ELEVATED, 1), SLAVOTUK_REFUSED_NO_PROCESS);
-    /* where a claim must be */
-    LEAVES(slavotuk_take_ownership(BOARD, HERE, NO_CLAIM), SLAVOTUK_REFUSED_ARGUMENT);
-    LEAVES(slavotuk_lock(BOARD, HERE, NO_CLAIM, 3), SLAVOTUK_REFUSED_ARGUMENT);
-    LEAVES(slavotuk_unlock(BOARD, HERE, NO_CLAIM, 3), SLAVOTUK_REFUSED_ARGUMENT);
-    LEAVES(slavotuk_record(MODULE, HERE, NO_CLAIM, SLAVOTUK_CLASS_DEVICE_FIRST), SLAVOTUK_REFUSED_ARGUMENT);
-}
-
-/* Credential 3 locks and unlocks itself. */
-static void check_locks(void)
-{
-    size_t length = 1;
-    uint32_t locked = 0;
-    EXPECT(slavotuk_lock(BOARD, HERE, USER(3, 0), 3), SLAVOTUK_DONE);
-    SPENDS(0, slavotuk_lock(BOARD, HERE, USER(3, 1), 3), SLAVOTUK_REFUSED_LOCKED);
-    SPENDS(0, slavotuk_set_parameters(BOARD, HERE, USER(3, 2), 3, NULL, 0), SLAVOTUK_REFUSED_LOCKED);
-    SPENDS(0, slavotuk_reset(BOARD, HERE, USER(3, 3), 3), SLAVOTUK_REFUSED_LOCKED);
-    LEAVES(slavotuk_set_parameters(BOARD, HERE, NO_CLAIM, 3, NULL, 0), SLAVOTUK_REFUSED_LOCKED);
-    LEAVES(slavotuk_first_word(BOARD, HERE, 3, 0, 0), SLAVOTUK_REFUSED_LOCKED);
-    LEAVES(slavotuk_reset(BOARD, HERE, NO_CLAIM, 3), SLAVOTUK_REFUSED_LOCKED);
-    LEAVES(slavotuk_get_parameters(BOARD, HERE, NO_CLAIM, 3, PARAMETERS, &length, &locked), SLAVOTUK_REFUSED_NO_PROCESS);
-    EXPECT(slavotuk_get_parameters(BOARD, HERE, USER(3, 4), 3, NULL, 0, &length, &locked), SLAVOTUK_DONE);
-    EXPECT(length == 0 && locked == 1, 1);
-    EXPECT(slavotuk_unlock(BOARD, HERE, USER(3, 5), 3), SLAVOTUK_DONE);
-    EXPECT(slavotuk_unlock(BOARD, HERE, USER(3, 6), 3), SLAVOTUK_DONE);
-    EXPECT(slavotuk_get_parameters(BOARD, HERE, NO_CLAIM, 3, NULL, 0, &length, &locked), SLAVOTUK_DONE);
-    EXPECT(locked, 0);
-}
-
-static void check_ownership(void)
-{
-    size_t length = 1;
-    uint32_t locked = 1;
-    EXPECT(slavotuk_take_ownership(BOARD, HERE, USER(3, 7)), SLAVOTUK_DONE);
-    SPENDS(0, slavotuk_take_ownership(BOARD, HERE, USER(3, 8)), SLAVOTUK_REFUSED_OWNED);
-    LEAVES(slavotuk_set_parameters(BOARD, HERE, NO_CLAIM, 1, NULL, 0), SLAVOTUK_REFUSED_NO_PROCESS);
-    LEAVES(slavotuk_get_parameters(BOARD, HERE, NO_CLAIM, 1, PARAMETERS, &length, &locked), SLAVOTUK_REFUSED_NO_PROCESS);
-    EXPECT(length + locked, 0);
-    LEAVES(slavotuk_first_word(BOARD, HERE, 1, 0, 0), SLAVOTUK_REFUSED_NO_PROCESS);
-    LEAVES(slavotuk_reset(BOARD, HERE, NO_CLAIM, SLAVOTUK_RESET_ALL), SLAVOTUK_REFUSED_NO_PROCESS);
-    EXPECT(slavotuk_set_parameters(BOARD, HERE, USER(3, 9), 1, (const uint8_t *)"abc", 3), SLAVOTUK_DONE);
-    EXPECT(slavotuk_record(MODULE, HERE, USER(1, 6), SLAVOTUK_CLASS_DEVICE_FIRST), SLAVOTUK_REFUSED_NO_PROCESS);
-}
-
-/* The board goes through a power cycle with its store, whose credential 7 the image does not provision. */
-static void check_restore_with_store(void)
-{
-    uint8_t *image = allocate(SLAVOTUK_IMAGE_SIZE), *restored = allocate(SLAVOTUK_STATE_SIZE);
-    uint8_t *beside = allocate(SLAVOTUK_STORE_SIZE);
-    size_t length = 0;
-    EXPECT(slavotuk_image(MODULE, image, SLAVOTUK_IMAGE_SIZE, &length), SLAVOTUK_DONE);
-    image[0] &= 0x7f;
-    memset(restored, 0xee, SLAVOTUK_STATE_SIZE);
-    memcpy(beside, store, SLAVOTUK_STORE_SIZE);
-#define RESTORED restored, SLAVOTUK_STATE_SIZE, beside, SLAVOTUK_STORE_SIZE
-    EXPECT(slavotuk_restore_with_store(restored, SLAVOTUK_STATE_SIZE - 1, beside, SLAVOTUK_STORE_SIZE, image, length),
-           SLAVOTUK_REFUSED_ARGUMENT);
-    EXPECT(slavotuk_restore_with_store(restored, SLAVOTUK_STATE_SIZE, beside, SLAVOTUK_STORE_SIZE - 1, image, length),
-           SLAVOTUK_REFUSED_ARGUMENT);
-    beside[0] = 2;
-    EXPECT(slavotuk_restore_with_store(RESTORED, image, length - 1), SLAVOTUK_REFUSED_ARGUMENT);
-    beside[0] = store[0];
-    EXPECT(slavotuk_restore_with_store(RESTORED, image, length - 1), SLAVOTUK_REFUSED_MESSAGE);
-    EXPECT(memcmp(beside, store, SLAVOTUK_STORE_SIZE), 0);
-    EXPECT(restored[0] == 0xee && restored[SLAVOTUK_STATE_SIZE - 1] == 0xee, 1);
-    EXPECT(slavotuk_restore_with_store(RESTORED, image, length), SLAVOTUK_DONE);
-    EXPECT(slavotuk_holds_store(RESTORED), SLAVOTUK_DONE);
-    EXPECT(slavotuk_holds_store(restored, SLAVOTUK_STATE_SIZE, STORE), SLAVOTUK_REFUSED_ARGUMENT);
-    EXPECT(slavotuk_open(restored, SLAVOTUK_STATE_SIZE, HERE), SLAVOTUK_DONE);
-    EXPECT(slavotuk_select(restored, SLAVOTUK_STATE_SIZE, HERE, SLAVOTUK_VERSION_1_0), SLAVOTUK_DONE);
-    EXPECT(slavotuk_reset(RESTORED, HERE, NO_CLAIM, 1), SLAVOTUK_REFUSED_NO_PROCESS);
-#undef RESTORED
-    free(image);
-    free(restored);
-    free(beside);
-}
-
-/* The targets of a reset; the last leaves nothing of the board but its sessions. */
-static void check_resets(void)
-{
-    LEAVES(slavotuk_reset(BOARD, HERE, USER(3, 10), SLAVOTUK_CREDENTIALS), SLAVOTUK_REFUSED_ARGUMENT);
-    LEAVES(slavotuk_reset(BOARD, HERE, USER(3, 10), SLAVOTUK_RESET_ALL - 1), SLAVOTUK_REFUSED_ARGUMENT);
-    LEAVES(slavotuk_reset(BOARD, HERE, USER(3, 10), SLAVOTUK_RESET_ALL + 1), SLAVOTUK_REFUSED_ARGUMENT);
-    EXPECT(slavotuk_reset(BOARD, HERE, USER(3, 10), SLAVOTUK_CREDENTIALS - 1), SLAVOTUK_DONE);
-    EXPECT(slavotuk_start(MODULE, HERE, SLAVOTUK_CREDENTIALS - 1, NAMED(9)), SLAVOTUK_REFUSED_CREDENTIAL);
-    SPENDS(0, slavotuk_take_ownership(BOARD, HERE, USER(3, 11)), SLAVOTUK_REFUSED_OWNED);
-    EXPECT(slavotuk_reset(BOARD, HERE, USER(3, 12), SLAVOTUK_RESET_ALL), SLAVOTUK_DONE);
-    EXPECT(memcmp(store, read_only_store, SLAVOTUK_STORE_SIZE), 0);
-    EXPECT(slavotuk_close(MODULE, HERE), SLAVOTUK_DONE);
-    EXPECT(memcmp(state, read_only, SLAVOTUK_STATE_SIZE), 0);
-}
-
-static void check_board(void)
-{
-    make_board();
-    check_store_nulls();
-    check_store();
-    check_parameters();
-    check_claims();
-    check_locks();
-    check_ownership();
-    check_restore_with_store();
-    check_resets();
-}
-
 int main(void)
 {
     state = allocate(SLAVOTUK_STATE_SIZE);
-    store = allocate(SLAVOTUK_STORE_SIZE);
-    memset(store, 0, SLAVOTUK_STORE_SIZE);
-    parameters = allocate(SLAVOTUK_PARAMETERS_SIZE);
-    memset(parameters, 0, SLAVOTUK_PARAMETERS_SIZE);
     name = allocate(SLAVOTUK_NAME_SIZE);
     listing = allocate(SLAVOTUK_LISTING_SIZE);
     check_fresh();
@@ -1116,11 +854,8 @@ int main(void)
     check_image();
     check_rescues();
     check_spent();
-    check_board();
     free(state);
-    free(store);
     free(name);
     free(listing);
-    free(parameters);
     return disagreements == 0 ? EXIT_SUCCESS : EXIT_FAILURE;
 }

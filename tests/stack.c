@@ -16,7 +16,6 @@
 enum { STACK = 256 * 1024, PAINT = 0xa5, BEFORE = 6 };
 
 #define MODULE state, SLAVOTUK_STATE_SIZE
-#define BOARD MODULE, store, SLAVOTUK_STORE_SIZE
 #define HERE 1, 0 /* the port, and its session */
 #define USER(credential, number) SLAVOTUK_CLAIM_USER, credential, number, 1
 
@@ -26,9 +25,6 @@ static ucontext_t outside, inside;
 static void (*called)(void);
 
 static uint8_t state[SLAVOTUK_STATE_SIZE];
-static uint8_t store[SLAVOTUK_STORE_SIZE];
-static uint8_t parameters[SLAVOTUK_PARAMETERS_SIZE];
-static uint32_t target, locked;
 static uint8_t name[SLAVOTUK_NAME_SIZE];
 static uint8_t listing[SLAVOTUK_LISTING_SIZE];
 static uint8_t image[SLAVOTUK_IMAGE_SIZE];
@@ -97,21 +93,6 @@ static void rescue0(void)
 {
     slavotuk_rescue(image, image_length, rescued, sizeof rescued, &length, &cleared, &kept, &dropped);
 }
-static void holds_store0(void) { slavotuk_holds_store(BOARD); }
-static void set_parameters0(void)
-{
-    slavotuk_set_parameters(BOARD, HERE, USER(0, 0), 0, parameters, sizeof parameters);
-}
-static void get_parameters0(void)
-{
-    slavotuk_get_parameters(BOARD, HERE, USER(0, 0), 1, parameters, sizeof parameters, &length, &locked);
-}
-static void first_word0(void) { slavotuk_first_word(BOARD, HERE, 0, 1, 1); }
-static void reset0(void) { slavotuk_reset(BOARD, HERE, USER(0, 0), target); }
-static void take_ownership0(void) { slavotuk_take_ownership(BOARD, HERE, USER(0, 0)); }
-static void lock0(void) { slavotuk_lock(BOARD, HERE, USER(0, 0), 0); }
-static void unlock0(void) { slavotuk_unlock(BOARD, HERE, USER(0, 0), 0); }
-static void restore_with_store0(void) { slavotuk_restore_with_store(BOARD, image, image_length); }
 static void write_request0(void) { slavotuk_write_request(request, sizeof request, SLAVOTUK_WANTED_ALL); }
 static void read_request0(void) { slavotuk_read_request(request, sizeof request, &number); }
 static void read_count0(void) { slavotuk_read_count(listing, length, &number); }
@@ -198,32 +179,6 @@ static void damaged(void)
            image + SLAVOTUK_IMAGE_HEADER_SIZE + SLAVOTUK_IMAGE_ROW_SIZE - SLAVOTUK_NAME_SIZE, SLAVOTUK_NAME_SIZE);
 }
 
-/* The store has the longest parameters for every credential, as docs/STORE.md draws them. */
-static void with_parameters(void)
-{
-    for (size_t credential = 0; credential < SLAVOTUK_CREDENTIALS; credential++) {
-        store[3 + 3 * credential] = SLAVOTUK_PARAMETERS_SIZE >> 8;
-    }
-    memset(store + 1 + 3 * SLAVOTUK_CREDENTIALS, 0x5a, SLAVOTUK_PARAMETERS_SIZE * SLAVOTUK_CREDENTIALS);
-}
-
-/* A full table and a full store: all is reset, or credential 0, which all processes are of. */
-static void filled(void) { full(); with_parameters(); target = SLAVOTUK_RESET_ALL; }
-static void filled_one(void) { filled(); target = 0; }
-static void filled_locked(void) { filled_one(); store[1] = 1; }
-static void filled_owned(void) { filled(); store[0] = 1; }
-
-/* The image of a module without credentials, beside the full store. */
-static void forgotten(void)
-{
-    memset(state, 0, sizeof state);
-    image0();
-    with_parameters();
-}
-static void imaged_filled(void) { imaged(); with_parameters(); }
-static void imaged_old_filled(void) { imaged_old(); with_parameters(); }
-static void damaged_filled(void) { damaged(); with_parameters(); }
-
 /* No credential is provisioned any more: all words are cleared, and all rows dropped. */
 static void unmasked(void)
 {
@@ -277,16 +232,6 @@ static const struct {
     {"slavotuk_image", image0, {nothing, fresh, full, all_saved}},
     {"slavotuk_restore", restore0, {no_image, imaged, imaged_old, damaged}},
     {"slavotuk_rescue", rescue0, {no_image, imaged, imaged_old, damaged, unmasked}},
-    {"slavotuk_holds_store", holds_store0, {nothing, fresh, filled, filled_locked}},
-    {"slavotuk_set_parameters", set_parameters0, {nothing, opened, filled, filled_locked, not_granted, only_elevated}},
-    {"slavotuk_get_parameters", get_parameters0, {nothing, opened, filled, filled_locked, not_granted, only_elevated}},
-    {"slavotuk_first_word", first_word0, {nothing, opened, filled, filled_locked, filled_owned}},
-    {"slavotuk_reset", reset0, {nothing, filled, filled_one, filled_locked, not_granted, only_elevated}},
-    {"slavotuk_take_ownership", take_ownership0, {nothing, opened, filled, filled_owned, not_granted, only_elevated}},
-    {"slavotuk_lock", lock0, {nothing, opened, filled, filled_locked, not_granted, only_elevated}},
-    {"slavotuk_unlock", unlock0, {nothing, opened, filled, filled_locked, not_granted, only_elevated}},
-    {"slavotuk_restore_with_store", restore_with_store0,
-     {no_image, imaged_filled, imaged_old_filled, damaged_filled, forgotten}},
     {"slavotuk_read_request", read_request0, {nothing, listed}},
     {"slavotuk_write_request", write_request0, {nothing}},
     {"slavotuk_read_count", read_count0, {nothing, listed}},
@@ -307,12 +252,11 @@ int main(int count, char **words)
         for (size_t of = 0; of < BEFORE && measured[at].before[of] != NULL; of++) {
             size_t use;
             memset(state, 0xff, sizeof state);
-            memset(store, 0, sizeof store);
             measured[at].before[of]();
             use = use_of(measured[at].call);
             most = use > most ? use : most;
         }
-        printf("%-27s %6lu\n", measured[at].entry, (unsigned long)most);
+        printf("%-24s %6lu\n", measured[at].entry, (unsigned long)most);
         within = within && most <= allowed;
     }
     return within ? EXIT_SUCCESS : EXIT_FAILURE;

@@ -1,4 +1,4 @@
-//! Carries commands out on the module that the console holds, and on its store.
+//! Carries commands out on the module that the console holds.
 
 use crate::line::{quoted, visible, AllGrants, Command, Records, DOCUMENT_01};
 use crate::replace::Failure;
@@ -6,8 +6,7 @@ use crate::write::Written;
 use crate::{draw, files, formats, help, read, rescue};
 use slavotuk::entries::{self, RawClaim};
 use slavotuk::{
-    answered, Call, Listing, Module, Provision, Refusal, Store, WireCredential, FULL_IMAGE_LENGTH,
-    REQUEST_LENGTH, STATE_LENGTH, STORE_LENGTH,
+    Call, Listing, Module, Refusal, WireCredential, FULL_IMAGE_LENGTH, REQUEST_LENGTH, STATE_LENGTH,
 };
 use std::io::{self, Write};
 use std::path::Path;
@@ -44,10 +43,9 @@ pub enum Next {
     End,
 }
 
-/// The module with its store, and the calls that it has answered.
+/// The module and the calls that it has answered.
 pub struct Console {
     state: [u8; STATE_LENGTH],
-    store: [u8; STORE_LENGTH],
     history: History,
 }
 
@@ -85,7 +83,6 @@ impl Console {
         make_fresh(&mut state, &DOCUMENT_01);
         Console {
             state,
-            store: Store::empty().into_bytes(),
             history: History::since("the start, with fresh 0=15 1=16"),
         }
     }
@@ -100,9 +97,8 @@ impl Console {
         match command {
             Command::Fresh(grants) => self.fresh(&grants, line, out)?,
             Command::Call(call) => self.call(call, line, out)?,
-            Command::Provision(call) => self.provision(call, line, out)?,
             Command::Records(records) => self.records(records, line, out)?,
-            Command::Show { whole } => draw::module(&self.module()?, &self.store()?, whole, out)?,
+            Command::Show { whole } => draw::module(&self.module()?, whole, out)?,
             Command::Request(wanted) => request(wanted, out)?,
             Command::Read(message) => read::message(&message, out)?,
             Command::Write(written) => write(&written, out)?,
@@ -110,13 +106,13 @@ impl Console {
                 files::save(&file, &self.state)?;
                 writeln!(out, "saved {STATE_LENGTH} bytes")?;
             }
-            Command::Load { file, store } => self.load(&file, store.as_deref(), line, out)?,
-            Command::Image(file) => self.image(&file, line, out)?,
-            Command::Store(file) => {
-                files::write(&file, &self.store)?;
-                writeln!(out, "written {STORE_LENGTH} bytes")?;
+            Command::Load(file) => {
+                self.state = files::load(&file)?;
+                writeln!(out, "loaded {STATE_LENGTH} bytes")?;
+                self.begin_history(line, out)?;
             }
-            Command::Restore { file, store } => self.restore(&file, store.as_deref(), line, out)?,
+            Command::Image(file) => self.image(&file, line, out)?,
+            Command::Restore(file) => self.restore(&file, line, out)?,
             Command::Rescue { from, to } => rescue::rescue(&from, &to, out)?,
             Command::History => self.history.draw(out)?,
             Command::Help(None) => help::overview(out)?,
@@ -138,20 +134,6 @@ impl Console {
             .map_err(|refusal| format!("the state is none: {}", draw::answer(refusal.number())))
     }
 
-    /// The store as it can be looked at. Only the module's calls have written it, and what a file held that is a store.
-    fn store(&self) -> Result<Store, String> {
-        Store::from_bytes(self.store)
-            .map_err(|refusal| format!("the store is none: {}", draw::answer(refusal.number())))
-    }
-
-    /// Says so where the store was left beside a state that it does not fit.
-    fn tell_misfit(&self, out: &mut impl Write) -> io::Result<()> {
-        if entries::holds_store(&self.state, &self.store) != 0 {
-            writeln!(out, "{}", draw::MISFIT)?;
-        }
-        Ok(())
-    }
-
     fn begin_history(&mut self, line: &str, out: &mut impl Write) -> io::Result<()> {
         self.history = History::since(line);
         writeln!(out, "a new history begins")
@@ -159,31 +141,7 @@ impl Console {
 
     fn fresh(&mut self, grants: &AllGrants, line: &str, out: &mut impl Write) -> io::Result<()> {
         writeln!(out, "{}", draw::answer(make_fresh(&mut self.state, grants)))?;
-        self.store = Store::empty().into_bytes();
         self.begin_history(line, out)
-    }
-
-    /// Takes the state from a file, and the store from another: where that is not named, the store stays.
-    fn load(
-        &mut self,
-        file: &Path,
-        store: Option<&Path>,
-        line: &str,
-        out: &mut impl Write,
-    ) -> Result<(), Trouble> {
-        let module = files::load(file)?;
-        let beside = match store {
-            None => String::new(),
-            Some(store) => {
-                self.store = files::load_store(store, &module)?.into_bytes();
-                format!(", and a store of {STORE_LENGTH}")
-            }
-        };
-        self.state = module.into_bytes();
-        writeln!(out, "loaded {STATE_LENGTH} bytes{beside}")?;
-        self.tell_misfit(out)?;
-        self.begin_history(line, out)?;
-        Ok(())
     }
 
     /// Writes the image to a file, and answers when the disk has it.
@@ -195,47 +153,25 @@ impl Console {
         if number != 0 {
             writeln!(out, "{answer}")?;
         } else {
-            files::write(file, image.get(..length).unwrap_or_default())?;
+            files::write_image(file, image.get(..length).unwrap_or_default())?;
             writeln!(out, "{answer}\nwritten {length} bytes")?;
         }
         self.history.add(line, answer);
         Ok(())
     }
 
-    /// Makes the module from the image in a file, beside the store in another: where that is not named, the store stays.
-    fn restore(
-        &mut self,
-        file: &Path,
-        store: Option<&Path>,
-        line: &str,
-        out: &mut impl Write,
-    ) -> Result<(), Trouble> {
+    /// Makes the module from the image in a file.
+    fn restore(&mut self, file: &Path, line: &str, out: &mut impl Write) -> Result<(), Trouble> {
         let image = files::read_image(file)?;
-        let mut store = store.map(files::read_store).transpose()?;
-        let number = match &mut store {
-            None => entries::restore(&mut self.state, &image),
-            Some(store) => entries::restore_with_store(&mut self.state, store, &image),
-        };
+        let number = entries::restore(&mut self.state, &image);
         let answer = draw::answer(number);
         writeln!(out, "{answer}")?;
-        if let Err(refusal) = answered(number) {
-            let why = match store {
-                Some(store) if refusal == Refusal::Argument => files::no_store(store.len()),
-                _ => files::no_image(image.len()),
-            };
-            writeln!(out, "{why}")?;
+        if number != 0 {
+            writeln!(out, "{}", files::no_image(image.len()))?;
             self.history.add(line, answer);
             return Ok(());
         }
-        let beside = match store {
-            None => String::new(),
-            Some(store) => {
-                self.store.copy_from_slice(&store);
-                format!(", and a store of {STORE_LENGTH}")
-            }
-        };
-        writeln!(out, "restored from {} bytes{beside}", image.len())?;
-        self.tell_misfit(out)?;
+        writeln!(out, "restored from {} bytes", image.len())?;
         self.begin_history(line, out)?;
         Ok(())
     }
@@ -253,31 +189,6 @@ impl Console {
                 let message = response.get(..length).unwrap_or_default();
                 draw::dump(message, out)?;
                 listed(message, out)
-            }
-            _ => Ok(()),
-        }
-    }
-
-    /// Makes a call on the state and the store; parameters that are read are drawn.
-    fn provision(
-        &mut self,
-        mut call: Provision,
-        line: &str,
-        out: &mut impl Write,
-    ) -> io::Result<()> {
-        let number = call.make(&mut self.state, &mut self.store);
-        let answer = draw::answer(number);
-        writeln!(out, "{answer}")?;
-        self.history.add(line, answer);
-        match call {
-            Provision::GetParameters {
-                buffer,
-                length,
-                locked,
-                ..
-            } if number == 0 => {
-                let parameters = buffer.get(..length).unwrap_or_default();
-                draw::parameters(parameters, locked == 1, out)
             }
             _ => Ok(()),
         }

@@ -169,29 +169,6 @@ fn computed() -> String {
     text
 }
 
-/// What the page says of parameters: the bytes of SET_CRED_ID_PARAMS from CredentialType on are those of CRED_ID_PARAMS behind its CredentialID.
-#[test]
-fn the_document_has_the_parameters_that_are_stored() {
-    let message = |code: u8| {
-        let mut examples = examples().into_iter();
-        let found = examples.find(|(format, ..)| format.code == code);
-        found.unwrap().2
-    };
-    let (set, response) = (message(0x83), message(0x04));
-    let stored = &set[5..];
-    assert_eq!(response[6..], *stored);
-    assert_eq!(response[..4], [0x04, 0, 3, 0]);
-    let digits: Vec<String> = stored.iter().map(|byte| format!("{byte:02x}")).collect();
-    let page = std::fs::read_to_string(path("docs/WIRE.md")).unwrap();
-    assert!(page.contains(&format!("\n    {}\n", digits.join(" "))));
-    let counts = format!(
-        "has {} bytes, and {} of them are stored",
-        set.len(),
-        stored.len()
-    );
-    assert!(page.contains(&counts), "{counts}");
-}
-
 #[test]
 fn the_document_is_what_is_computed() {
     is_computed("docs/WIRE.md", MARK, RENEW, &computed());

@@ -107,10 +107,7 @@ fn played() -> Played {
             Command::Show { .. } => continue,
             Command::Call(call) => (Command::Call(call), 1),
             Command::Image(file) => (Command::Image(folder.0.join(file)), 2),
-            Command::Restore { file, store } => {
-                let (file, store) = (folder.0.join(file), store.map(|store| folder.0.join(store)));
-                (Command::Restore { file, store }, 2)
-            }
+            Command::Restore(file) => (Command::Restore(folder.0.join(file)), 2),
             command => (command, 2),
         };
         let written = match &command {

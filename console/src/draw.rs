@@ -2,7 +2,7 @@
 
 use crate::bytes;
 use slavotuk::{
-    Class, Credential, Grants, Listing, Lookup, Module, Port, Process, Row, Session, Store,
+    Class, Credential, Grants, Listing, Lookup, Module, Port, Process, Row, Session,
     WireCredential, NAME_LENGTH, PLACES,
 };
 use std::fmt::Display;
@@ -17,76 +17,30 @@ pub fn answer(number: u32) -> String {
     format!("{number} {name}")
 }
 
-/// What is said of a store beside a state that it does not fit.
-pub const MISFIT: &str = "the store does not fit this state: the calls of provisioning get 1";
-
-/// The sessions of each port, the credentials with what the store holds of them, and the process table.
-pub fn module(module: &Module, store: &Store, whole: bool, out: &mut impl Write) -> io::Result<()> {
+/// The sessions of each port, the credentials and the process table.
+pub fn module(module: &Module, whole: bool, out: &mut impl Write) -> io::Result<()> {
     for port in Port::all() {
         writeln!(out, "sessions of port {port}")?;
         for session in Session::all().filter(|session| session.port() == port) {
             writeln!(out, "  {session}  {}", module.phase(session))?;
         }
     }
-    credentials(module, store, out)?;
-    let processes: Vec<Process> = module.processes().collect();
-    table(&processes, whole, out)
-}
-
-/// The ownership, and each credential: those that are not provisioned in one line, but for what the store holds of one where it does not fit.
-fn credentials(module: &Module, store: &Store, out: &mut impl Write) -> io::Result<()> {
-    let ownership = match store.is_owned() {
-        true => "owned",
-        false => "in the default state",
-    };
-    writeln!(out, "credentials, {ownership}")?;
-    let is_provisioned = |credential: &Credential| module.grants(*credential).is_provisioned();
-    for credential in Credential::all().filter(is_provisioned) {
-        let granted = granted(module.grants(credential));
-        match held(store, credential).as_str() {
-            "" => writeln!(out, "  {credential}  {granted}")?,
-            held => writeln!(out, "  {credential}  {granted}  {held}")?,
-        }
+    writeln!(out, "credentials")?;
+    let (provisioned, others): (Vec<Credential>, Vec<Credential>) =
+        Credential::all().partition(|credential| module.grants(*credential).is_provisioned());
+    for credential in provisioned {
+        writeln!(
+            out,
+            "  {credential}  {}",
+            granted(module.grants(credential))
+        )?;
     }
-    let others = Credential::all().filter(|credential| !is_provisioned(credential));
-    let (strays, others): (Vec<Credential>, Vec<Credential>) =
-        others.partition(|credential| !held(store, *credential).is_empty());
     if !others.is_empty() {
         let others = ranges(others.into_iter().map(Credential::number));
         writeln!(out, "  {others}  not provisioned")?;
     }
-    for credential in &strays {
-        let held = held(store, *credential);
-        writeln!(
-            out,
-            "  {credential}  not provisioned, but in the store: {held}"
-        )?;
-    }
-    if !strays.is_empty() {
-        writeln!(out, "  {MISFIT}")?;
-    }
-    Ok(())
-}
-
-/// What a store holds of a credential: its lock, and the length of its parameters.
-fn held(store: &Store, credential: Credential) -> String {
-    let lock = store.is_locked(credential).then(|| "locked".into());
-    let length = store.parameters(credential).len();
-    let parameters =
-        (length != 0).then(|| format!("{length} {} of parameters", plural(length, "byte")));
-    let held: Vec<String> = lock.into_iter().chain(parameters).collect();
-    held.join(", ")
-}
-
-/// The parameters of a credential in the form in which they are set, and its lock.
-pub fn parameters(parameters: &[u8], locked: bool, out: &mut impl Write) -> io::Result<()> {
-    let lock = if locked { "locked" } else { "not locked" };
-    let length = parameters.len();
-    writeln!(out, "{length} {}, {lock}", plural(length, "byte"))?;
-    match parameters {
-        [] => Ok(()),
-        _ => writeln!(out, "  {}", bytes::written(parameters)),
-    }
+    let processes: Vec<Process> = module.processes().collect();
+    table(&processes, whole, out)
 }
 
 /// A provisioned credential's words and what they grant. The second word is drawn where it is not zero.
@@ -127,12 +81,6 @@ fn own_class(class: Class) -> Option<&'static str> {
         Class::SET_WORDS => Some("3 set words"),
         _ => None,
     }
-}
-
-/// A word for one thing, as it is for so many.
-pub fn plural(count: usize, what: &str) -> String {
-    let ending = if count == 1 { "" } else { "s" };
-    format!("{what}{ending}")
 }
 
 /// Rising numbers, those that follow each other drawn together.
@@ -287,10 +235,8 @@ mod tests {
     fn only_0_is_done() {
         assert_eq!(answer(0), "0 done");
         assert_eq!(answer(15), "15 room");
-        assert_eq!(answer(16), "16 locked");
-        assert_eq!(answer(17), "17 owned");
+        assert_eq!(answer(16), "16 unknown");
         assert_eq!(answer(18), "18 only elevated");
-        assert_eq!(answer(19), "19 unknown");
         assert_eq!(answer(u32::MAX), "4294967295 unknown");
     }
 

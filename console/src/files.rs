@@ -1,8 +1,8 @@
-//! A state, an image and a store in files.
+//! A state and an image in files.
 
 use crate::line::visible;
 use crate::replace::{replace, Failure};
-use slavotuk::{Module, Store, FULL_IMAGE_LENGTH, STATE_LENGTH, STORE_LENGTH};
+use slavotuk::{Module, FULL_IMAGE_LENGTH, STATE_LENGTH};
 use std::fs::File;
 use std::io::{self, Read};
 use std::path::Path;
@@ -12,9 +12,9 @@ pub fn save(file: &Path, state: &[u8; STATE_LENGTH]) -> Result<(), Failure> {
     replace(file, state).map_err(|failure| about(file, "saved", failure))
 }
 
-/// Writes an image or a store to a file.
-pub fn write(file: &Path, bytes: &[u8]) -> Result<(), Failure> {
-    replace(file, bytes).map_err(|failure| about(file, "written", failure))
+/// Writes an image to a file.
+pub fn write_image(file: &Path, image: &[u8]) -> Result<(), Failure> {
+    replace(file, image).map_err(|failure| about(file, "written", failure))
 }
 
 fn about(file: &Path, done: &str, failure: Failure) -> Failure {
@@ -31,45 +31,26 @@ fn wrong(file: &Path, done: &str, why: &str) -> String {
     )
 }
 
-/// The module whose state a file holds.
-pub fn load(file: &Path) -> Result<Module, String> {
-    let state = load_bytes(file, "a state")?;
-    Module::from_bytes(state).map_err(|refusal| {
-        let why = format!("its bytes hold no state, {} {refusal}", refusal.number());
-        wrong(file, "loaded", &why)
-    })
-}
-
-/// The store that a file holds, which has to fit this module.
-pub fn load_store(file: &Path, module: &Module) -> Result<Store, String> {
-    let bytes = load_bytes(file, "a store")?;
-    let wrong = |why: &str| wrong(file, "loaded", why);
-    let store = Store::from_bytes(bytes).map_err(|_| wrong("its bytes are no store"))?;
-    if !store.fits(module) {
-        return Err(wrong("it does not fit the state"));
-    }
-    Ok(store)
-}
-
-/// The bytes of a file that has just so many, as what it is to be has.
-fn load_bytes<const LENGTH: usize>(file: &Path, what: &str) -> Result<[u8; LENGTH], String> {
+/// The state that a file holds.
+pub fn load(file: &Path) -> Result<[u8; STATE_LENGTH], String> {
     let wrong = |why: String| wrong(file, "loaded", &why);
-    let bytes = read_start(file, LENGTH).map_err(|error| wrong(error.to_string()))?;
-    let length = |bytes: Vec<u8>| match bytes.len() {
-        found if found > LENGTH => format!("it has more than the {LENGTH} bytes of {what}"),
-        found => format!("it has {found} bytes, and {what} {LENGTH}"),
-    };
-    bytes.try_into().map_err(|bytes| wrong(length(bytes)))
+    let bytes = read_start(file, STATE_LENGTH).map_err(|error| wrong(error.to_string()))?;
+    let state: [u8; STATE_LENGTH] = bytes
+        .as_slice()
+        .try_into()
+        .map_err(|_| wrong(state_length(bytes.len())))?;
+    match Module::from_bytes(state) {
+        Ok(module) => Ok(module.into_bytes()),
+        Err(refusal) => Err(wrong(format!(
+            "its bytes hold no state, {} {refusal}",
+            refusal.number()
+        ))),
+    }
 }
 
 /// The bytes of a file that may be an image: all of them, or of a longer file one more than an image has.
 pub fn read_image(file: &Path) -> Result<Vec<u8>, String> {
     read_start(file, FULL_IMAGE_LENGTH).map_err(|error| wrong(file, "read", &error.to_string()))
-}
-
-/// The bytes of a file that may be a store: all of them, or of a longer file one more than a store has.
-pub fn read_store(file: &Path) -> Result<Vec<u8>, String> {
-    read_start(file, STORE_LENGTH).map_err(|error| wrong(file, "read", &error.to_string()))
 }
 
 /// The bytes of a file that may be a damaged image: nothing behind the longest image is looked at.
@@ -90,6 +71,13 @@ fn read_at_most(file: &Path, length: usize) -> io::Result<Vec<u8>> {
     Ok(bytes)
 }
 
+fn state_length(found: usize) -> String {
+    if found > STATE_LENGTH {
+        return format!("it has more than the {STATE_LENGTH} bytes of a state");
+    }
+    format!("it has {found} bytes, and a state {STATE_LENGTH}")
+}
+
 /// What is said of a file that is no image, by how many of its bytes were read.
 pub fn no_image(read: usize) -> String {
     if read > FULL_IMAGE_LENGTH {
@@ -98,12 +86,4 @@ pub fn no_image(read: usize) -> String {
         );
     }
     format!("the file's {read} bytes are no image")
-}
-
-/// What is said of a file that is no store, by how many of its bytes were read.
-pub fn no_store(read: usize) -> String {
-    if read > STORE_LENGTH {
-        return format!("the store's file has more than the {STORE_LENGTH} bytes of a store");
-    }
-    format!("the {read} bytes of the store's file are no store")
 }

@@ -17,7 +17,7 @@ pub struct Topic {
 }
 
 /// The commands, in the order of their listing.
-pub const COMMANDS: [Topic; 33] = [
+pub const COMMANDS: [Topic; 26] = [
     Topic {
         name: "fresh",
         form: "fresh [C=WORD[/SECOND] ..]",
@@ -26,8 +26,7 @@ pub const COMMANDS: [Topic; 33] = [
             "The named credentials are provisioned and have these grant words and second",
             "words; a second word that is left out is zero. For instance: fresh 0=15/4 1=16",
             "Without any it is document 01's module, 0=15 1=16; 'fresh none' provisions",
-            "none. The store is made empty: the default state, no lock and no parameters.",
-            "A new history begins.",
+            "none. A new history begins.",
         ],
     },
     Topic {
@@ -141,76 +140,10 @@ pub const COMMANDS: [Topic; 33] = [
         ],
     },
     Topic {
-        name: "params",
-        form: "params set|get S CLAIM.. C ..",
-        short: "set or read a credential's parameters",
-        more: &[
-            "params set S CLAIM.. C HEX..  sets them: at most 512 bytes in a name's forms,",
-            "  with blanks between them or not; 00*0 is none. C is then provisioned, and",
-            "  all its processes are removed. Its words stay, zero where it had none.",
-            "params get S CLAIM.. C [ROOM]  prints them as they can be set, and the lock.",
-            "  ROOM is the lent buffer's length: 512 where it isn't given, at most 65536.",
-            "The claim may be none in the default state, but to read those of a locked one.",
-            "For instance: params set 0 none 2 5a*512",
-            "or:           params get 0 user 2 0 yes 2",
-            "Refused with, in this order: 1, 2, 3, the claim's, 10, 18, or 6 where none is",
-            "too little; then set: 16; get: 5, 15. Get asks no class for one's own.",
-        ],
-    },
-    Topic {
-        name: "first-word",
-        form: "first-word S C WORD SECOND",
-        short: "set both words in the default state",
-        more: &[
-            "It carries no claim. C is a provisioned credential that is not locked.",
-            "Refused with, in this order: 1, 2, 3, 6 where owned, 16, 5.",
-        ],
-    },
-    Topic {
-        name: "reset",
-        form: "reset S CLAIM.. C|all",
-        short: "reset a credential, or all, to default",
-        more: &[
-            "It is no longer provisioned: it has no words and no parameters, and all its",
-            "processes are removed. 'all', which is 65535, is all that are not locked; the",
-            "module is then in the default state again, in which the claim may be none.",
-            "Refused with, in this order: 1, 2, 3, the claim's, 10, 18, or 6 where none is",
-            "too little; then 16, of one credential alone.",
-        ],
-    },
-    Topic {
-        name: "own",
-        form: "own S CLAIM..",
-        short: "take ownership of the module",
-        more: &[
-            "It leaves the default state: from then on nothing goes without a claim.",
-            "Refused with, in this order: 1, 2, 3, the claim's, 10, 18, 17.",
-        ],
-    },
-    Topic {
-        name: "lock",
-        form: "lock S CLAIM.. C",
-        short: "lock the claim's own credential",
-        more: &[
-            "Until it is unlocked its parameters and first words can't be set, and no reset",
-            "reaches it. 'set-word' and 'kill' still do.",
-            "Refused with, in this order: 1, 2, 3, the claim's, 10, 18, 16. Another",
-            "credential's is 10.",
-        ],
-    },
-    Topic {
-        name: "unlock",
-        form: "unlock S CLAIM.. C",
-        short: "unlock the claim's own credential",
-        more: &["Refused with, in this order: 1, 2, 3, the claim's, 10, 18."],
-    },
-    Topic {
         name: "show",
         form: "show [names]",
         short: "draw sessions, credentials and processes",
         more: &[
-            "Credentials stand with their words, their lock, and how long their parameters",
-            "are; above them whether the module is owned or in the default state.",
             "Names are shortened to the bytes that tell them apart; '..' stands for those",
             "left out, the same ones in each name. 'show names' has all 48 bytes of each.",
             "A credential's second word stands behind its grant word where it is not zero,",
@@ -258,19 +191,13 @@ pub const COMMANDS: [Topic; 33] = [
             "whole or not at all, and is on the disk before it is called saved: a new one",
             "is written beside it and synced, gets its name, and the folder is synced.",
             "A symbolic link stays, and the file that it leads to is replaced.",
-            "The store is not in it: 'store' writes that.",
         ],
     },
     Topic {
         name: "load",
-        form: "load FILE [STORE]",
+        form: "load FILE",
         short: "take the state from a file",
-        more: &[
-            "STORE is a file that 'store' wrote, and has to fit the state. Without it the",
-            "store stays, and where it does not fit, the calls of provisioning get 1.",
-            "A file that holds no state, or no such store, changes nothing. Else a new",
-            "history begins.",
-        ],
+        more: &["A file that holds no state changes nothing. Else a new history begins."],
     },
     Topic {
         name: "image",
@@ -280,38 +207,21 @@ pub const COMMANDS: [Topic; 33] = [
             "The credentials, their words and the saved processes with their next numbers,",
             "as docs/IMAGE.md draws them, in the new layout. The file is replaced whole or",
             "not at all, and is on the disk before it is called written, as with 'save'.",
-            "The store is not in it: write that too, and keep both of one age.",
             "Refused with, in this order: 1, 15; the console gives it neither reason.",
         ],
     },
     Topic {
-        name: "store",
-        form: "store FILE",
-        short: "write ownership, locks and parameters",
-        more: &[
-            "The 4121 bytes of the store, as docs/STORE.md draws them; no state has them,",
-            "and no image. The file is replaced whole or not at all, as with 'image'.",
-            "A host writes both as one record. Here they are two files, and where the power",
-            "goes between them they are of two ages.",
-            "No call is made for it, and the history has no line of it.",
-        ],
-    },
-    Topic {
         name: "restore",
-        form: "restore FILE [STORE]",
-        short: "make the module from an image in a file",
+        form: "restore FILE",
+        short: "make the module from such a file",
         more: &[
             "Its sessions are closed, and its processes saved ones, in the file's order and",
             "with its numbers. Active processes are lost. It has to be the newest image:",
             "after an older one, numbers that were spent since are good again.",
             "An image in the old layout has no second words, and they are then zero: write",
             "the image again at once.",
-            "STORE is a file that 'store' wrote with the image. Its ownership, locks and",
-            "parameters are taken, but for those of credentials that the image does not",
-            "provision. An old one opens an owned module, and brings back old keys. Without",
-            "STORE the store stays: where it does not fit, the calls of provisioning get 1.",
-            "Refused with 1 where STORE is no store, then 14 where FILE is no image; module",
-            "and store stay as they were. Else a new history begins.",
+            "Refused with 14 where the file is no image; the module stays as it was.",
+            "Else a new history begins.",
         ],
     },
     Topic {
@@ -372,12 +282,10 @@ const PARTS: [Topic; 5] = [
     },
     Topic {
         name: "claim",
-        form: "user C NUMBER yes|no, elevated, or none",
+        form: "user C NUMBER yes|no, or elevated",
         short: "what a protected call carries; yes|no is the key unit's verdict",
         more: &[
-            "'none' is for params and reset in the default state: owned they get 6. Other",
-            "calls get 1.",
-            "'kind K C NUMBER yes|no' hands in any kind: 0 is a user's, 1 elevated, 2 none.",
+            "'kind K C NUMBER yes|no' hands in any kind: 0 is a user's, 1 elevated.",
             "Refused with, in this order: an elevated one, 6; a user's, 5, 6, 13, 9, 8.",
             "A user's that is not has spent its NUMBER, even where the call is refused with",
             "what follows the claim's in its order: a second try takes the next number.",

@@ -3,12 +3,10 @@
 use crate::write::{Given, Written};
 use crate::{bytes, formats, help};
 use slavotuk::entries::RawClaim;
-use slavotuk::{
-    Call, Credential, Grants, Provision, FULL_LISTING_LENGTH, FULL_PARAMETERS_LENGTH, NAME_LENGTH,
-};
+use slavotuk::{Call, Credential, Grants, FULL_LISTING_LENGTH, NAME_LENGTH};
 use std::path::PathBuf;
 
-/// The longest buffer that a listing, or the reading of parameters, is lent here.
+/// The longest buffer that a listing is lent here.
 pub const LONGEST_ROOM: u32 = 65536;
 
 /// What the credentials of a fresh module are granted.
@@ -31,8 +29,6 @@ pub enum Command {
     Fresh(AllGrants),
     /// A call of the module.
     Call(Call),
-    /// A call of the module and its store.
-    Provision(Provision),
     /// A series of records.
     Records(Records),
     /// What the module holds, with whole names or shortened ones.
@@ -45,20 +41,12 @@ pub enum Command {
     Write(Written),
     /// The state into a file.
     Save(PathBuf),
-    /// The state from a file, and the store from another where it is named.
-    Load {
-        file: PathBuf,
-        store: Option<PathBuf>,
-    },
+    /// The state from a file.
+    Load(PathBuf),
     /// The image into a file.
     Image(PathBuf),
-    /// The store into a file.
-    Store(PathBuf),
-    /// The module from the image in a file, beside the store in another where it is named.
-    Restore {
-        file: PathBuf,
-        store: Option<PathBuf>,
-    },
+    /// The module from the image in a file.
+    Restore(PathBuf),
     /// What can be rescued of the image in a file into a file.
     Rescue { from: PathBuf, to: PathBuf },
     /// The calls so far.
@@ -126,19 +114,12 @@ fn command(name: &str, words: &mut Reader) -> Result<Command, String> {
             whole: words.whole()?,
         },
         "request" => Command::Request(words.wanted16()?),
-        "read" => Command::Read(words.bytes("message")?),
+        "read" => Command::Read(words.message()?),
         "write" => Command::Write(words.written()?),
         "save" => Command::Save(words.file("file")?),
-        "load" => Command::Load {
-            file: words.file("file")?,
-            store: words.optional_file("store")?,
-        },
+        "load" => Command::Load(words.file("file")?),
         "image" => Command::Image(words.file("file")?),
-        "store" => Command::Store(words.file("file")?),
-        "restore" => Command::Restore {
-            file: words.file("file")?,
-            store: words.optional_file("store")?,
-        },
+        "restore" => Command::Restore(words.file("file")?),
         "rescue" => Command::Rescue {
             from: words.file("from")?,
             to: words.file("to")?,
@@ -146,16 +127,8 @@ fn command(name: &str, words: &mut Reader) -> Result<Command, String> {
         "history" => Command::History,
         "help" => Command::Help(words.topic()?),
         "quit" => Command::Quit,
-        "params" => Command::Provision(provision(words.params()?, words)?),
-        "own" => Command::Provision(provision("take-ownership", words)?),
-        "first-word" | "reset" | "lock" | "unlock" => Command::Provision(provision(name, words)?),
         _ => Command::Call(call(name, words)?),
     })
-}
-
-/// The symbol of the entry that a command calls.
-fn symbol(name: &str) -> String {
-    format!("slavotuk_{}", name.replace('-', "_"))
 }
 
 /// Reads a parameter of a call, by its name: a number of that name where nothing else is said.
@@ -179,22 +152,13 @@ macro_rules! parameter {
         $words.wanted()?
     };
     ($words:ident response) => {
-        vec![0; $words.room(FULL_LISTING_LENGTH)?]
-    };
-    ($words:ident parameters) => {
-        $words.bytes("parameters")?
-    };
-    ($words:ident buffer) => {
-        vec![0; $words.room(FULL_PARAMETERS_LENGTH)?]
+        vec![0; $words.room()?]
     };
     ($words:ident length) => {
         0
     };
-    ($words:ident locked) => {
-        0
-    };
     ($words:ident target) => {
-        $words.credential_or_all("credential")?
+        $words.number("credential")?
     };
     ($words:ident $number:ident) => {
         $words.number(stringify!($number))?
@@ -210,7 +174,7 @@ macro_rules! call {
     ) => {
         /// The call of this name, its parameters read in their order. Each begins with its session, which is a port too.
         fn call(name: &str, words: &mut Reader) -> Result<Call, String> {
-            match symbol(name).as_str() {
+            match format!("slavotuk_{}", name.replace('-', "_")).as_str() {
                 $(stringify!($symbol) => {
                     let (port, session) = words.session()?;
                     Ok(Call::$case { port, session, $($name: parameter!(words $name)),* })
@@ -222,27 +186,6 @@ macro_rules! call {
 }
 
 slavotuk::calls!(call);
-
-macro_rules! provision {
-    (
-        module $module:tt
-        sessions { $($(#[$doc:meta])* $symbol:ident $function:ident $case:ident [$($state:tt)+] [$($store:tt)+] (port: u32) (session: u32) $(($name:ident: $($type:tt)+))*;)* }
-        power $power:tt
-    ) => {
-        /// The call of this name that takes a store too, its parameters read as a call's.
-        fn provision(name: &str, words: &mut Reader) -> Result<Provision, String> {
-            match symbol(name).as_str() {
-                $(stringify!($symbol) => {
-                    let (port, session) = words.session()?;
-                    Ok(Provision::$case { port, session, $($name: parameter!(words $name)),* })
-                })*
-                _ => Err(format!("{} is no call", quoted(name))),
-            }
-        }
-    };
-}
-
-slavotuk::provisions!(provision);
 
 /// A word of a line; one between quotation marks may have blanks in it.
 #[derive(Clone, Copy)]
@@ -371,12 +314,11 @@ impl<'a> Reader<'a> {
     fn claim(&mut self) -> Result<RawClaim, String> {
         let kind = match self.plain("claim")? {
             "elevated" => return Ok(RawClaim::ELEVATED),
-            "none" => return Ok(RawClaim::NONE),
             "user" => 0,
             "kind" => self.number("kind")?,
             other => {
                 return Err(format!(
-                    "claim: {} is neither user, elevated nor none",
+                    "claim: {} is neither user nor elevated",
                     quoted(other)
                 ))
             }
@@ -389,26 +331,20 @@ impl<'a> Reader<'a> {
         })
     }
 
-    /// A credential, or the number that stands for all. Which calls take that is for the module to say.
-    fn credential_or_all(&mut self, part: &str) -> Result<u32, String> {
-        match self.plain(part)? {
-            "all" => Ok(65535),
-            text => number_of(text).map_err(about(part)),
-        }
-    }
-
     fn wanted(&mut self) -> Result<u32, String> {
-        self.credential_or_all("wanted")
+        match self.plain("wanted")? {
+            "all" => Ok(65535),
+            text => number_of(text).map_err(about("wanted")),
+        }
     }
 
     fn wanted16(&mut self) -> Result<u16, String> {
         narrow(self.wanted()?).map_err(about("wanted"))
     }
 
-    /// The length of a buffer, `enough` where it isn't given.
-    fn room(&mut self, enough: usize) -> Result<usize, String> {
+    fn room(&mut self) -> Result<usize, String> {
         if self.is_done() {
-            return Ok(enough);
+            return Ok(FULL_LISTING_LENGTH);
         }
         let room = self.number("room")?;
         if room > LONGEST_ROOM {
@@ -436,24 +372,15 @@ impl<'a> Reader<'a> {
         Ok(name)
     }
 
-    /// All words that are left, as bytes. Their count is for the module to judge.
-    fn bytes(&mut self, part: &str) -> Result<Vec<u8>, String> {
-        let mut all = Vec::new();
+    fn message(&mut self) -> Result<Vec<u8>, String> {
+        let mut message = Vec::new();
         loop {
-            let text = self.plain(part)?;
-            bytes::read(text, &mut all).map_err(|wrong| format!("{}: {wrong}", quoted(text)))?;
+            let text = self.plain("message")?;
+            bytes::read(text, &mut message)
+                .map_err(|wrong| format!("{}: {wrong}", quoted(text)))?;
             if self.is_done() {
-                return Ok(all);
+                return Ok(message);
             }
-        }
-    }
-
-    /// Whether parameters are set or read: the name of that call.
-    fn params(&mut self) -> Result<&'static str, String> {
-        match self.plain("set or get")? {
-            "set" => Ok("set-parameters"),
-            "get" => Ok("get-parameters"),
-            other => Err(format!("{} is neither set nor get", quoted(other))),
         }
     }
 
@@ -482,13 +409,6 @@ impl<'a> Reader<'a> {
 
     fn file(&mut self, part: &str) -> Result<PathBuf, String> {
         Ok(self.next(part)?.text.into())
-    }
-
-    fn optional_file(&mut self, part: &str) -> Result<Option<PathBuf>, String> {
-        if self.is_done() {
-            return Ok(None);
-        }
-        self.file(part).map(Some)
     }
 
     fn whole(&mut self) -> Result<bool, String> {

@@ -9,11 +9,7 @@ mod document;
 #[cfg(test)]
 mod document_image;
 #[cfg(test)]
-mod document_policy;
-#[cfg(test)]
 mod document_rescue;
-#[cfg(test)]
-mod document_store;
 mod draw;
 mod files;
 #[cfg(test)]

@@ -1,7 +1,6 @@
 //! A damaged image rescued from one file to another, and the report in words.
 
 use crate::console::Trouble;
-use crate::draw::plural;
 use crate::replace::Failure;
 use crate::{draw, files};
 use slavotuk::layout::image::ROW_LENGTH;
@@ -17,7 +16,7 @@ pub fn rescue(from: &Path, to: &Path, out: &mut impl Write) -> Result<(), Troubl
     let bytes = files::read_damaged(from)?;
     match slavotuk::rescue(&bytes) {
         Ok(rescued) => {
-            let written = files::write(to, &rescued.image);
+            let written = files::write_image(to, &rescued.image);
             let (bytes, rescued) = (&bytes, &rescued);
             Report { bytes, rescued }.answer(written, out)
         }
@@ -111,6 +110,11 @@ impl Report<'_> {
         let rows_at = image.len() - ROW_LENGTH * kept_rows;
         rows_at + ROW_LENGTH * (place + 1) <= self.bytes.len()
     }
+}
+
+fn plural(count: usize, what: &str) -> String {
+    let ending = if count == 1 { "" } else { "s" };
+    format!("{what}{ending}")
 }
 
 fn ranges(places: impl Iterator<Item = usize>) -> String {

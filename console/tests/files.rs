@@ -113,15 +113,10 @@ const RESCUE: &str = concat!(
     "/../examples/old-board.image\""
 );
 
-/// Saves where nothing can be saved, and writes the store there, and an image, the module's and a rescued one: the message, and that nothing is left behind.
+/// Saves where nothing can be saved, and writes an image there, the module's and a rescued one: the message, and that nothing is left behind.
 #[track_caller]
 fn not_saved(folder: &Folder, file: &str) {
-    for (command, done) in [
-        ("save", "saved"),
-        ("image", "written"),
-        ("store", "written"),
-        (RESCUE, "written"),
-    ] {
+    for (command, done) in [("save", "saved"), ("image", "written"), (RESCUE, "written")] {
         let before = folder.names();
         let run = run(format!("{SETUP}{command} {file}\nopen 1\n"));
         let message = format!("line 7: {file} is not {done}: ");
@@ -154,7 +149,7 @@ fn a_long_name_is_written() {
     let name = "n".repeat(255);
     let file = folder.file(&name);
     good(format!(
-        "save {file}\nstore {file}\nimage {file}\nrestore {file}\nrescue {file} {file}\n"
+        "save {file}\nimage {file}\nrestore {file}\nrescue {file} {file}\n"
     ));
     assert_eq!(folder.names(), [name]);
 }
@@ -193,7 +188,6 @@ fn a_symbolic_link_stays_and_its_file_is_replaced() {
     symlink("../far/file", &link).unwrap();
     for (command, length) in [
         ("save", STATE_LENGTH),
-        ("store", layout::store::LENGTH),
         ("image", layout::image::row_at(1)),
         (RESCUE, layout::image::old_row_at(2)),
     ] {
@@ -234,23 +228,17 @@ fn what_is_no_file_is_not_replaced() {
 
 #[test]
 fn a_missing_file_name_is_a_bad_line() {
-    for (command, files) in [
-        ("save", "a"),
-        ("load", "a b"),
-        ("image", "a"),
-        ("store", "a"),
-        ("restore", "a b"),
-    ] {
-        let run = run(format!("{command}\n{command} {files} more\n"));
+    for command in ["save", "load", "image", "restore"] {
+        let run = run(format!("{command}\n{command} a b\n"));
         let lines: Vec<&str> = run.err.lines().collect();
         assert!(lines[0].contains("file is missing"), "{}", run.err);
-        assert!(lines[1].contains("'more' is too much"), "{}", run.err);
+        assert!(lines[1].contains("'b' is too much"), "{}", run.err);
     }
 }
 
 #[test]
 fn an_empty_file_name_names_no_file() {
-    for command in ["save", "image", "store", RESCUE] {
+    for command in ["save", "image", RESCUE] {
         let run = run(format!("{command} \"\"\n"));
         assert!(run.err.ends_with(": it names no file\n"), "{}", run.err);
     }

@@ -55,7 +55,7 @@ sessions of port 1
   1.1  closed
   1.2  closed
   1.3  closed
-credentials, in the default state
+credentials
   0  word 0x0000000f  0 list others, 1 kill others, 2 save own, 3 set words
   1  word 0x00000010/0x00000010  only elevated: device 4
   2 to 7  not provisioned
@@ -248,7 +248,7 @@ fn an_image_in_the_old_layout_is_restored_and_written_in_the_new() {
     let told = format!("0 done\nrestored from {} bytes\n", old_row_at(2));
     assert!(out.starts_with(&told), "{out}");
     let drawn = "\
-credentials, in the default state
+credentials
   0  word 0x0000000f  0 list others, 1 kill others, 2 save own, 3 set words
   1  word 0x00000014  2 save own, device 4
   2 to 7  not provisioned

@@ -9,7 +9,7 @@ use std::process::Stdio;
 const SETUP: &str = "open 0\nselect 0 0x10\nstart 0 0 P\nstart 0 1 R\n";
 
 /// Bad lines, each with a part of its message.
-const BAD: [(&str, &str); 112] = [
+const BAD: [(&str, &str); 77] = [
     ("opne 3", "no command 'opne'"),
     ("OPEN 3", "no command 'OPEN'"),
     ("\u{1b}[31m", "no command '\\u{1b}[31m'"),
@@ -58,7 +58,7 @@ const BAD: [(&str, &str); 112] = [
     ("record 0", "claim is missing"),
     (
         "record 0 admin 4",
-        "claim: 'admin' is neither user, elevated nor none",
+        "claim: 'admin' is neither user nor elevated",
     ),
     (
         "record 0 user 1 65536 yes 4",
@@ -100,66 +100,6 @@ const BAD: [(&str, &str); 112] = [
     ("read", "message is missing"),
     ("read 00*4194304 00", "'00': over 4194304 bytes"),
     ("read 8e0", "'8e0': a byte has two hexadecimal digits"),
-    ("params", "set or get is missing"),
-    ("params read 0 none 2", "'read' is neither set nor get"),
-    (
-        "params \"set\" 0 none 2",
-        "set or get stands without quotation marks",
-    ),
-    ("params set", "session is missing"),
-    ("params set x none 2 00", "session: 'x' is no number"),
-    ("params set 0", "claim is missing"),
-    (
-        "params set 0 any 2 00",
-        "claim: 'any' is neither user, elevated nor none",
-    ),
-    ("params set 0 none", "credential is missing"),
-    ("params set 0 none x 00", "credential: 'x' is no number"),
-    ("params set 0 none 2", "parameters is missing"),
-    (
-        "params set 0 none 2 0",
-        "'0': a byte has two hexadecimal digits",
-    ),
-    (
-        "params set 0 none 2 00 5",
-        "'5': a byte has two hexadecimal digits",
-    ),
-    ("params set 0 none 2 P", "'P': not hexadecimal digits"),
-    (
-        "params set 0 none 2 \"key\"",
-        "parameters stands without quotation marks",
-    ),
-    ("params set 0 none 2 00*4194305", "over 4194304 bytes"),
-    (
-        "params set 0 user 2 65536 yes 2 00",
-        "number: 65536 is over 16 bits",
-    ),
-    ("params get 0 none", "credential is missing"),
-    ("params get 0 none 2 512 1", "'1' is too much"),
-    (
-        "params get 0 none 2 65537",
-        "at most 65536 bytes can be lent",
-    ),
-    ("first-word 0 none 2 8 0", "credential: 'none' is no number"),
-    ("first-word 0 2", "word is missing"),
-    // a second word left out would clear marks
-    ("first-word 0 2 8", "second is missing"),
-    (
-        "first-word 0 2 4294967296 0",
-        "word: '4294967296' is over 32 bits",
-    ),
-    ("reset 0", "claim is missing"),
-    ("reset 0 2", "claim: '2' is neither user, elevated nor none"),
-    ("reset 0 none", "credential is missing"),
-    ("reset 0 none every", "credential: 'every' is no number"),
-    ("reset 0 none all all", "'all' is too much"),
-    ("own", "session is missing"),
-    ("own 0", "claim is missing"),
-    ("own 0 user 0 0 yes 0", "'0' is too much"),
-    ("lock 0 user 2 0 yes", "credential is missing"),
-    ("unlock 0 elevated", "credential is missing"),
-    ("load \"state", "a quotation mark is not closed"),
-    ("restore image store more", "'more' is too much"),
     ("rescue", "from is missing"),
     ("rescue board.image", "to is missing"),
     ("rescue \"board.image\"", "to is missing"),
@@ -249,7 +189,7 @@ sessions of port 1
   1.1  closed
   1.2  open with version 1.0
   1.3  closed
-credentials, in the default state
+credentials
   0  word 0x0000000f  0 list others, 1 kill others, 2 save own, 3 set words
   1  word 0xc0000114/0x80000102  2 save own, device 4, 30; only elevated: device 8, 31
   5  word 0x00000000  no class
@@ -276,9 +216,7 @@ processes, 4 of 12; of their names bytes 0, 1, 16, 46, 47
     assert!(names.ends_with("active user           1.2            0  00*47+01\n"));
 
     let none = good("fresh none\nshow\n");
-    assert!(none.ends_with(
-        "credentials, in the default state\n  0 to 7  not provisioned\nprocesses, 0 of 12\n"
-    ));
+    assert!(none.ends_with("credentials\n  0 to 7  not provisioned\nprocesses, 0 of 12\n"));
 }
 
 #[test]
@@ -302,40 +240,10 @@ since fresh 3=0x10
     assert_eq!(&out[from..], told);
 }
 
-const COMMANDS: [&str; 33] = [
-    "fresh",
-    "open",
-    "close",
-    "select",
-    "start",
-    "continue",
-    "elevate",
-    "drop",
-    "end",
-    "record",
-    "records",
-    "list",
-    "kill",
-    "set-word",
-    "params",
-    "first-word",
-    "reset",
-    "own",
-    "lock",
-    "unlock",
-    "show",
-    "request",
-    "read",
-    "write",
-    "save",
-    "load",
-    "image",
-    "store",
-    "restore",
-    "rescue",
-    "history",
-    "help",
-    "quit",
+const COMMANDS: [&str; 26] = [
+    "fresh", "open", "close", "select", "start", "continue", "elevate", "drop", "end", "record",
+    "records", "list", "kill", "set-word", "show", "request", "read", "write", "save", "load",
+    "image", "restore", "rescue", "history", "help", "quit",
 ];
 
 #[test]

@@ -158,43 +158,11 @@ fn wrong_values_are_the_modules_to_answer() {
         "record 0 user 8 0 yes 4",
         "record 0 user 1 0 2 4",
         "record 0 kind 2 1 0 yes 4",
-        "record 0 none 4",
-        "list 0 none 1",
-        "kill 0 none Q",
-        "set-word 0 none 1 1 0",
-        "set-word 0 user 1 0 yes all 1 0",
         "list 0 user 1 0 yes 8",
         "list 0 user 1 0 yes 65534",
         "list 0 user 1 0 yes 65536",
         "kill 0 user 1 0 yes 00*47",
         "set-word 0 user 1 0 yes 8 1 0",
-        "params set 4 none 2 00",
-        "params set 2.0 none 2 00",
-        "params set 0 none 8 00",
-        "params set 0 none all 00",
-        "params set 0 none 2 00*513",
-        "params set 0 kind 3 1 0 yes 2 00",
-        "params set 0 user 8 0 yes 2 00",
-        "params set 0 user 1 0 2 2 00",
-        "params get 0 none 8",
-        "params get 0 none 65535",
-        "params get 2.0 none 1",
-        "first-word 0 8 1 0",
-        "first-word 0 65535 1 0",
-        "first-word 2.0 1 1 0",
-        "reset 0 none 8",
-        "reset 0 none 65534",
-        "reset 0 none 65536",
-        "reset 2.0 none all",
-        "own 0 none",
-        "own 0 kind 3 1 0 yes",
-        "own 4 user 1 0 yes",
-        "lock 0 none 1",
-        "lock 0 user 1 0 yes 8",
-        "lock 0 user 1 0 yes all",
-        "unlock 0 none 1",
-        "unlock 0 user 1 0 2 1",
-        "unlock 0 elevated 8",
     ];
     for line in wrong {
         let lines = answers(&format!("{setup}{line}\n"));
@@ -226,12 +194,6 @@ fn a_call_reaches_the_port_it_names() {
             "{refused:?}"
         );
     }
-}
-
-#[test]
-fn where_there_is_no_claim_other_values_are_ignored() {
-    let script = "open 0\nselect 0 0x10\nparams set 0 kind 2 0xffffffff 65535 7 2 00\nreset 0 kind 2 8 0 2 2\n";
-    assert_eq!(answers(script)[2..], ["0 done", "0 done"]);
 }
 
 #[test]

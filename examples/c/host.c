@@ -2,8 +2,7 @@
  * A small host of the module: it makes a fresh one, starts two processes, sends a record and its replay, one that is not
  * granted and one that is granted only under elevation. A second network comes in by the other port, and the list of processes
  * is printed as a console would get it. Then a process is saved, and goes on at that port after a power cycle; what would be
- * left of it if the flash had lost a byte is shown before. Last a factory board gets its owner, and keeps it through a power
- * cycle. Every answer is printed as its number and name. provision.c has the messages that such a board is provisioned by.
+ * left of it if the flash had lost a byte is shown before. Every answer is printed as its number and name.
  *
  * All calls are made by one thread. A host with a thread for each network takes a lock before each call, and keeps it until the
  * call has returned and the image is written where it has changed: a state takes one call at a time.
@@ -248,134 +247,6 @@ static void cycle_power(uint8_t state[SLAVOTUK_STATE_SIZE])
            SLAVOTUK_DONE);
 }
 
-/* A board as its flash keeps it: the state's image and the store, as one record. */
-struct record {
-    uint8_t image[SLAVOTUK_IMAGE_SIZE];
-    size_t length;
-    uint8_t store[SLAVOTUK_STORE_SIZE];
-};
-
-/* What a factory board gets first: credential 2 is the owner's, who may set words and parameters (class 3) and nothing else. */
-enum { OWNER = 2, OWNERS_WORD = 1 << SLAVOTUK_CLASS_SET_WORDS };
-
-/* Without credentials, and with a store of zero bytes: nobody owns it. */
-static void make_factory_board(uint8_t state[SLAVOTUK_STATE_SIZE], uint8_t store[SLAVOTUK_STORE_SIZE])
-{
-    const uint8_t provisioned[SLAVOTUK_CREDENTIALS] = {0};
-    const uint32_t words[SLAVOTUK_CREDENTIALS] = {0};
-    memset(store, 0, SLAVOTUK_STORE_SIZE);
-    expect("fresh factory board",
-           slavotuk_fresh(state, SLAVOTUK_STATE_SIZE, provisioned, SLAVOTUK_CREDENTIALS, words, SLAVOTUK_CREDENTIALS, words,
-                          SLAVOTUK_CREDENTIALS),
-           SLAVOTUK_DONE);
-}
-
-/* A host puts the owner's key here, as it came in SET_CRED_ID_PARAMS; the module does not read it. No claim is given. */
-static void set_parameters(uint8_t state[SLAVOTUK_STATE_SIZE], uint8_t store[SLAVOTUK_STORE_SIZE], const char *step,
-                           uint32_t expected)
-{
-    const uint8_t parameters[] = {1, 2, 3};
-    expect(step,
-           slavotuk_set_parameters(state, SLAVOTUK_STATE_SIZE, store, SLAVOTUK_STORE_SIZE, FIRST_PORT, SESSION,
-                                   SLAVOTUK_CLAIM_NONE, 0, 0, 0, OWNER, parameters, sizeof parameters),
-           expected);
-}
-
-/*
- * In the default state whoever reaches a session may provision credentials and give them words, on either port: the second
- * network stays off until the owner has come.
- */
-static void provision_owner(uint8_t state[SLAVOTUK_STATE_SIZE], uint8_t store[SLAVOTUK_STORE_SIZE])
-{
-    open_session(state, FIRST_PORT);
-    set_parameters(state, store, "set parameters, no claim", SLAVOTUK_DONE);
-    expect("first word",
-           slavotuk_first_word(state, SLAVOTUK_STATE_SIZE, store, SLAVOTUK_STORE_SIZE, FIRST_PORT, SESSION, OWNER, OWNERS_WORD,
-                               0),
-           SLAVOTUK_DONE);
-}
-
-/* The owner locks its credential, so that nobody changes its key, and takes the board. Without a claim nothing is open then. */
-static void take_board(uint8_t state[SLAVOTUK_STATE_SIZE], uint8_t store[SLAVOTUK_STORE_SIZE])
-{
-    uint8_t name[SLAVOTUK_NAME_SIZE];
-    make_name(name, 0x15);
-    expect("start, the owner", slavotuk_start(state, SLAVOTUK_STATE_SIZE, FIRST_PORT, SESSION, OWNER, name, sizeof name),
-           SLAVOTUK_DONE);
-    expect("lock, the owner, number 0",
-           slavotuk_lock(state, SLAVOTUK_STATE_SIZE, store, SLAVOTUK_STORE_SIZE, FIRST_PORT, SESSION, SLAVOTUK_CLAIM_USER,
-                         OWNER, 0, VERDICT_YES, OWNER),
-           SLAVOTUK_DONE);
-    set_parameters(state, store, "set parameters, no claim", SLAVOTUK_REFUSED_LOCKED);
-    expect("take ownership, number 1",
-           slavotuk_take_ownership(state, SLAVOTUK_STATE_SIZE, store, SLAVOTUK_STORE_SIZE, FIRST_PORT, SESSION,
-                                   SLAVOTUK_CLAIM_USER, OWNER, 1, VERDICT_YES),
-           SLAVOTUK_DONE);
-    expect("take ownership again, number 2",
-           slavotuk_take_ownership(state, SLAVOTUK_STATE_SIZE, store, SLAVOTUK_STORE_SIZE, FIRST_PORT, SESSION,
-                                   SLAVOTUK_CLAIM_USER, OWNER, 2, VERDICT_YES),
-           SLAVOTUK_REFUSED_OWNED);
-    set_parameters(state, store, "set parameters, no claim", SLAVOTUK_REFUSED_NO_PROCESS);
-}
-
-/* The image and the store come back as they were written, both of one age. A board without its store would be open again. */
-static void cycle_power_with_store(uint8_t state[SLAVOTUK_STATE_SIZE], uint8_t store[SLAVOTUK_STORE_SIZE])
-{
-    struct record flash;
-    flash.length = write_image(state, flash.image);
-    memcpy(flash.store, store, sizeof flash.store);
-    memset(state, 0xff, SLAVOTUK_STATE_SIZE);
-    memset(store, 0xff, SLAVOTUK_STORE_SIZE);
-    memcpy(store, flash.store, sizeof flash.store);
-    expect("restore with the store",
-           slavotuk_restore_with_store(state, SLAVOTUK_STATE_SIZE, store, SLAVOTUK_STORE_SIZE, flash.image, flash.length),
-           SLAVOTUK_DONE);
-    expect("the store fits", slavotuk_holds_store(state, SLAVOTUK_STATE_SIZE, store, SLAVOTUK_STORE_SIZE), SLAVOTUK_DONE);
-}
-
-/* What the owner gets of its parameters after the power cycle, under the claim of a process that starts anew. */
-static void print_parameters(uint8_t state[SLAVOTUK_STATE_SIZE], const uint8_t store[SLAVOTUK_STORE_SIZE])
-{
-    uint8_t name[SLAVOTUK_NAME_SIZE], parameters[SLAVOTUK_PARAMETERS_SIZE];
-    size_t length = 0;
-    uint32_t locked = 0;
-    make_name(name, 0x16);
-    expect("start, the owner", slavotuk_start(state, SLAVOTUK_STATE_SIZE, FIRST_PORT, SESSION, OWNER, name, sizeof name),
-           SLAVOTUK_DONE);
-    expect("get parameters, number 0",
-           slavotuk_get_parameters(state, SLAVOTUK_STATE_SIZE, store, SLAVOTUK_STORE_SIZE, FIRST_PORT, SESSION,
-                                   SLAVOTUK_CLAIM_USER, OWNER, 0, VERDICT_YES, OWNER, parameters, sizeof parameters, &length,
-                                   &locked),
-           SLAVOTUK_DONE);
-    printf("    %u bytes, %s\n", (unsigned)length, locked ? "locked" : "not locked");
-}
-
-/* A reset of all leaves what is locked: the owner unlocks before. The board is then as it left the factory. */
-static void give_board_back(uint8_t state[SLAVOTUK_STATE_SIZE], uint8_t store[SLAVOTUK_STORE_SIZE])
-{
-    expect("unlock, the owner, number 1",
-           slavotuk_unlock(state, SLAVOTUK_STATE_SIZE, store, SLAVOTUK_STORE_SIZE, FIRST_PORT, SESSION, SLAVOTUK_CLAIM_USER,
-                           OWNER, 1, VERDICT_YES, OWNER),
-           SLAVOTUK_DONE);
-    expect("reset all, number 2",
-           slavotuk_reset(state, SLAVOTUK_STATE_SIZE, store, SLAVOTUK_STORE_SIZE, FIRST_PORT, SESSION, SLAVOTUK_CLAIM_USER,
-                          OWNER, 2, VERDICT_YES, SLAVOTUK_RESET_ALL),
-           SLAVOTUK_DONE);
-    set_parameters(state, store, "set parameters, no claim", SLAVOTUK_DONE);
-}
-
-static void run_factory_board(void)
-{
-    uint8_t state[SLAVOTUK_STATE_SIZE], store[SLAVOTUK_STORE_SIZE];
-    make_factory_board(state, store);
-    provision_owner(state, store);
-    take_board(state, store);
-    cycle_power_with_store(state, store);
-    open_session(state, FIRST_PORT);
-    print_parameters(state, store);
-    give_board_back(state, store);
-}
-
 static void run(void)
 {
     uint8_t state[SLAVOTUK_STATE_SIZE];
@@ -387,14 +258,12 @@ static void run(void)
     enter_by_second_port(state);
     print_list(state);
     cycle_power(state);
-    run_factory_board();
 }
 
 int main(int argc, char **argv)
 {
     static const char usage[] = "usage: host [--help]\n"
-                                "Runs the module through a session on each port and a power cycle, and a factory board to its\n"
-                                "owner, and prints every answer.\n"
+                                "Runs the module through a session on each port and a power cycle and prints every answer.\n"
                                 "Exit code: 0 all as expected, 1 another answer, 2 bad usage.\n";
     int wants_help = argc == 2 && strcmp(argv[1], "--help") == 0;
     if (argc > 1 && !wants_help) {

@@ -60,13 +60,40 @@ macro_rules! printed_where_handed_out {
     ($f:ident $value:ident $name:ident: $($type:tt)+) => { { let _ = $value; Ok(()) } };
 }
 
-/// Defines the enumeration over the entries of these lines, all but how a call is made.
-macro_rules! values {
-    ($(#[$documentation:meta])* $calls:ident $($group:ident { $($(#[$doc:meta])* $symbol:ident $function:ident $case:ident $([$($lent:tt)+])* $(($name:ident: $($type:tt)+))*;)* })*) => {
-        $(#[$documentation])*
+macro_rules! call {
+    ($($group:ident { $($(#[$doc:meta])* $symbol:ident $function:ident $case:ident $([$($state:tt)+])? $(($name:ident: $($type:tt)+))*;)* })*) => {
+        /// A call of one of the entries, with numbers that may be wrong: it is for the module to answer them. It can be read, kept, made again, changed and printed. The
+        /// entries for all messages of 004 clause 9.2 are not among them: they have [`Message`](crate::message::Message).
+        ///
+        /// Each case is named after its entry, and its fields are the entry's parameters after the state. What an entry writes to is a part of the call: before it is made, what stands there; afterwards,
+        /// what it has left there. `B` is the buffer of those that are slices.
+        ///
+        /// ```
+        /// use slavotuk::entries::RawClaim;
+        /// use slavotuk::{Call, Refusal, STATE_LENGTH};
+        ///
+        /// let mut state = [0; STATE_LENGTH];
+        /// let mut provisioned = vec![0; 8];
+        /// provisioned[1] = 1;
+        /// let mut call: Call = Call::Fresh { provisioned, words: vec![16; 8], seconds: vec![0; 8] };
+        /// assert_eq!(call.make(&mut state), 0);
+        ///
+        /// let mut call: Call = Call::Open { port: 1, session: 4 };
+        /// assert_eq!(call.to_string(), "open port 1 session 4");
+        /// assert_eq!(call.make(&mut state), Refusal::Argument.number());
+        ///
+        /// let claim = RawClaim { kind: 0, credential: 1, number: 0, verdict: 1 };
+        /// let mut call = Call::List { port: 0, session: 0, claim, wanted: 65535, response: vec![0xaa; 4], length: 9 };
+        /// assert_eq!(call.make(&mut state), Refusal::Session.number());
+        /// assert_eq!(call, Call::List { port: 0, session: 0, claim, wanted: 65535, response: vec![0xaa; 4], length: 0 });
+        /// assert_eq!(call.handed_out(), " response (4 bytes aa*4) length 0x0");
+        ///
+        /// let call: Call = Call::SetWord { port: 1, session: 0, claim: RawClaim::ELEVATED, target: 1, word: 0x30, second: 0x20 };
+        /// assert_eq!(call.to_string(), "set_word port 1 session 0 elevated target 1 word 0x30 second 0x20");
+        /// ```
         // the fields have the parameters' names
         #[allow(missing_docs)]
-        pub enum $calls<B = Vec<u8>> {
+        pub enum Call<B = Vec<u8>> {
             $($(
                 #[doc = concat!("[`entries::", stringify!($function), "`].")]
                 $case { $($name: kept!(B $($type)+)),* },
@@ -75,54 +102,63 @@ macro_rules! values {
 
         // The four that follow can't be derived: the types of the fields are macros.
 
-        impl<B: Clone> Clone for $calls<B> {
+        impl<B: Clone> Clone for Call<B> {
             fn clone(&self) -> Self {
                 match self {
-                    $($($calls::$case { $($name),* } => $calls::$case { $($name: Clone::clone($name)),* },)*)*
+                    $($(Call::$case { $($name),* } => Call::$case { $($name: Clone::clone($name)),* },)*)*
                 }
             }
         }
 
-        impl<B: fmt::Debug> fmt::Debug for $calls<B> {
+        impl<B: fmt::Debug> fmt::Debug for Call<B> {
             fn fmt(&self, f: &mut fmt::Formatter<'_>) -> fmt::Result {
                 match self {
-                    $($($calls::$case { $($name),* } => f.debug_struct(stringify!($case))$(.field(stringify!($name), $name))*.finish(),)*)*
+                    $($(Call::$case { $($name),* } => f.debug_struct(stringify!($case))$(.field(stringify!($name), $name))*.finish(),)*)*
                 }
             }
         }
 
-        impl<B: PartialEq> PartialEq for $calls<B> {
+        impl<B: PartialEq> PartialEq for Call<B> {
             fn eq(&self, other: &Self) -> bool {
                 match self {
-                    $($($calls::$case { $($name),* } => {
+                    $($(Call::$case { $($name),* } => {
                         let own = (stringify!($case), $($name),*);
-                        matches!(other, $calls::$case { $($name),* } if own == (stringify!($case), $($name),*))
+                        matches!(other, Call::$case { $($name),* } if own == (stringify!($case), $($name),*))
                     })*)*
                 }
             }
         }
 
-        impl<B: Eq> Eq for $calls<B> {}
+        impl<B: Eq> Eq for Call<B> {}
 
-        impl<B> $calls<B> {
-            /// The entries' names, in the order of docs/ENTRIES.md.
+        impl<B: AsMut<[u8]>> Call<B> {
+            /// Makes the call on this state, and answers with its number. Those that take no state leave it alone.
+            pub fn make(&mut self, state: &mut [u8]) -> u32 {
+                match self {
+                    $($(Call::$case { $($name),* } => entries::$function($(first!(state, $($state)+),)? $(given!($name: $($type)+)),*),)*)*
+                }
+            }
+        }
+
+        impl<B> Call<B> {
+            /// The entries' names, in the order of docs/ENTRIES.md: first those that take a state.
             pub const ENTRIES: &'static [&'static str] = &[$($(name_of(stringify!($symbol)),)*)*];
 
-            /// The place of its entry among [`ENTRIES`](Self::ENTRIES).
+            /// The place of its entry among [`Call::ENTRIES`].
             pub fn entry(&self) -> usize {
                 enum Place {
                     $($($case,)*)*
                 }
                 match self {
-                    $($($calls::$case { .. } => Place::$case as usize,)*)*
+                    $($(Call::$case { .. } => Place::$case as usize,)*)*
                 }
             }
         }
 
-        impl<B: AsRef<[u8]>> $calls<B> {
+        impl<B: AsRef<[u8]>> Call<B> {
             fn print_handed_out(&self, f: &mut impl fmt::Write) -> fmt::Result {
                 match self {
-                    $($($calls::$case { $($name),* } => { $(printed_where_handed_out!(f $name $name: $($type)+)?;)* })*)*
+                    $($(Call::$case { $($name),* } => { $(printed_where_handed_out!(f $name $name: $($type)+)?;)* })*)*
                 }
                 Ok(())
             }
@@ -137,11 +173,11 @@ macro_rules! values {
         }
 
         /// The call on one line, its fields by name; bytes as [`Bytes`].
-        impl<B: AsRef<[u8]>> fmt::Display for $calls<B> {
+        impl<B: AsRef<[u8]>> fmt::Display for Call<B> {
             fn fmt(&self, f: &mut fmt::Formatter<'_>) -> fmt::Result {
-                f.write_str($calls::<B>::ENTRIES[self.entry()])?;
+                f.write_str(Call::<B>::ENTRIES[self.entry()])?;
                 match self {
-                    $($($calls::$case { $($name),* } => { $(printed!(f $name $name: $($type)+)?;)* })*)*
+                    $($(Call::$case { $($name),* } => { $(printed!(f $name $name: $($type)+)?;)* })*)*
                 }
                 Ok(())
             }
@@ -149,112 +185,7 @@ macro_rules! values {
     };
 }
 
-macro_rules! call {
-    ($($lines:tt)*) => {
-        values! {
-            /// A call of one of the entries, with numbers that may be wrong: it is for the module to answer them. It can be read, kept, made again, changed and printed. The
-            /// entries for all messages of 004 clause 9.2 are not among them: they have [`Message`](crate::message::Message).
-            ///
-            /// Each case is named after its entry, and its fields are the entry's parameters after the state. What an entry writes to is a part of the call: before it is made, what stands there; afterwards,
-            /// what it has left there. `B` is the buffer of those that are slices.
-            ///
-            /// ```
-            /// use slavotuk::entries::RawClaim;
-            /// use slavotuk::{Call, Refusal, STATE_LENGTH};
-            ///
-            /// let mut state = [0; STATE_LENGTH];
-            /// let mut provisioned = vec![0; 8];
-            /// provisioned[1] = 1;
-            /// let mut call: Call = Call::Fresh { provisioned, words: vec![16; 8], seconds: vec![0; 8] };
-            /// assert_eq!(call.make(&mut state), 0);
-            ///
-            /// let mut call: Call = Call::Open { port: 1, session: 4 };
-            /// assert_eq!(call.to_string(), "open port 1 session 4");
-            /// assert_eq!(call.make(&mut state), Refusal::Argument.number());
-            ///
-            /// let claim = RawClaim { kind: 0, credential: 1, number: 0, verdict: 1 };
-            /// let mut call = Call::List { port: 0, session: 0, claim, wanted: 65535, response: vec![0xaa; 4], length: 9 };
-            /// assert_eq!(call.make(&mut state), Refusal::Session.number());
-            /// assert_eq!(call, Call::List { port: 0, session: 0, claim, wanted: 65535, response: vec![0xaa; 4], length: 0 });
-            /// assert_eq!(call.handed_out(), " response (4 bytes aa*4) length 0x0");
-            ///
-            /// let call: Call = Call::SetWord { port: 1, session: 0, claim: RawClaim::ELEVATED, target: 1, word: 0x30, second: 0x20 };
-            /// assert_eq!(call.to_string(), "set_word port 1 session 0 elevated target 1 word 0x30 second 0x20");
-            /// ```
-            Call
-            $($lines)*
-        }
-    };
-}
-
 calls!(call);
-
-macro_rules! call_made {
-    ($($group:ident { $($(#[$doc:meta])* $symbol:ident $function:ident $case:ident $([$($state:tt)+])? $(($name:ident: $($type:tt)+))*;)* })*) => {
-        impl<B: AsMut<[u8]>> Call<B> {
-            /// Makes the call on this state, and answers with its number. Those that take no state leave it alone.
-            pub fn make(&mut self, state: &mut [u8]) -> u32 {
-                match self {
-                    $($(Call::$case { $($name),* } => entries::$function($(first!(state, $($state)+),)? $(given!($name: $($type)+)),*),)*)*
-                }
-            }
-        }
-    };
-}
-
-calls!(call_made);
-
-macro_rules! provision {
-    ($($lines:tt)*) => {
-        values! {
-            /// A call of one of the entries that take a store behind the state: those of provisioning, ownership and reset. It is to [`Module`](crate::Module) and
-            /// [`Store`](crate::Store) what [`Call`] is to `Module` alone.
-            ///
-            /// ```
-            /// use slavotuk::entries::RawClaim;
-            /// use slavotuk::{Call, Grants, Module, Provision, Refusal, STORE_LENGTH};
-            ///
-            /// let mut state = Module::fresh(&[Grants::UNPROVISIONED; 8])?.into_bytes();
-            /// let mut store = [0; STORE_LENGTH];
-            /// for mut call in [Call::<Vec<u8>>::Open { port: 0, session: 0 }, Call::Select { port: 0, session: 0, version: 0x10 }] {
-            ///     assert_eq!(call.make(&mut state), 0);
-            /// }
-            ///
-            /// let claim = RawClaim::NONE;
-            /// let mut call: Provision = Provision::SetParameters { port: 0, session: 0, claim, target: 2, parameters: vec![1; 30] };
-            /// assert_eq!(call.to_string(), "set_parameters port 0 session 0 no claim target 2 parameters (30 bytes 01*30)");
-            /// assert_eq!(call.make(&mut state, &mut store), 0);
-            ///
-            /// let mut call = Provision::GetParameters { port: 0, session: 0, claim, target: 2, buffer: vec![0xaa; 31], length: 7, locked: 7 };
-            /// assert_eq!(call.make(&mut state, &mut store), 0);
-            /// assert_eq!(call.handed_out(), " buffer (31 bytes 01*30 aa) length 0x1e locked 0x0");
-            ///
-            /// let mut call: Provision = Provision::Lock { port: 0, session: 0, claim, target: 2 };
-            /// assert_eq!(call.make(&mut state, &mut store), Refusal::Argument.number());
-            /// # Ok::<(), Refusal>(())
-            /// ```
-            Provision
-            $($lines)*
-        }
-    };
-}
-
-provisions!(provision);
-
-macro_rules! provision_made {
-    ($($group:ident { $($(#[$doc:meta])* $symbol:ident $function:ident $case:ident [$($state:tt)+] [$($store:tt)+] $(($name:ident: $($type:tt)+))*;)* })*) => {
-        impl<B: AsMut<[u8]>> Provision<B> {
-            /// Makes the call on this state and this store, and answers with its number.
-            pub fn make(&mut self, state: &mut [u8], store: &mut [u8]) -> u32 {
-                match self {
-                    $($(Provision::$case { $($name),* } => entries::$function(state, store, $(given!($name: $($type)+)),*),)*)*
-                }
-            }
-        }
-    };
-}
-
-provisions!(provision_made);
 
 impl fmt::Display for RawClaim {
     fn fmt(&self, f: &mut fmt::Formatter<'_>) -> fmt::Result {
@@ -267,7 +198,6 @@ impl fmt::Display for RawClaim {
         match kind {
             0 => write!(f, "user")?,
             1 => return write!(f, "elevated"),
-            2 => return write!(f, "no claim"),
             _ => write!(f, "kind {kind}")?,
         }
         write!(

@@ -1,14 +1,13 @@
 //! The entries of the archive as they are: numbers and byte slices in, one number out, 0 or that of a refusal.
 //!
 //! Every function takes every value. [`crate::Module`] has the same calls with types; these are for whoever has a state of their own to lend, or values
-//! that may be wrong. A refusal leaves the state, the store and every buffer as they were, but for the number of a user's claim that has passed its check, as
+//! that may be wrong. A refusal leaves the state and every buffer as they were, but for the number of a user's claim that has passed its check, as
 //! [`crate::UserClaim`] says.
 
-/// A claim as numbers: the kind (0 a user's, 1 elevated, 2 none, in the calls that carry a claim or none) and what a user's claim carries. Of the other two the last
-/// three are ignored.
+/// A claim as numbers: the kind (0 a user's, 1 elevated) and what a user's claim carries. Of an elevated claim the last three are ignored.
 #[derive(Clone, Copy, Debug, PartialEq, Eq)]
 pub struct RawClaim {
-    /// 0 a user's, 1 elevated, 2 none.
+    /// 0 a user's, 1 elevated.
     pub kind: u32,
     /// Whose record it is.
     pub credential: u32,
@@ -25,12 +24,6 @@ impl RawClaim {
         credential: 0,
         number: 0,
         verdict: 0,
-    };
-
-    /// No claim; what it ignores is 0.
-    pub const NONE: RawClaim = RawClaim {
-        kind: 2,
-        ..RawClaim::ELEVATED
     };
 
     /// A user's claim with the verdict yes.
@@ -83,8 +76,6 @@ macro_rules! function {
     };
     ({ $(#[$doc:meta])* $symbol:ident $function:ident $parameters:tt } [$($declared:tt)*] [$($handed:tt)*]) => {
         $(#[$doc])*
-        // as many as the entry has
-        #[allow(clippy::too_many_arguments)]
         pub fn $function $parameters -> u32 {
             extern "C" {
                 fn $symbol($($declared)*) -> u32;
@@ -95,14 +86,13 @@ macro_rules! function {
 }
 
 macro_rules! functions {
-    ($($group:ident { $($(#[$doc:meta])* $symbol:ident $function:ident $case:tt $([$($lent:tt)+])* $(($($parameter:tt)+))*;)* })*) => {
+    ($($group:ident { $($(#[$doc:meta])* $symbol:ident $function:ident $case:tt $([$($state:tt)+])? $(($($parameter:tt)+))*;)* })*) => {
         $($(function! {
-            { $(#[$doc])* $symbol $function ($($($lent)+,)* $($($parameter)+),*) }
-            [] [] $(($($lent)+))* $(($($parameter)+))*
+            { $(#[$doc])* $symbol $function ($($($state)+,)? $($($parameter)+),*) }
+            [] [] $(($($state)+))? $(($($parameter)+))*
         })*)*
     };
 }
 
 calls!(functions);
-provisions!(functions);
 messages!(functions);

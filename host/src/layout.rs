@@ -104,38 +104,6 @@ pub mod image {
     }
 }
 
-/// A store, as docs/STORE.md draws it: the ownership, a head for each credential, and the parameters of each.
-pub mod store {
-    use super::*;
-
-    /// Whether ownership was taken.
-    pub const OWNERSHIP_AT: usize = 0;
-    /// The first head.
-    pub const HEADS_AT: usize = OWNERSHIP_AT + 1;
-    /// The lock, in a head.
-    pub const LOCK: usize = 0;
-    /// The length of the parameters, in a head.
-    pub const PARAMETERS_LENGTH: usize = LOCK + 1;
-    /// How many bytes a head has.
-    pub const HEAD_LENGTH: usize = PARAMETERS_LENGTH + 2;
-    /// The first credential's parameters.
-    pub const PARAMETERS_AT: usize = head_at(Credential::COUNT);
-    /// How many bytes the longest parameters have.
-    pub const FULL_PARAMETERS_LENGTH: usize = 512;
-    /// How many bytes a store has.
-    pub const LENGTH: usize = parameters_at(Credential::COUNT);
-
-    /// Where the head of a credential begins.
-    pub const fn head_at(credential: usize) -> usize {
-        HEADS_AT + HEAD_LENGTH * credential
-    }
-
-    /// Where the parameters of a credential begin.
-    pub const fn parameters_at(credential: usize) -> usize {
-        PARAMETERS_AT + FULL_PARAMETERS_LENGTH * credential
-    }
-}
-
 /// The listing messages, as docs/WIRE.md draws them: GET_AUTH_PROCESSES, and AUTH_PROCESSES with a row for each process.
 pub mod listing {
     use super::*;

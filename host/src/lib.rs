@@ -1,7 +1,7 @@
 //! The management login module of machines that banks rent, for programs in Rust.
 //!
 //! [`Module`] has document 01's calls with types: a session, which is a port and a handle, can't stand for a credential or a class, and a value out of its range
-//! can't be made. Every call returns a [`Refusal`] where it is refused, which leaves the state, the store and the lent buffer as they were, but for the number that a
+//! can't be made. Every call returns a [`Refusal`] where it is refused, which leaves the state and the lent buffer as they were, but for the number that a
 //! [`UserClaim`] has spent. Whoever has values that may be wrong turns them into typed ones (`Session::try_from((port, handle))?` refuses as the module would),
 //! or hands them to [`entries`], where the module itself answers them with 1.
 //!
@@ -90,60 +90,21 @@
 //! # Ok::<(), Refusal>(())
 //! ```
 //!
-//! # Provisioning
-//!
-//! A board leaves the factory without owners. What its credentials are provisioned with, their locks and who owns the module stand in a [`Store`] beside the
-//! module, which the calls of provisioning are lent. In the default state, until somebody has taken ownership, parameters and first words are set without a claim, and
-//! **on both ports**: a host keeps the second network off until the module is owned.
-//!
-//! ```
-//! use slavotuk::{Credential, Given, Grants, Module, Name, Refusal, ResetTarget, Session, Store, UserClaim, Words, VERSION_1_0};
-//!
-//! let (session, owner) = (Session::try_from((0, 0))?, Credential::try_from(2)?);
-//! let (mut module, mut store) = (Module::fresh(&[Grants::UNPROVISIONED; 8])?, Store::empty());
-//! module.open(session)?;
-//! module.select(session, VERSION_1_0)?;
-//!
-//! // the vendor's program provisions the owner, and gives it class 3; nobody is asked for a claim
-//! module.set_parameters(&mut store, session, Given::None, owner, &[0x5a; 512])?;
-//! module.first_word(&store, session, owner, Words { word: 8, second: 0 })?;
-//!
-//! // the owner locks its credential and takes ownership: from then on none is refused
-//! module.start(session, owner, &Name([0x11; 48]))?;
-//! let claim = UserClaim { credential: owner, number: 0, verdict: true };
-//! module.lock(&mut store, session, claim, owner)?;
-//! module.take_ownership(&mut store, session, UserClaim { number: 1, ..claim })?;
-//! assert_eq!(module.reset(&mut store, session, Given::None, ResetTarget::All), Err(Refusal::NoProcess));
-//!
-//! // a locked credential is changed by nobody, and the claim has spent its number
-//! let claim = UserClaim { number: 2, ..claim };
-//! assert_eq!(module.set_parameters(&mut store, session, claim, owner, &[]), Err(Refusal::Locked));
-//! assert_eq!(module.take_ownership(&mut store, session, UserClaim { number: 3, ..claim }), Err(Refusal::Owned));
-//! module.unlock(&mut store, session, UserClaim { number: 4, ..claim }, owner)?;
-//!
-//! // a reset of all leaves nothing, and the module is in the default state again
-//! module.reset(&mut store, session, UserClaim { number: 5, ..claim }, ResetTarget::All)?;
-//! assert_eq!((module.processes().len(), store), (0, Store::empty()));
-//! # Ok::<(), Refusal>(())
-//! ```
-//!
 //! # Where things are
 //!
 //! | Item | What it is |
 //! |---|---|
 //! | [`Module`] | the calls, and what the state holds: [`Phase`], [`Grants`] with their [`Lookup`], [`Process`] |
 //! | [`Port`], [`Session`], [`Credential`], [`Class`], [`Name`], [`Claim`], [`Wanted`], [`Words`] | what a call is handed |
-//! | [`Store`], [`Parameters`] | what provisioning keeps beside the state, and what the flash has to do |
-//! | [`Given`], [`ResetTarget`] | what the calls of provisioning are handed beside these |
-//! | [`Refusal`], [`answered`] | the numbers 1 to 15 of document 01 and 16 to 18 of document 02, and those of later archives |
+//! | [`Refusal`], [`answered`] | the numbers 1 to 15 of document 01 and 18 of document 02, and those of later archives |
 //! | [`Image`] | what a module keeps while it is without power, what it loses, and what the flash has to do |
 //! | [`rescue`], [`Rescued`] | a good image of a damaged one, what it had to leave, and what it can't know |
 //! | [`Listing`], [`read_request`], [`write_request`] | the listing messages, for consoles too |
 //! | [`message`] | all messages of 004 clause 9.2 |
 //! | [`entries`] | the archive's entries as they are, with numbers and byte slices |
-//! | [`Call`], [`Provision`] | a call of an entry as a value: those on a state, and those on a state and a store |
+//! | [`Call`] | a call of an entry as a value |
 //! | [`SIGNATURES`] | the parameters of every entry, as text |
-//! | [`layout`] | where things lie in a state, a store, an image and a listing |
+//! | [`layout`] | where things lie in a state, an image and a listing |
 
 #![deny(missing_docs)]
 #![deny(unsafe_code)]
@@ -160,13 +121,11 @@ mod listing;
 pub mod message;
 mod module;
 mod numbers;
-mod provision;
 mod rescue;
-mod store;
 mod values;
 mod view;
 
-pub use call::{Bytes, Call, Provision};
+pub use call::{Bytes, Call};
 pub use image::{Image, FULL_IMAGE_LENGTH};
 pub use layout::PLACES;
 pub use listing::{
@@ -177,9 +136,8 @@ pub use module::{Module, STATE_LENGTH, VERSION_1_0};
 pub use numbers::{answered, Refusal, UnknownNumber};
 pub use rescue::{rescue, DroppedPlaces, Rescued};
 pub use signatures::{Signature, SIGNATURES};
-pub use store::{Parameters, Store, FULL_PARAMETERS_LENGTH, STORE_LENGTH};
 pub use values::{
-    Claim, Class, Credential, Given, Grants, Kind, Lookup, Name, Port, ResetTarget, Session,
-    UserClaim, Wanted, Words, NAME_LENGTH,
+    Claim, Class, Credential, Grants, Kind, Lookup, Name, Port, Session, UserClaim, Wanted, Words,
+    NAME_LENGTH,
 };
 pub use view::{Phase, Process, Processes, Standing};

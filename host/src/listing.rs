@@ -1,7 +1,7 @@
 //! The listing messages, GET_AUTH_PROCESSES and AUTH_PROCESSES, as docs/WIRE.md draws them.
 
 use crate::layout::listing::{self, NAME, OWNER, ROWS_AT, ROW_LENGTH, TYPE};
-use crate::{answered, entries, Credential, Kind, Name, Refusal, ResetTarget, Wanted, NAME_LENGTH};
+use crate::{answered, entries, Credential, Kind, Name, Refusal, Wanted, NAME_LENGTH};
 use std::fmt;
 
 /// How many bytes a request has.
@@ -42,14 +42,6 @@ impl WireCredential {
         }
         self.credential().map(Wanted::Of)
     }
-
-    /// What a reset of this number is to reset, or `None` where the module has no such credential.
-    pub fn reset_target(self) -> Option<ResetTarget> {
-        if self.0 == ALL_CREDENTIALS {
-            return Some(ResetTarget::All);
-        }
-        self.credential().map(ResetTarget::One)
-    }
 }
 
 impl From<Credential> for WireCredential {
@@ -63,15 +55,6 @@ impl From<Wanted> for WireCredential {
         match wanted {
             Wanted::All => WireCredential(ALL_CREDENTIALS),
             Wanted::Of(credential) => credential.into(),
-        }
-    }
-}
-
-impl From<ResetTarget> for WireCredential {
-    fn from(target: ResetTarget) -> WireCredential {
-        match target {
-            ResetTarget::All => WireCredential(ALL_CREDENTIALS),
-            ResetTarget::One(credential) => credential.into(),
         }
     }
 }

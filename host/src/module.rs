@@ -35,7 +35,7 @@ pub const VERSION_1_0: u8 = 0x10;
 /// ```
 #[derive(Clone, Debug, PartialEq, Eq)]
 pub struct Module<S = [u8; STATE_LENGTH]> {
-    pub(crate) state: S,
+    state: S,
 }
 
 impl Module {
@@ -449,7 +449,7 @@ impl<S: AsMut<[u8]>> Module<S> {
 }
 
 /// A claim as the entries take it. Of an elevated one only the kind is read.
-pub(crate) fn raw(claim: impl Into<Claim>) -> RawClaim {
+fn raw(claim: impl Into<Claim>) -> RawClaim {
     match claim.into() {
         Claim::Elevated => RawClaim::ELEVATED,
         Claim::User(user) => RawClaim {

@@ -6,7 +6,7 @@ use std::num::NonZeroU32;
 /// Defines the refusals: each has its number, its name, and what it says.
 macro_rules! refusals {
     ($($(#[$doc:meta])* $refusal:ident = $number:literal, $name:literal;)+) => {
-        /// Why a call was refused: the numbers of documents 01 and 02, from 1 on. A refusal leaves the state, the store and the lent buffer as they were, but for the number of a
+        /// Why a call was refused: the numbers of documents 01 and 02, from 1 on. A refusal leaves the state and the lent buffer as they were, but for the number of a
         /// [`UserClaim`](crate::UserClaim) that has passed its check.
         ///
         /// A later archive can refuse with numbers that this list does not have: they are refusals like the others, and keep their number.
@@ -64,7 +64,7 @@ macro_rules! refusals {
 }
 
 refusals! {
-    /// A value out of its range, a slice that holds no state, or a store that does not fit the state.
+    /// A value out of its range, or a slice that holds no state.
     Argument = 1, "argument";
     /// The session is closed, or for open: already open.
     Session = 2, "session";
@@ -94,10 +94,6 @@ refusals! {
     Message = 14, "message";
     /// The buffer is too short.
     Room = 15, "room";
-    /// The credential to be changed is locked.
-    Locked = 16, "locked";
-    /// Ownership was taken before.
-    Owned = 17, "owned";
     /// The claim is a user's, and the class is granted only under elevation.
     OnlyElevated = 18, "only elevated";
 }

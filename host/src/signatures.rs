@@ -1,17 +1,17 @@
 //! The signatures of the entries, once. The functions of [`entries`](crate::entries) and what they declare come from the lines below, [`Call`](crate::Call) with its
-//! names and its printing, [`Provision`](crate::Provision) likewise, the comparison's calls of its model, and the console's reading of a call. tests/signatures.rs holds the header and the module's sources to them.
+//! names and its printing, the comparison's calls of its model, and the console's reading of a call. tests/signatures.rs holds the header and the module's sources to them.
 //!
 //! A line is an entry's symbol, the function around it, the case of `Call`, and the parameters in their order:
 //!
 //! | Parameter | In C |
 //! |---|---|
-//! | `[state: &mut [u8]]`, or `&[u8]` where it is only read: the lent state, and behind it the lent store | its pointer and its length |
+//! | `[state: &mut [u8]]`, or `&[u8]` where it is only read: the lent state | its pointer and its length |
 //! | `(session: u32)`: a number | the number |
 //! | `(name: &[u8])`: a slice; `(response: &mut [u8])`: one that is written to | its pointer and its length |
 //! | `(length: &mut usize)`: a number that is handed out | a pointer |
 //! | `(claim: RawClaim)`: a claim | its four numbers: kind, credential, number, verdict |
 //!
-//! `calls!(take)`, `provisions!(take)` and `messages!(take)` hand their lines to the macro `take`, whose pattern is always that of [`SIGNATURES`].
+//! `calls!(take)` and `messages!(take)` hand their lines to the macro `take`, whose pattern is always that of [`SIGNATURES`].
 
 /// The lines of the entries that are cases of [`Call`](crate::Call), in the order of docs/ENTRIES.md: first those that take a state.
 #[macro_export]
@@ -76,40 +76,6 @@ macro_rules! calls {
     };
 }
 
-/// The lines of the entries that take a store behind the state, the cases of [`Provision`](crate::Provision), in the order of docs/ENTRIES.md.
-#[macro_export]
-#[doc(hidden)]
-macro_rules! provisions {
-    ($take:ident) => {
-        $take! {
-            module {
-                /// Asks whether a slice holds a state, and another one a store that fits it: 0 where it is so, 1 where not.
-                slavotuk_holds_store holds_store HoldsStore [state: &[u8]] [store: &[u8]];
-            }
-            sessions {
-                /// Sets the parameters of a credential and provisions it: all its processes are removed.
-                slavotuk_set_parameters set_parameters SetParameters [state: &mut [u8]] [store: &mut [u8]] (port: u32) (session: u32) (claim: RawClaim) (target: u32) (parameters: &[u8]);
-                /// Copies the parameters of a credential to the front of the buffer. `length` becomes theirs and `locked` the credential's lock, both 0 on a refusal.
-                slavotuk_get_parameters get_parameters GetParameters [state: &mut [u8]] [store: &[u8]] (port: u32) (session: u32) (claim: RawClaim) (target: u32) (buffer: &mut [u8]) (length: &mut usize) (locked: &mut u32);
-                /// Sets both words of a credential in the default state.
-                slavotuk_first_word first_word FirstWord [state: &mut [u8]] [store: &[u8]] (port: u32) (session: u32) (target: u32) (word: u32) (second: u32);
-                /// Resets a credential to default, or all that are not locked and the ownership (65535).
-                slavotuk_reset reset Reset [state: &mut [u8]] [store: &mut [u8]] (port: u32) (session: u32) (claim: RawClaim) (target: u32);
-                /// Takes ownership of the module.
-                slavotuk_take_ownership take_ownership TakeOwnership [state: &mut [u8]] [store: &mut [u8]] (port: u32) (session: u32) (claim: RawClaim);
-                /// Locks the claim's own credential.
-                slavotuk_lock lock Lock [state: &mut [u8]] [store: &mut [u8]] (port: u32) (session: u32) (claim: RawClaim) (target: u32);
-                /// Unlocks the claim's own credential.
-                slavotuk_unlock unlock Unlock [state: &mut [u8]] [store: &mut [u8]] (port: u32) (session: u32) (claim: RawClaim) (target: u32);
-            }
-            power {
-                /// Makes a module from an image, beside the store that was kept with it; the state's old bytes don't matter.
-                slavotuk_restore_with_store restore_with_store RestoreWithStore [state: &mut [u8]] [store: &mut [u8]] (image: &[u8]);
-            }
-        }
-    };
-}
-
 /// The lines of the others, which have no case: `_` stands at its place.
 macro_rules! messages {
     ($take:ident) => {
@@ -169,13 +135,13 @@ pub struct Signature {
 }
 
 macro_rules! texts {
-    ($($group:ident { $($(#[$doc:meta])* $symbol:ident $function:ident $case:tt $([$($lent:tt)+])* $(($($parameter:tt)+))*;)* })*) => {
+    ($($group:ident { $($(#[$doc:meta])* $symbol:ident $function:ident $case:tt $([$($state:tt)+])? $(($($parameter:tt)+))*;)* })*) => {
         &[$($(Signature {
             symbol: stringify!($symbol),
-            parameters: &[$(stringify!($($lent)+),)* $(stringify!($($parameter)+)),*],
+            parameters: &[$(stringify!($($state)+),)? $(stringify!($($parameter)+)),*],
         }),*),*]
     };
 }
 
-/// The signatures of all entries: those of [`Call`](crate::Call), those of [`Provision`](crate::Provision), and the others.
-pub const SIGNATURES: [&[Signature]; 3] = [calls!(texts), provisions!(texts), messages!(texts)];
+/// The signatures of all entries: those of [`Call`](crate::Call), and the others.
+pub const SIGNATURES: [&[Signature]; 2] = [calls!(texts), messages!(texts)];

@@ -1,4 +1,4 @@
-//! What a call is handed: ports, sessions, credentials, classes, names, claims, targets, words and grants.
+//! What a call is handed: ports, sessions, credentials, classes, names, claims, words and grants.
 
 use crate::Refusal;
 use std::cmp::Ordering;
@@ -356,10 +356,9 @@ impl fmt::Debug for Name {
 
 /// What a user claims: that the record is theirs, that it has this number, and that the key unit said yes or no to its signature.
 ///
-/// A claim that passes its check spends its number, even if the call is refused afterwards: by not granted, by only elevated, by locked, by owned, by room in a
-/// listing or in getting parameters, by no process in a kill, by credential in setting words or getting parameters. So the next claim has the next number after
-/// these, as after a call that is done; where no process or credential came of the claim's own check, there is no process to go on with. After every other refusal
-/// with a name, the number is still the next.
+/// A claim that passes its check spends its number, even if the call is refused afterwards: by not granted, by only elevated, by room in a listing, by no process
+/// in a kill, by credential in setting words. So the next claim has the next number after these, as after a call that is done; where no process or credential
+/// came of the claim's own check, there is no process to go on with. After every other refusal with a name, the number is still the next.
 ///
 /// ```
 /// use slavotuk::{Claim, Credential, UserClaim};
@@ -422,68 +421,6 @@ pub enum Claim {
 impl From<UserClaim> for Claim {
     fn from(claim: UserClaim) -> Claim {
         Claim::User(claim)
-    }
-}
-
-/// A claim, or none: what the setting and getting of parameters and a reset are given. In the default state they are taken with none, and [`Refusal::NoProcess`]
-/// refuses it where the module is owned. A claim that is given is checked and spends its number, whether the call would need one or not.
-///
-/// ```
-/// use slavotuk::{Claim, Credential, Given, UserClaim};
-///
-/// let claim = UserClaim { credential: Credential::new(1).unwrap(), number: 0, verdict: true };
-/// assert_eq!(Given::from(claim), Given::Claim(Claim::User(claim)));
-/// assert_eq!(Given::from(Claim::Elevated), Given::Claim(Claim::Elevated));
-/// ```
-///
-/// Where a claim must be, none is no claim:
-///
-/// ```compile_fail,E0277
-/// use slavotuk::{Given, Grants, Module, Session, Store};
-///
-/// let (mut module, mut store) = (Module::fresh(&[Grants::of_word(15); 8]).unwrap(), Store::empty());
-/// let _ = module.take_ownership(&mut store, Session::try_from((0, 0)).unwrap(), Given::None);
-/// ```
-#[derive(Clone, Copy, Debug, PartialEq, Eq, Hash)]
-pub enum Given {
-    /// No claim.
-    None,
-    /// This claim.
-    Claim(Claim),
-}
-
-impl From<Claim> for Given {
-    fn from(claim: Claim) -> Given {
-        Given::Claim(claim)
-    }
-}
-
-impl From<UserClaim> for Given {
-    fn from(claim: UserClaim) -> Given {
-        Given::Claim(claim.into())
-    }
-}
-
-/// What a reset is to reset.
-///
-/// ```
-/// use slavotuk::{Credential, ResetTarget, WireCredential};
-///
-/// let one = ResetTarget::from(Credential::new(1).unwrap());
-/// assert_eq!(WireCredential::from(one).0, 1);
-/// assert_eq!(WireCredential(65535).reset_target(), Some(ResetTarget::All));
-/// ```
-#[derive(Clone, Copy, Debug, PartialEq, Eq, Hash)]
-pub enum ResetTarget {
-    /// All credentials that are not locked, and the ownership.
-    All,
-    /// One credential.
-    One(Credential),
-}
-
-impl From<Credential> for ResetTarget {
-    fn from(credential: Credential) -> ResetTarget {
-        ResetTarget::One(credential)
     }
 }
 

@@ -1,11 +1,11 @@
 //! The header has the layout's figures.
 
-use slavotuk::layout::{image, listing, state, store};
+use slavotuk::layout::{image, listing, state};
 use slavotuk::{Credential, Port, Session, NAME_LENGTH, PLACES};
 use std::fs;
 use std::path::Path;
 
-const SAME: [(&str, usize); 14] = [
+const SAME: [(&str, usize); 12] = [
     ("PORTS", Port::COUNT),
     ("SESSIONS", Session::PER_PORT),
     ("CREDENTIALS", Credential::COUNT),
@@ -18,8 +18,6 @@ const SAME: [(&str, usize); 14] = [
     ("IMAGE_HEADER_SIZE", image::ROWS_AT),
     ("IMAGE_OLD_HEADER_SIZE", image::OLD_ROWS_AT),
     ("IMAGE_ROW_SIZE", image::ROW_LENGTH),
-    ("STORE_SIZE", store::LENGTH),
-    ("PARAMETERS_SIZE", store::FULL_PARAMETERS_LENGTH),
 ];
 
 #[test]

@@ -8,8 +8,8 @@ use slavotuk::{
     Standing, UserClaim, Wanted, FULL_LISTING_LENGTH,
 };
 
-/// The names as document 01's table has them, and those of document 02's numbers, orders 5 and 7.
-const NAMES: [(u32, &str); 18] = [
+/// The names as document 01's table has them, and that of document 02's number, order 7.
+const NAMES: [(u32, &str); 16] = [
     (1, "argument"),
     (2, "session"),
     (3, "no version"),
@@ -25,8 +25,6 @@ const NAMES: [(u32, &str); 18] = [
     (13, "spent"),
     (14, "message"),
     (15, "room"),
-    (16, "locked"),
-    (17, "owned"),
     (18, "only elevated"),
 ];
 
@@ -49,7 +47,7 @@ fn numbers_and_names_are_the_documents() {
 
 #[test]
 fn a_number_without_a_name_is_a_refusal_too() {
-    for number in [19, 20, 255, 256, u32::MAX] {
+    for number in [16, 17, 19, 20, 255, 256, u32::MAX] {
         let refusal = answered(number).unwrap_err();
         assert_eq!((refusal.number(), refusal.name()), (number, "unknown"));
         assert_eq!(refusal.to_string(), format!("unknown number {number}"));

@@ -226,22 +226,6 @@ fn a_changed_parameter_of_the_header_is_told() {
             "const uint32_t *seconds",
             "const uint8_t *seconds",
         ],
-        // two slices of one type, one behind the other
-        [
-            "slavotuk_holds_store",
-            "const uint8_t *state, size_t state_length, const uint8_t *store, size_t store_length)",
-            "const uint8_t *store, size_t store_length, const uint8_t *state, size_t state_length)",
-        ],
-        [
-            "slavotuk_first_word",
-            "const uint8_t *store, size_t store_length,\n                             uint32_t port",
-            "uint8_t *store, size_t store_length, uint32_t port",
-        ],
-        [
-            "slavotuk_get_parameters",
-            "uint32_t *SLAVOTUK_RESTRICT locked",
-            "size_t *SLAVOTUK_RESTRICT locked",
-        ],
         // three numbers of one type, one behind the other
         [
             "slavotuk_rescue",

@@ -9,7 +9,7 @@ use crate::number::{refuse_unless, refuse_when, Number};
 use crate::rescue;
 
 /// The wanted credential that stands for all.
-pub(crate) const ALL: u32 = 65_535;
+const ALL: u32 = 65_535;
 
 /// What the host lends as the state.
 #[derive(Clone, Debug, PartialEq, Eq)]
@@ -37,14 +37,14 @@ impl Lent {
         }
     }
 
-    pub(crate) fn length(&self) -> usize {
+    fn length(&self) -> usize {
         match self {
             Lent::State(_) => STATE_LENGTH,
             Lent::Other(bytes) => bytes.len(),
         }
     }
 
-    pub(crate) fn module(&mut self) -> Result<&mut Module, Number> {
+    fn module(&mut self) -> Result<&mut Module, Number> {
         match self {
             Lent::State(module) => Ok(module),
             Lent::Other(_) => Err(Number::Argument),
@@ -337,14 +337,14 @@ pub(crate) fn number_of(call: impl FnOnce() -> Result<(), Number>) -> u32 {
 }
 
 /// Both in their ranges: a handle of 4 on port 0 is no session of port 1.
-pub(crate) fn session_of(port: u32, handle: u32) -> Result<Session, Number> {
+fn session_of(port: u32, handle: u32) -> Result<Session, Number> {
     Ok(Session {
         port: below(port, PORTS)?,
         handle: below(handle, SESSIONS)?,
     })
 }
 
-pub(crate) fn owner(credential: u32) -> Result<usize, Number> {
+fn owner(credential: u32) -> Result<usize, Number> {
     below(credential, CREDENTIALS)
 }
 
@@ -367,7 +367,7 @@ fn whole_name(bytes: &[u8]) -> Result<Name, Number> {
 }
 
 /// An elevated claim's credential, number and verdict are ignored whatever they hold, by the check for 1 too.
-pub(crate) fn claimed(claim: RawClaim) -> Result<Claim, Number> {
+fn claimed(claim: RawClaim) -> Result<Claim, Number> {
     if flag(claim.kind)? {
         return Ok(Claim::Elevated);
     }

@@ -3,15 +3,11 @@
 //!
 //! [`module`] has what the module holds and the calls, in the order of the document's sentences; [`messages`] the listing messages; [`layout`] the state's
 //! 717 bytes; [`image`] what comes through a power cycle; [`rescue`] what is left of a damaged image, with [`rescue_examples`]; [`figures`] what is printed of a
-//! drawer of images; [`entries`] the entries as a host calls them; [`port_steps`] steps on two ports. [`board`] has the calls of document 02's order 5, on the module
-//! and the store beside it, with [`store`], [`board_entries`] and [`board_steps`]. [`wire`] has all messages of 004 clause 9.2, read by
+//! drawer of images; [`entries`] the entries as a host calls them; [`port_steps`] steps on two ports. [`wire`] has all messages of 004 clause 9.2, read by
 //! [`wire_read`], written by [`wire_write`], with their entries in [`wire_entries`] and examples in [`wire_examples`].
 #![forbid(unsafe_code)]
 #![warn(missing_docs)]
 
-pub mod board;
-pub mod board_entries;
-pub mod board_steps;
 pub mod entries;
 pub mod figures;
 pub mod image;
@@ -21,7 +17,6 @@ pub mod module;
 pub mod port_steps;
 pub mod rescue;
 pub mod rescue_examples;
-pub mod store;
 pub mod wire;
 pub mod wire_entries;
 pub mod wire_examples;

@@ -24,7 +24,7 @@ pub const SPENT: u16 = 65_535;
 const LIST_OTHERS: u32 = 0;
 const KILL_OTHERS: u32 = 1;
 const SAVE_OWN: u32 = 2;
-pub(crate) const SET_WORDS: u32 = 3;
+const SET_WORDS: u32 = 3;
 
 /// What the hash unit works out for a process.
 pub type Name = [u8; NAME_LENGTH];
@@ -481,7 +481,7 @@ impl Module {
         refuse_when(self.phase(session) == Phase::Closed, Number::Session)
     }
 
-    pub(crate) fn check_version(&self, session: Session) -> Result<(), Number> {
+    fn check_version(&self, session: Session) -> Result<(), Number> {
         self.check_open(session)?;
         refuse_when(
             self.phase(session) == Phase::OpenWithoutVersion,
@@ -489,7 +489,7 @@ impl Module {
         )
     }
 
-    pub(crate) fn check_provisioned(&self, credential: usize) -> Result<(), Number> {
+    fn check_provisioned(&self, credential: usize) -> Result<(), Number> {
         refuse_unless(self.credentials[credential].provisioned, Number::Credential)
     }
 
@@ -513,12 +513,7 @@ impl Module {
     }
 
     /// 10; 18 where the class is granted only under elevation and the claim is a user's. It is the claim that is elevated or not, whatever stands in its session.
-    pub(crate) fn check_granted(
-        &self,
-        claim: Claim,
-        credential: usize,
-        class: u32,
-    ) -> Result<(), Number> {
+    fn check_granted(&self, claim: Claim, credential: usize, class: u32) -> Result<(), Number> {
         match self.lookup(credential, class) {
             Grant::No => Err(Number::NotGranted),
             Grant::Yes => Ok(()),
@@ -530,7 +525,7 @@ impl Module {
 
     /// The check of a claim, by which a user's is counted. Elevated: 6 unless the session has an active elevation; the credential is that process's, and
     /// nothing is counted. Answers with the claim's credential.
-    pub(crate) fn take_claim(&mut self, session: Session, claim: Claim) -> Result<usize, Number> {
+    fn take_claim(&mut self, session: Session, claim: Claim) -> Result<usize, Number> {
         match claim {
             Claim::Elevated => {
                 let place = self.find_elevation(session).ok_or(Number::NoProcess)?;

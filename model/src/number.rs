@@ -35,10 +35,6 @@ pub enum Number {
     Message = 14,
     /// The buffer is too short.
     Room = 15,
-    /// The credential to be changed is locked.
-    Locked = 16,
-    /// The ownership was taken already.
-    Owned = 17,
     /// A user claim for a class that is granted only under elevation.
     OnlyElevated = 18,
 }

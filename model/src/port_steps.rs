@@ -106,7 +106,7 @@ pub struct Row {
     pub number: u32,
 }
 
-pub(crate) const fn row(step: u32, session: [u32; 2], asked: Asked, number: u32) -> Row {
+const fn row(step: u32, session: [u32; 2], asked: Asked, number: u32) -> Row {
     Row {
         step,
         session,

@@ -6,7 +6,7 @@ use mathlib.Core.Path.{◌≡◌, refl, sym, ap, ◌∙◌}
 use mathlib.Core.Bool.{Bool, true, false, not}
 use mathlib.Core.List.{List, [], ◌∷◌}
 use lib.Dec.{eqb}
-use borrow.Author.Tests.{eqb-true, eqb-false, eq-eqb, ne_eqb}
+use borrow.Author.Tests.{not-true, eqb-true, eqb-false, eq-eqb, ne_eqb}
 use Rattle.lists.specs.Lists.{any}
 use Rattle.lists.proofs.Tests.{split, clash, and_left, and_right}
 use Rattle.rows.specs.Rows.{every}
@@ -23,13 +23,13 @@ use Rattle.module_state.specs.declared.Phase.{Phase}
 use Rattle.module_state.specs.declared.State.{State}
 use Rattle.module_state.specs.declared.UserClaim.{UserClaim}
 use Rattle.module_state.proofs.Laws.{stop, pass, three-passed, three-stop, three-stopped, three-done, by-when, by-unless, by-then, by-grant, clear_first, clear-rest, checked-number}
-use Rattle.calls.specs.Calls.{Call, Open, Close, Drop, Select, Start, Continue, Elevate, End, Record, ListProcesses, Kill, SetWord, list_others, save_own, set_words, Protection, Free, Under, protection, Tests, end_tests, record_tests, list_tests, kill_tests, set_word_tests, tests, asked, number_under, number, counted, effect, ahead_number, protected_number, passes_under, passes, refused_after_under, refused_after, charged, left_under, left, outcome}
+use Rattle.calls.specs.Calls.{Call, Open, Close, Drop, Select, Start, Continue, Elevate, End, Record, ListProcesses, Kill, SetWord, list_others, save_own, set_words, Protection, Free, Under, protection, Tests, end_tests, record_tests, list_tests, kill_tests, set_word_tests, tests, asked, number_under, number, counted, effect, ahead_number, protected_number, passes, refused_after, charged, left, outcome}
 use Rattle.calls.specs.declared.Outcome.{Outcome}
 use Rattle.calls.proofs.Laws.{outcome-done, refusal-leaves}
 
 module _ (st : State) where
   -- the tests after the claim's, of a call that carries one
-  unfoldable pub rest : Protection → Tests → ℕ
+  rest : Protection → Tests → ℕ
   rest Free t = 0
   rest (Under s claim) t = t.after (checked st s claim)
 
@@ -42,95 +42,68 @@ module _ (st : State) where
   cut Free t = alone t.ahead
   cut (Under s claim) t = refl
 
--- ---- whether the claim passed: of a call under any claim, with any tests
-module _ (st : State) (w : Protection) (t : Tests) where
-  pub under-passed : passes_under st w t ≡ true → number_under st w t ≡ rest st w t
-  unfolding passes_under
-  under-passed p = cut st w t ∙ three-passed _ _ _ p
-
-  pub under-stop : passes_under st w t ≡ false → number_under st w t ≡ t.ahead ▸ protected_number st w
-  unfolding passes_under
-  under-stop p = cut st w t ∙ three-stop _ _ _ p
-
-  -- a call whose claim did not pass is refused, and leaves the state as it was
-  pub under-stopped : passes_under st w t ≡ false → number_under st w t ≡ 0 → ⊥
-  unfolding passes_under
-  under-stopped p z = three-stopped _ _ (rest st w t) p (sym (cut st w t) ∙ z)
-
-  -- and one that is accepted has passed
-  pub under-accepted : number_under st w t ≡ 0 → passes_under st w t ≡ true
-  unfolding passes_under
-  under-accepted z = three-done _ _ (rest st w t) (sym (cut st w t) ∙ z)
-
-  pub left-under-stopped : passes_under st w t ≡ false → left_under st w t ≡ st
-  unfolding left_under refused_after_under
-  left-under-stopped p = rw p
-
-  -- one that is refused afterwards leaves it with the claim counted; where there is none, as it was
-  pub under-after : passes_under st w t ≡ true → (number_under st w t ≡ 0 → ⊥) → refused_after_under st w t ≡ true
-  unfolding refused_after_under
-  under-after p h = rw (p, ne_eqb (number_under st w t) 0 h)
-
-  pub under-ahead : passes_under st w t ≡ true → t.ahead ≡ 0
-  unfolding passes_under
-  under-ahead p = clear_first t.ahead (protected_number st w) (eqb-true _ 0 p)
-
-  pub under-claim : passes_under st w t ≡ true → protected_number st w ≡ 0
-  unfolding passes_under
-  under-claim p = clear-rest t.ahead (protected_number st w) (eqb-true _ 0 p)
-
-  pub after-under-claim : refused_after_under st w t ≡ true → protected_number st w ≡ 0
-  unfolding refused_after_under
-  after-under-claim r = under-claim (and_left _ _ r)
-
-  pub left-under-passed : passes_under st w t ≡ true → (number_under st w t ≡ 0 → ⊥) → left_under st w t ≡ charged st w
-  unfolding left_under
-  left-under-passed p h = rw (under-after p h)
-
-pub left-under-free : (st : State) (t : Tests) → left_under st Free t ≡ st
-unfolding left_under charged
-left-under-free st t = split (refused_after_under st Free t) (λ e. rw e) (λ e. rw e)
-
--- of document 01's calls
+-- ---- whether the claim passed
 module _ (st : State) (call : Call) where
-  -- up to the claim's, that one too
+  -- up to the claim's, that one too; and those after it
   abbrev pub up_to : ℕ
   up_to = ahead_number st call ▸ protected_number st (protection call)
 
-  pub passes-is : passes st call ≡ eqb up_to 0
-  unfolding passes ahead_number
-  passes-is = refl
+  abbrev after : ℕ
+  after = rest st (protection call) (tests st call)
+
+  in_three : number st call ≡ ahead_number st call ▸ protected_number st (protection call) ▸ after
+  unfolding number ahead_number
+  in_three = cut st (protection call) (tests st call)
+
+  number_passed : passes st call ≡ true → number st call ≡ after
+  unfolding passes
+  number_passed p = in_three ∙ three-passed _ _ _ p
 
   pub number-stop : passes st call ≡ false → number st call ≡ up_to
-  unfolding passes number ahead_number
-  number-stop p = under-stop st (protection call) (tests st call) p
+  unfolding passes
+  number-stop p = in_three ∙ three-stop _ _ _ p
 
+  -- a call whose claim did not pass is refused, and leaves the state as it was
   pub number-stopped : passes st call ≡ false → number st call ≡ 0 → ⊥
-  unfolding passes number
-  number-stopped p z = under-stopped st (protection call) (tests st call) p z
+  unfolding passes
+  number-stopped p z = three-stopped _ _ after p (sym in_three ∙ z)
+
+  -- and one that is accepted has passed
+  pub number-done : number st call ≡ 0 → passes st call ≡ true
+  unfolding passes
+  number-done z = three-done _ _ after (sym in_three ∙ z)
 
   pub left-stopped : passes st call ≡ false → left st call ≡ st
-  unfolding left passes
-  left-stopped p = left-under-stopped st (protection call) (tests st call) p
+  unfolding left refused_after
+  left-stopped p = rw p
 
   pub outcome-stopped : passes st call ≡ false → (outcome st call).state ≡ st
   outcome-stopped p = refusal-leaves st call (number-stopped p) ∙ left-stopped p
 
+  -- one that is refused afterwards leaves it with the claim counted; where there is none, as it was
+  pub refused-after : passes st call ≡ true → (number st call ≡ 0 → ⊥) → refused_after st call ≡ true
+  unfolding refused_after
+  refused-after p h = rw (p, ne_eqb (number st call) 0 h)
+
   pub passed-ahead : passes st call ≡ true → ahead_number st call ≡ 0
-  unfolding passes ahead_number
-  passed-ahead p = under-ahead st (protection call) (tests st call) p
+  unfolding passes
+  passed-ahead p = clear_first (ahead_number st call) (protected_number st (protection call)) (eqb-true up_to 0 p)
+
+  pub passed-claim : passes st call ≡ true → protected_number st (protection call) ≡ 0
+  unfolding passes
+  passed-claim p = clear-rest (ahead_number st call) (protected_number st (protection call)) (eqb-true up_to 0 p)
 
   pub after-passed : refused_after st call ≡ true → protected_number st (protection call) ≡ 0
   unfolding refused_after
-  after-passed r = after-under-claim st (protection call) (tests st call) r
+  after-passed r = passed-claim (and_left _ _ r)
 
   pub left_passed : passes st call ≡ true → (number st call ≡ 0 → ⊥) → left st call ≡ charged st (protection call)
-  unfolding left passes number
-  left_passed p h = left-under-passed st (protection call) (tests st call) p h
+  unfolding left
+  left_passed p h = rw (refused-after p h)
 
   pub left-free : protection call ≡ Free → left st call ≡ st
-  unfolding left
-  left-free f = ap (λ w. left_under st w (tests st call)) f ∙ left-under-free st (tests st call)
+  unfolding left charged
+  left-free f = split (refused_after st call) (λ e. rw (e, f)) (λ e. rw e)
 
 -- what an accepted call under a claim says: no test ahead of the claim's held, nor one of the claim's, nor one after it
 pub record Accepted (st : State) (call : Call) (s : Session) (claim : Claim) : Type 0 where
@@ -153,62 +126,13 @@ only-counted st call e w p =
     (λ z. ap (λ (o : Outcome). o.state) (outcome-done st call (eqb-true (number st call) 0 z)) ∙ w)
     (λ z. let h = eqb-false (number st call) 0 z in refusal-leaves st call h ∙ left_passed st call p h ∙ rw e)
 
--- ---- numbers of tests after a claim: of a call under any claim, with any tests
-
--- it is one of these
-abbrev pub IsOneOf : List ℕ → ℕ → Type 0
-IsOneOf l n = any (eqb n) l ≡ true
-
--- what each of some numbers passes, one of them does
-one_passes : (f : ℕ → Bool) (n : ℕ) (l : List ℕ) → IsOneOf l n → every f l ≡ true → f n ≡ true
-unfolding any every
-one_passes f n [] h e = clash h refl
-one_passes f n (x ∷ l) h e =
-    split (eqb n x) (λ q. ap f (eqb-true n x q) ∙ and_left (f x) (every f l) e) (λ q. one_passes f n l (rw q at h) (and_right (f x) (every f l) e))
-
--- so it does of the number of a call whose claim passed, where those are all that its tests after the claim give
-module _ (st : State) (t : Tests) (l : List ℕ) (none : IsOneOf l 0) (after : (by : Checked) → IsOneOf l (t.after by)) where
-  rest-is : (w : Protection) → IsOneOf l (rest st w t)
-  unfolding rest
-  rest-is Free = none
-  rest-is (Under s claim) = after (checked st s claim)
-
-  pub under-passed-number : (f : ℕ → Bool) → every f l ≡ true → (w : Protection) → passes_under st w t ≡ true → f (number_under st w t) ≡ true
-  under-passed-number f e w p = ap f (under-passed st w t p) ∙ one_passes f _ l (rest-is w) e
-
--- and so the number tells, beside what the check of the claim came to, whether the claim passed
-module _ (st : State) {s : Session} {claim : Claim} {by : Checked} (a : by ≡ checked st s claim) (w : Protection) (u : w ≡ Under s claim) (t : Tests) where
-  prot-is : protected_number st w ≡ by.number
-  unfolding protected_number
-  prot-is = rw (u, checked-number st s claim a)
-
-  pub under-passed-by : ((t.ahead ≡ 0 → ⊥) → t.ahead ≡ 1) → (passes_under st w t ≡ true → not (eqb (number_under st w t) 1) ≡ true)
-      → passed_by by (number_under st w t) ≡ passes_under st w t
-  unfolding passed_by passes_under
-  under-passed-by ahead after =
-      split (eqb by.number 0)
-      (λ z.
-      let q : protected_number st w ≡ 0 = prot-is ∙ eqb-true by.number 0 z in
-      split (eqb t.ahead 0)
-      (λ y.
-      let e : t.ahead ▸ protected_number st w ≡ 0 = pass _ (eqb-true _ _ y) ∙ q in
-      rw (z, eq-eqb _ _ e, after (eq-eqb _ _ e)))
-      (λ y.
-      let h : t.ahead ≡ 0 → ⊥ = eqb-false _ _ y in
-      let n : number_under st w t ≡ 1 = cut st w t ∙ stop _ h ∙ ahead h in
-      let e : t.ahead ▸ protected_number st w ≡ 1 = stop _ h ∙ ahead h in
-      rw (z, n, e)))
-      (λ z.
-      let h : t.ahead ▸ protected_number st w ≡ 0 → ⊥ = λ y. eqb-false by.number 0 z (sym prot-is ∙ clear-rest _ _ y) in
-      rw (z, ne_eqb _ _ h))
-
 -- ---- ahead of a claim a call is refused with 1 alone, and after it never
-pub some-unless : (b : Bool) → (1 unless b ≡ 0 → ⊥) → 1 unless b ≡ 1
-unfolding ◌unless◌
-some-unless true h = absurd (h refl)
-some-unless false h = refl
-
 module _ (st : State) where
+  some-unless : (b : Bool) → (1 unless b ≡ 0 → ⊥) → 1 unless b ≡ 1
+  unfolding ◌unless◌
+  some-unless true h = absurd (h refl)
+  some-unless false h = refl
+
   pub ahead-one : (call : Call) {s : Session} {claim : Claim} → protection call ≡ Under s claim → (ahead_number st call ≡ 0 → ⊥) → ahead_number st call ≡ 1
   unfolding protection ahead_number end_tests record_tests list_tests kill_tests set_word_tests
   ahead-one (Open s) e h = cc
@@ -228,8 +152,16 @@ module _ (st : State) where
 abbrev pub after_claim : List ℕ
 after_claim = No.done ∷ No.credential ∷ No.no_process ∷ No.not_granted ∷ No.room ∷ No.only_elevated ∷ []
 
+-- it is one of these
 abbrev IsAfter : ℕ → Type 0
-IsAfter = IsOneOf after_claim
+IsAfter n = any (eqb n) after_claim ≡ true
+
+-- what each of some numbers passes, one of them does
+one_passes : (f : ℕ → Bool) (n : ℕ) (l : List ℕ) → any (eqb n) l ≡ true → every f l ≡ true → f n ≡ true
+unfolding any every
+one_passes f n [] h e = clash h refl
+one_passes f n (x ∷ l) h e =
+    split (eqb n x) (λ q. ap f (eqb-true n x q) ∙ and_left (f x) (every f l) e) (λ q. one_passes f n l (rw q at h) (and_right (f x) (every f l) e))
 
 -- ---- and those that the check of a claim gives: 1, 2 and 3, and the claim's own
 abbrev pub of_check : List ℕ
@@ -246,7 +178,7 @@ of_check =
     ∷ []
 
 abbrev IsOfCheck : ℕ → Type 0
-IsOfCheck = IsOneOf of_check
+IsOfCheck n = any (eqb n) of_check ≡ true
 
 check-turn : (next : ℕ) (u : UserClaim) → IsOfCheck (turn_number next u)
 unfolding any turn_number
@@ -296,12 +228,40 @@ module _ (st : State) where
   is-after (Kill s claim name) by = by-unless IsAfter refl No.no_process _ refl
   is-after (SetWord s claim c words) by = by-then IsAfter _ _ (is-grant by set_words) (by-unless IsAfter refl No.credential _ refl)
 
+  rest-after : (w : Protection) (call : Call) → IsAfter (rest st w (tests st call))
+  unfolding any rest
+  rest-after Free call = refl
+  rest-after (Under s claim) call = is-after call (checked st s claim)
+
   -- so what each of them passes, the number of a call does whose claim passed
   pub passed-number : (f : ℕ → Bool) → every f after_claim ≡ true → (call : Call) → passes st call ≡ true → f (number st call) ≡ true
-  unfolding any passes number
-  passed-number f e call p = under-passed-number st (tests st call) after_claim refl (is-after call) f e (protection call) p
+  passed-number f e call p = ap f (number_passed st call p) ∙ one_passes f _ after_claim (rest-after (protection call) call) e
 
-  pub passed-by : (call : Call) {s : Session} {claim : Claim} → protection call ≡ Under s claim → {by : Checked} → by ≡ checked st s claim
-      → passed_by by (number st call) ≡ passes st call
-  unfolding every passes number ahead_number
-  passed-by call w a = under-passed-by st a (protection call) w (tests st call) (ahead-one st call w) (λ p. passed-number (λ n. not (eqb n 1)) refl call p)
+  passed-not-one : (call : Call) → passes st call ≡ true → eqb (number st call) 1 ≡ false
+  unfolding every
+  passed-not-one call p = not-true (eqb (number st call) 1) (passed-number (λ n. not (eqb n 1)) refl call p)
+
+module _ (st : State) (call : Call) {s : Session} {claim : Claim} (w : protection call ≡ Under s claim) {by : Checked} (a : by ≡ checked st s claim) where
+  prot-is : protected_number st (protection call) ≡ by.number
+  unfolding protected_number
+  prot-is = rw (w, checked-number st s claim a)
+
+  pub passed-by : passed_by by (number st call) ≡ passes st call
+  unfolding passed_by passes
+  passed-by =
+      split (eqb by.number 0)
+      (λ z.
+      let q : protected_number st (protection call) ≡ 0 = prot-is ∙ eqb-true by.number 0 z in
+      split (eqb (ahead_number st call) 0)
+      (λ y.
+      let e : ahead_number st call ▸ protected_number st (protection call) ≡ 0 = pass _ (eqb-true _ _ y) ∙ q in
+      let p : passes st call ≡ true = unfold passes in eq-eqb _ _ e in
+      rw (z, eq-eqb _ _ e, passed-not-one st call p))
+      (λ y.
+      let h : ahead_number st call ≡ 0 → ⊥ = eqb-false _ _ y in
+      let n : number st call ≡ 1 = in_three st call ∙ stop _ h ∙ ahead-one st call w h in
+      let e : ahead_number st call ▸ protected_number st (protection call) ≡ 1 = stop _ h ∙ ahead-one st call w h in
+      rw (z, n, e)))
+      (λ z.
+      let h : ahead_number st call ▸ protected_number st (protection call) ≡ 0 → ⊥ = λ y. eqb-false by.number 0 z (sym prot-is ∙ clear-rest _ _ y) in
+      rw (z, ne_eqb _ _ h))

@@ -43,7 +43,7 @@ use Rattle.module_state.specs.declared.UserClaim.{UserClaim}
 use Rattle.calls.specs.Calls.{Call, Open, Close, Drop, Select, Start, Continue, Elevate, End, Record, ListProcesses, Kill, SetWord, with_table, with_phase, user_process, elevation, activated, saved, one_more, named_place, reach, number, counted, ended, effect, protection, refused_after, charged, left}
 use Rattle.calls.specs.Run.{step}
 use Rattle.calls.specs.Ports.{session_in, is_on, is_other, is_active_of, active_of, spares, sets_words, Untouched}
-use Rattle.calls.proofs.Laws.{outcome-done, left_is, refusal-leaves}
+use Rattle.calls.proofs.Laws.{outcome-done, refusal-leaves}
 
 abbrev stands : State → List Process
 stands st = standing st.table
@@ -227,12 +227,12 @@ module _ (which : Session → Bool) (st : State) where
 
 -- ---- a call, refused or not, leaves every session as it was but the one that it names: any that are not that one
 pub untouched : (which : Session → Bool) (st : State) (call : Call) → which (session_in call) ≡ false → Untouched which call st (step st call)
-unfolding step
+unfolding step left
 untouched which st call e =
     split (eqb (number st call) 0)
     (λ z. rw (outcome-done st call (eqb-true _ _ z), step) (kept-effect which st call e))
     (λ z.
-    rw (refusal-leaves st call (eqb-false _ _ z), step, left_is st call)
+    rw (refusal-leaves st call (eqb-false _ _ z), step)
     (split (refused_after st call) (λ r. rw r (kept-charged which st call e)) (λ r. rw r kept_same)))
 
 -- all the others

@@ -297,12 +297,12 @@ protected_number st (Under s claim) = admitted st s claim
 -- ---- what a refusal leaves. Order 3: "From now on a user claim that passes its check adds one even if the call is refused afterwards: by 5 in set word, 6 in
 -- kill, 10, 15, or a refusal that a later order puts after the claim."
 
--- no test up to the claim's refuses the call, which is made under this claim and has these tests
-unfoldable pub passes_under : State → Protection → Tests → Bool
-passes_under st w t = eqb (t.ahead ▸ protected_number st w) No.done
+-- no test up to the claim's refuses the call
+unfoldable pub passes : State → Call → Bool
+passes st call = eqb (ahead_number st call ▸ protected_number st (protection call)) No.done
 
-unfoldable pub refused_after_under : State → Protection → Tests → Bool
-refused_after_under st w t = passes_under st w t && not (eqb (number_under st w t) No.done)
+unfoldable pub refused_after : State → Call → Bool
+refused_after st call = passes st call && not (eqb (number st call) No.done)
 
 -- the claim counted, where there is one
 unfoldable pub charged : State → Protection → State
@@ -310,20 +310,8 @@ charged st Free = st
 charged st (Under s claim) = counted st s claim
 
 -- '"A refusal leaves state as it was" then except[s] that one number'
-unfoldable pub left_under : State → Protection → Tests → State
-left_under st w t = cond (refused_after_under st w t) (charged st w) st
-
-unfoldable pub passes : State → Call → Bool
-unfolding passes_under tests
-passes st call = passes_under st (protection call) (tests st call)
-
-unfoldable pub refused_after : State → Call → Bool
-unfolding refused_after_under number
-refused_after st call = refused_after_under st (protection call) (tests st call)
-
 unfoldable pub left : State → Call → State
-unfolding left_under
-left st call = left_under st (protection call) (tests st call)
+left st call = cond (refused_after st call) (charged st (protection call)) st
 
 -- ---- the outcome: the answer, and the next state
 
@@ -338,16 +326,11 @@ answer_number Done = No.done
 answer_number (Refused n) = n
 answer_number (RefusedClaim n claim) = n
 
--- of a call under this claim and with these tests; accepted, it makes the state `next`
-unfoldable pub outcome_under : State → Protection → Tests → State → Outcome
-outcome_under st w t next =
-    cond (eqb (number_under st w t) No.done)
-    (record { state = next; answer = Done })
-    (record { state = left_under st w t; answer = refusal w (number_under st w t) })
-
 unfoldable pub outcome : State → Call → Outcome
-unfolding outcome_under
-outcome st call = outcome_under st (protection call) (tests st call) (effect st call)
+outcome st call =
+    cond (eqb (number st call) No.done)
+    (record { state = effect st call; answer = Done })
+    (record { state = left st call; answer = refusal (protection call) (number st call) })
 
 -- "Returns the message's length; 0 on a refusal."
 unfoldable pub measured : ℕ → ℕ → Measured

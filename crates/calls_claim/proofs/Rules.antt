@@ -19,10 +19,10 @@ use Rattle.module_state.specs.declared.Claim.TheVariants.{Elevated, ByUser}
 use Rattle.module_state.specs.declared.State.{State}
 use Rattle.module_state.specs.declared.UserClaim.{UserClaim}
 use Rattle.module_state.proofs.Laws.{passed-admitted, view_of, checked-is}
-use Rattle.calls.specs.Calls.{Call, Protection, Under, protection, Tests, tests, number_under, number, with_table, one_more, counted, passes_under, passes, charged, left_under, left, refusal, outcome}
+use Rattle.calls.specs.Calls.{Call, Under, protection, number, with_table, one_more, counted, passes, charged, left, refusal, outcome}
 use Rattle.calls.specs.declared.Answer.TheVariants.{RefusedClaim}
 use Rattle.calls.specs.declared.Outcome.{Outcome}
-use Rattle.calls.proofs.Cut.{left-under-stopped, left-under-passed, passed-by}
+use Rattle.calls.proofs.Cut.{left-stopped, left_passed, passed-by}
 use Rattle.calls.proofs.Rules.{refused_as, next_fits, counted_is, counted-elevated, rules as call-rules}
 use Rattle.calls_claim.specs.Count.{counted_at, counted_by, charged_by}
 use borrow.Author.Rules.{rules as std_rules}
@@ -115,23 +115,23 @@ module _ (st : State) (by : Checked) (n : ℕ) {b : Bool} (e : b ≡ passed_by b
   unfolding charged_by
   charge-passed k c q = q ∙ rw (← e, not-false b k, c)
 
--- ---- what a refused call under the claim leaves, where its number tells whether the claim passed: of a call with any tests
-module _ (st : State) (w : Protection) (t : Tests) {s : Session} {claim : Claim} (u : w ≡ Under s claim) {by : Checked} (e : by ≡ checked st s claim) where
-  pub charged-left : {n : ℕ} {r : State} → n ≡ number_under st w t → passed_by by (number_under st w t) ≡ passes_under st w t → (n ≡ 0 → ⊥) → r ≡ charged_by st by n → r ≡ left_under st w t
+-- ---- what a refused call under the claim leaves
+module _ (st : State) (call : Call) {s : Session} {claim : Claim} (w : protection call ≡ Under s claim) {by : Checked} (e : by ≡ checked st s claim) where
+  charged-left : {n : ℕ} {r : State} → n ≡ number st call → (n ≡ 0 → ⊥) → r ≡ charged_by st by n → r ≡ left st call
   unfolding charged_by charged
-  charged-left {n} {r} m told h q =
-      let z : number_under st w t ≡ 0 → ⊥ = λ y. h (m ∙ y) in
-      let p : passed_by by n ≡ passes_under st w t = ap (passed_by by) m ∙ told in
-      split (passes_under st w t)
+  charged-left {n} {r} m h q =
+      let z : number st call ≡ 0 → ⊥ = λ y. h (m ∙ y) in
+      let p : passed_by by n ≡ passes st call = ap (passed_by by) m ∙ passed-by st call w e in
+      split (passes st call)
       (λ y.
       let a : by.number ≡ 0 = passed-admitted by n (sym p) y in
-      q ∙ rw (p, y, by-claim st s claim e a, left-under-passed st w t y z, u))
-      (λ y. q ∙ rw (p, y) (sym (left-under-stopped st w t y)))
+      q ∙ rw (p, y, by-claim st s claim e a, left_passed st call y z, w))
+      (λ y. q ∙ rw (p, y) (sym (left-stopped st call y)))
 
--- so of a call of document 01 that answers its number with the claim
+-- so of a call that answers its number with the claim
 pub by-refused-claim : (st : State) {claim : Claim} {n : ℕ} {x : State} {o : Outcome} → o ≡ record { state = x; answer = RefusedClaim n claim } → {by : Checked} → x ≡ charged_by st by n
     → (call : Call) {s : Session} → by ≡ checked st s claim → n ≡ number st call → (n ≡ 0 → ⊥) → protection call ≡ Under s claim → o ≡ outcome st call
-unfolding refusal number passes left
-by-refused-claim st w q call e m h p = refused_as st call m h p (charged-left st (protection call) (tests st call) p e m (passed-by st call p e) h q) w
+unfolding refusal
+by-refused-claim st w q call e m h p = refused_as st call m h p (charged-left st call p e m h q) w
 
 pub ruleset rules = (call-rules, count-spent, count_fits, count-more, count-elevated, count-user, charged-done, charge-stopped, charge-passed, by-refused-claim, length-mapped, process-found-at, process-found-none, view-is, checked-is)

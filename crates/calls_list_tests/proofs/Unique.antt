@@ -2,15 +2,10 @@
 -- Assumes nothing.
 use mathlib.Core.Path.{sym, ◌∙◌}
 use Rattle.lists.proofs.Once.{OneAnswer}
-use Rattle.calls_list_tests.proofs.is_wanted.Kinds as is-wanted-kinds
-use Rattle.calls_list_tests.proofs.is_wanted.Reads as is-wanted
 use Rattle.calls_list_tests.proofs.among_of.Kinds as among-of-kinds
 use Rattle.calls_list_tests.proofs.among_of.Reads as among_of
 use Rattle.calls_list_tests.proofs.list_number.Kinds as list-number-kinds
 use Rattle.calls_list_tests.proofs.list_number.Reads as list-number
-
-pub is-wanted-once : OneAnswer 0 is-wanted-kinds.ps is-wanted-kinds.r is-wanted.Post
-is-wanted-once κs a x y s t p q = p ∙ sym q
 
 pub among-of-once : OneAnswer 0 among-of-kinds.ps among-of-kinds.r among_of.Post
 among-of-once κs a x y s t p q = p ∙ sym q

@@ -10,7 +10,7 @@ use module_state::{ARGUMENT, Checked, Class, DONE, LIST_OTHERS, ROOM, State};
 use names::{Credential, ROW_LENGTH};
 use table::Among;
 
-pub fn is_wanted(wanted: Wanted) -> bool
+fn is_wanted(wanted: Wanted) -> bool
     ensures { result ≡ is_wanted wanted }
 {
     match wanted {

@@ -7,14 +7,13 @@ use mathlib.Core.List.{List}
 use lib.Dec.{eqb}
 use borrow.Author.Tests.{not-true, not-false, eqb-true, eqb-false}
 use Rattle.lists.proofs.Tests.{split, and_right}
-use Rattle.rows.specs.Bytes.{Bytes}
 use Rattle.module_state.specs.Numbers.{◌unless◌, ◌▸◌}
 use Rattle.module_state.specs.declared.State.{State}
-use Rattle.calls.specs.Calls.{Call, Tests, tests, number_under, number, Protection, Free, Under, protection, effect, refusal, outcome_under, outcome, answer_number}
+use Rattle.calls.specs.Calls.{Call, number, Protection, Free, Under, protection, refusal, outcome, answer_number}
 use Rattle.calls.specs.declared.Answer.{Answer}
 use Rattle.calls.specs.declared.Outcome.{Outcome}
-use Rattle.calls.proofs.Cut.{left-under-free}
-use Rattle.calls.proofs.Laws.{under-done, under-refused, under-leaves, answer-number}
+use Rattle.calls.proofs.Cut.{left-free}
+use Rattle.calls.proofs.Laws.{outcome-done, outcome-refused, refusal-leaves, answer-number}
 use Rattle.state_layout.specs.Layout.{state_of, state_bytes, holds_state, state_written}
 use Rattle.state_layout.proofs.Laws.{holds-shape, one_form, state-written}
 use Rattle.entries_call.specs.CallEntry.{is_made, Ready, entry_number, entry_bytes, CallEntry}
@@ -35,34 +34,30 @@ pub made_holds : {fine h : Bool} {before : List ℕ} → Ready fine before h →
 unfolding is_made
 made_holds {fine} {h} {before} e k = and_right fine (holds_state before) (sym e.is ∙ not-false h k)
 
--- ---- a slice on which a call is made, under any claim and with any tests: what is put back are the bytes of the outcome's state. What the refusal of a call without
--- a claim leaves stands there already
-module _ (before : List ℕ) (holds : holds_state before ≡ true) (g : Bytes before) (t : Tests) (made : State) where
+-- ---- a slice on which a call is made: what is put back are the bytes of the outcome's state. What the refusal of a call without a claim leaves stands there already
+module _ {tested h : Bool} {before : List ℕ} (e : Ready tested before h) (n : not h ≡ false) (call : Call) where
   abbrev st : State
   st = state_of before
 
-  written : (x : State) → state_written before x ≡ state_bytes x
-  written x = state-written before x (holds-shape before holds).long
+  abbrev next : State
+  next = (outcome st call).state
 
-  refused-bytes : (w : Protection) → (number_under st w t ≡ 0 → ⊥)
-      → cond (may_change (refusal w (number_under st w t))) (state_written before (outcome_under st w t made).state) before ≡ state_bytes (outcome_under st w t made).state
+  written : state_written before next ≡ state_bytes next
+  written = state-written before next (holds-shape before (made_holds e n)).long
+
+  refused-bytes : (number st call ≡ 0 → ⊥) → (w : Protection) → protection call ≡ w → cond (may_change (refusal w (number st call))) (state_written before next) before ≡ state_bytes next
   unfolding may_change refusal
-  refused-bytes Free z = sym (ap state_bytes (under-leaves st Free t made z ∙ left-under-free st t) ∙ one_form before holds g)
-  refused-bytes (Under s claim) z = written (outcome_under st (Under s claim) t made).state
+  refused-bytes z Free p = sym (ap state_bytes (refusal-leaves st call z ∙ left-free st call p) ∙ one_form before (made_holds e n) e.bytes)
+  refused-bytes z (Under s claim) p = written
 
-  pub bytes-put-back : (w : Protection) → bytes_put_back before (outcome_under st w t made) ≡ state_bytes (outcome_under st w t made).state
+  pub bytes-put-back : bytes_put_back before (outcome (state_of before) call) ≡ state_bytes next
   unfolding bytes_put_back may_change
-  bytes-put-back w =
-      split (eqb (number_under st w t) 0)
-      (λ z. ap (λ (a : Answer). cond (may_change a) (state_written before (outcome_under st w t made).state) before) (ap (λ (o : Outcome). o.answer) (under-done st w t made (eqb-true (number_under st w t) 0 z))) ∙ written (outcome_under st w t made).state)
+  bytes-put-back =
+      split (eqb (number st call) 0)
+      (λ z. ap (λ (a : Answer). cond (may_change a) (state_written before next) before) (ap (λ (o : Outcome). o.answer) (outcome-done st call (eqb-true (number st call) 0 z))) ∙ written)
       (λ z.
-      let y : number_under st w t ≡ 0 → ⊥ = eqb-false (number_under st w t) 0 z in
-      ap (λ (a : Answer). cond (may_change a) (state_written before (outcome_under st w t made).state) before) (ap (λ (o : Outcome). o.answer) (under-refused st w t made y)) ∙ refused-bytes w y)
-
--- of document 01's calls
-call-put-back : {tested h : Bool} {before : List ℕ} → Ready tested before h → not h ≡ false → (call : Call) → bytes_put_back before (outcome (state_of before) call) ≡ state_bytes (outcome (state_of before) call).state
-unfolding outcome
-call-put-back {tested} {h} {before} e n call = bytes-put-back before (made_holds e n) e.bytes (tests (state_of before) call) (effect (state_of before) call) (protection call)
+      let y : number st call ≡ 0 → ⊥ = eqb-false (number st call) 0 z in
+      ap (λ (a : Answer). cond (may_change a) (state_written before next) before) (ap (λ (o : Outcome). o.answer) (outcome-refused st call y)) ∙ refused-bytes y (protection call) refl)
 
 -- ---- an entry: refused for its arguments or for the slice, or as the call answers
 module _ {tested : Bool} (fine : Bool) (f : tested ≡ fine) (before : List ℕ) (call : Call) {h : Bool} (e : Ready tested before h) where
@@ -75,4 +70,4 @@ module _ {tested : Bool} (fine : Bool) (f : tested ≡ fine) (before : List ℕ)
       let a : o ≡ outcome (state_of before) call = rw (← s, ← w) q in
       entry-made fine before call (rw (← f) (sym e.is ∙ not-false h n))
       (v.number_is ∙ ap (λ (x : Outcome). answer_number x.answer) a ∙ answer-number (state_of before) call)
-      (v.bytes-are ∙ ap (bytes_put_back before) a ∙ call-put-back e n call)
+      (v.bytes-are ∙ ap (bytes_put_back before) a ∙ bytes-put-back e n call)

@@ -18,7 +18,7 @@ use Rattle.module_state.specs.declared.Class.{Class}
 use Rattle.module_state.specs.declared.State.{State}
 use Rattle.module_state.proofs.Laws.{claim-stands}
 use Rattle.calls.specs.Calls.{Call, Record, is_device, protection, record_tests, number, counted, ahead_number, protected_number, passes, outcome}
-use Rattle.calls.proofs.Cut.{up_to, number-stop, outcome-stopped, passes-is}
+use Rattle.calls.proofs.Cut.{up_to, number-stop, outcome-stopped}
 use Rattle.state_layout.specs.Layout.{state_of, state_bytes, holds_state}
 use Rattle.state_layout.proofs.InPlace.{next-held}
 use Rattle.state_layout.proofs.Laws.{one_form}
@@ -41,7 +41,8 @@ module _ (st : State) (s : Session) (claim : Claim) (class : Class) (r : are_in_
   outside = split (is_device class) (λ d. rw d (claim-outside d)) (λ d. rw d)
 
   pub outside-stops : passes st (Record s claim class) ≡ false
-  outside-stops = passes-is st (Record s claim class) ∙ rw outside
+  unfolding passes
+  outside-stops = rw outside
 
   pub outside-number : 1 ≡ number st (Record s claim class)
   outside-number = sym (number-stop st (Record s claim class) outside-stops ∙ outside)

@@ -22,7 +22,7 @@ use Rattle.module_state.specs.declared.Class.{Class}
 use Rattle.module_state.specs.declared.UserClaim.{UserClaim}
 use Rattle.module_state.proofs.Laws.{checked-number, checked-next}
 use Rattle.calls.specs.Calls.{Record, is_device, protection, record_tests, asked, effect, ahead_number, protected_number, passes}
-use Rattle.calls.proofs.Cut.{up_to, number-stop, only-counted, passes-is}
+use Rattle.calls.proofs.Cut.{up_to, number-stop, only-counted}
 use Rattle.calls.proofs.Rules.{claim-place, next_fits, record-number, rules as call-rules}
 use Rattle.state_layout.specs.Layout.{state_of, state_bytes, holds_state, next_written}
 use Rattle.state_find.specs.Checks.{tested}
@@ -105,19 +105,20 @@ module _ (b : List ℕ) (s : Session) (claim : Claim) (class : Class) {f h : Boo
     up-to = rw device
 
     pub record-refused : {n : ℕ} → t ≡ Refused n → CallEntry true b (Record s claim class) n b
+    unfolding passes
     record-refused {n} y =
         let w : RefusedWith (state_of b) s claim n = tested-refusal (state_of b) s claim (sym x ∙ y) in
-        let p : passes (state_of b) (Record s claim class) ≡ false = passes-is (state_of b) (Record s claim class) ∙ ne_eqb _ 0 (λ z. w.some (w.is ∙ sym up-to ∙ z)) in
+        let p : passes (state_of b) (Record s claim class) ≡ false = ne_eqb _ 0 (λ z. w.some (w.is ∙ sym up-to ∙ z)) in
         entry-made true b (Record s claim class) (made (made_holds e k)) (w.is ∙ sym up-to ∙ sym (number-stop (state_of b) (Record s claim class) p))
         (sym (stopped-bytes b e.bytes (made_holds e k) (Record s claim class) p))
 
     pub record-passed : {by : Checked} {n : ℕ} {after : List ℕ} → t ≡ Passed by → after ≡ counted_in b s claim → n ≡ asked (record_tests class) by
         → CallEntry true b (Record s claim class) n after
-    unfolding protection effect
+    unfolding protection effect passes
     record-passed y w c =
         let a : PassedWith (state_of b) s claim _ = tested-pass (state_of b) s claim (sym x ∙ y) in
         let z : admitted (state_of b) s claim ≡ 0 = sym (checked-number (state_of b) s claim a.is) ∙ a.clear in
-        let p : passes (state_of b) (Record s claim class) ≡ true = passes-is (state_of b) (Record s claim class) ∙ eq-eqb _ 0 (up-to ∙ z) in
+        let p : passes (state_of b) (Record s claim class) ≡ true = eq-eqb _ 0 (up-to ∙ z) in
         entry-made true b (Record s claim class) (made (made_holds e k)) (record-number (state_of b) s claim a.is class c)
         (w
         ∙ counted-held b e.bytes (made_holds e k) s claim z

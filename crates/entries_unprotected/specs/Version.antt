@@ -5,4 +5,4 @@ unfoldable pub version_number : ℕ → ℕ → ℕ → ℕ
 version_number major minor patch = major * 65536 + minor * 256 + patch
 
 unfoldable pub library_version : ℕ
-library_version = version_number 4 2 0
+library_version = version_number 4 1 0

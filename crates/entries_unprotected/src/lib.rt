@@ -211,7 +211,7 @@ pub extern "C" fn slavotuk_holds(state: &[u8]) -> u32
 }
 
 // major * 65536 + minor * 256 + patch: include/slavotuk.h and host/Cargo.toml have the same version
-const LIBRARY_VERSION: u32 = 0x040200;
+const LIBRARY_VERSION: u32 = 0x040100;
 
 #[unsafe(no_mangle)]
 pub extern "C" fn slavotuk_version() -> u32

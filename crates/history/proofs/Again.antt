@@ -35,6 +35,7 @@ use Rattle.history.specs.History.{event, history}
 use Rattle.history.specs.Demand.{IsPassedOf, Stays, look, Tells}
 use Rattle.history.proofs.Facts.{stands, closed-not}
 use Rattle.history.proofs.Read.{claim-passed, active-passed, owner, reading}
+use Rattle.history.proofs.Keeping.{rules-step}
 use Rattle.history.proofs.Told.{live-stands, tells-look, turn-told}
 use Rattle.history.proofs.Calls.{call_step, steps}
 use Rattle.history.proofs.Along.{rules-along, told-along, larger}
@@ -114,7 +115,7 @@ module _ (st : State) (v : Rules st) (tell : Name → Life) (tells : Tells tell 
     at_last = sym (told-along name (steps st (call ∷ more)) v tell tells) ∙ there
 
     rules-last : Rules last
-    rules-last = rules-along (steps next more) ((call_step st call).rules v)
+    rules-last = rules-along (steps next more) (rules-step st call v)
 
     -- the claim, when it was first made
     first-passed : IsPassedOf (tell name) (event st call)

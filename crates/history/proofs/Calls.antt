@@ -1,7 +1,8 @@
 -- Document 01's calls are steps: a single one keeps demand 3's rules and tells what stands.
 -- Assumes nothing.
 use Prim.Native.Nat.{ℕ}
-use mathlib.Core.Path.{◌≡◌, refl}
+use mathlib.Core.Path.{◌≡◌, refl, sym, ap, ◌∙◌}
+use mathlib.Core.Logic.{◌≢◌}
 use mathlib.Core.Bool.{Bool, true, false, cond}
 use mathlib.Core.List.{List, [], ◌∷◌}
 use Rattle.lists.proofs.Tests.{split, clash}
@@ -13,23 +14,31 @@ use Rattle.names.specs.declared.Session.{Session}
 use Rattle.names.proofs.Laws.{same→name}
 use Rattle.table.specs.Table.{is_named, is_among}
 use Rattle.table.specs.declared.Active.{Active}
+use Rattle.table.specs.declared.Active.TheVariants.{UserOf}
+use Rattle.module_state.specs.Module.{has_active}
+use Rattle.module_state.specs.Claim.{admitted}
+use Rattle.module_state.specs.declared.Claim.TheVariants.{ByUser}
 use Rattle.module_state.specs.declared.State.{State}
-use Rattle.calls.specs.Calls.{Call, Open, Close, Drop, Select, Start, Continue, Elevate, End, Record, ListProcesses, Kill, SetWord, number, protection, tests, effect, ahead_number, passes, outcome}
+use Rattle.module_state.specs.declared.UserClaim.{UserClaim}
+use Rattle.calls.specs.Calls.{Call, Open, Close, Drop, Select, Start, Continue, Elevate, End, Record, ListProcesses, Kill, SetWord, Under, number, protection}
 use Rattle.calls.specs.Run.{step, run}
-use Rattle.calls.proofs.Cut.{passed-number, ahead-one}
-use Rattle.rows.specs.Rows.{every}
-use Rattle.module_rules.specs.Facts.{processes}
+use Rattle.calls.proofs.Laws.{answer-number}
+use Rattle.module_rules.specs.Facts.{processes, Rules}
 use Rattle.history.specs.Lives.{Life, Gone, Live, Raised, SavedBy, is_gone, passed, count, is_user_of, same_session, tells_passed}
 use Rattle.history.specs.History.{ends, shuts, drops, resumes, after, event, history}
 use Rattle.history.specs.Demand.{look}
 use Rattle.history.specs.Steps.{onto, Step, Steps, none, then}
 use Rattle.history.proofs.Facts.{Added, facts}
-use Rattle.history.proofs.Keeping.{rules-effect}
+use Rattle.history.proofs.Keeping.{rules-step}
 use Rattle.history.proofs.Looked.{look_none}
-use Rattle.history.proofs.Followed.{follows}
-use Rattle.history.proofs.Under.{Keeps, Accepts, under-step}
+use Rattle.history.proofs.Read.{claim-passed, reading}
+use Rattle.history.proofs.Lives.{claim-gone}
+use Rattle.history.proofs.Followed.{follows-step}
 
 -- ---- beside the claim nothing is counted
+abbrev Keeps : (Life → Life) → Life → Type 0
+Keeps g life = g life ≢ Gone → count (g life) ≡ count life
+
 module _ (s : Session) where
   shuts-keeps : (life : Life) → Keeps (shuts s) life
   unfolding shuts passed
@@ -150,22 +159,19 @@ after-new n (SetWord s claim c words) h a b = clash refl h
 
 -- ---- a call
 module _ (st : State) (call : Call) where
-  call-accepts : Accepts st (protection call) (tests st call) (effect st call) (after call)
-  unfolding number passes ahead_number tells_passed every
-  call-accepts =
+  admits : Rules st → (s : Session) (u : UserClaim) → protection call ≡ Under s (ByUser u) → has_active st (UserOf s u.credential) ≡ true → tells_passed (event st call).answered ≡ true → admitted st s (ByUser u) ≡ 0
+  admits v s u w h t = claim-passed st call s u w (sym (reading st v call s u w h) ∙ ap tells_passed (sym (answer-number st call)) ∙ t)
+
+  pub call_step : Step st (event st call) (step st call)
+  call_step =
       record {
-        ahead = ahead-one st call;
-        tells = λ p. passed-number st tells_passed refl call p;
-        rules = λ v z. rules-effect st v call (facts st call z);
-        follows = λ v z n. follows n st v call (facts st call z);
-        keeps = λ z n life is. after-keeps n st life is call z;
+        rules = rules-step st call;
+        follows = λ v n. follows-step n st v call;
+        admits = admits;
+        keeps = λ n z. after-keeps n st _ (λ e. rw e (claim-gone (event st call))) call (sym (answer-number st call) ∙ z);
         above = λ n h old. after-onto old n call h;
         anew = λ n. after-new n call;
       }
-
-  pub call_step : Step st (event st call) (step st call)
-  unfolding step outcome
-  call_step = under-step st (protection call) (tests st call) (effect st call) (after call) call-accepts
 
 -- any calls in any order, refused ones and wrong arguments included
 pub steps : (st : State) (calls : List Call) → Steps st (history st calls) (run st calls)

@@ -30,18 +30,19 @@ use Rattle.module_state.specs.declared.Claim.{Claim}
 use Rattle.module_state.specs.declared.Claim.TheVariants.{Elevated, ByUser}
 use Rattle.module_state.specs.declared.State.{State}
 use Rattle.module_state.specs.declared.UserClaim.{UserClaim}
-use Rattle.calls.specs.Calls.{Call, Open, Close, Drop, Select, Start, Continue, Elevate, End, Record, ListProcesses, Kill, SetWord, answer_number, Tests, number_under, with_table, user_process, elevation, activated, saved, one_more, named_place, reach, counted, ended, effect, Protection, Free, Under, protection, protected_number, passes_under, charged, outcome_under}
+use Rattle.calls.specs.Calls.{Call, Open, Close, Drop, Select, Start, Continue, Elevate, End, Record, ListProcesses, Kill, SetWord, number, with_table, user_process, elevation, activated, saved, one_more, named_place, reach, counted, ended, effect, Protection, Free, Under, protection, protected_number, passes, charged}
 use Rattle.calls.specs.Run.{step}
-use Rattle.calls.proofs.Cut.{under-accepted, under-claim, left-under-stopped, left-under-passed}
-use Rattle.calls.proofs.Laws.{under-done, under-leaves, under-number}
+use Rattle.calls.proofs.Cut.{passed-claim, number-done, left-stopped, left_passed}
+use Rattle.calls.proofs.Laws.{answer-number}
 use Rattle.lists.specs.Each.{Each}
 use Rattle.history.specs.Lives.{Life, Gone, Live, SavedBy, counts, charges, tells_passed, with_claim, onward, down}
-use Rattle.history.specs.History.{ends, shuts, drops, resumes, after}
+use Rattle.history.specs.History.{ends, shuts, drops, resumes, after, event_of, event}
 use Rattle.history.specs.Demand.{life, life_of, look}
 use Rattle.module_rules.specs.Facts.{processes, Rules}
 use Rattle.lists.proofs.Each.{Stands, each-fails, each-imp, each_all, pairs-imp}
-use Rattle.history.proofs.Facts.{Added, Continued, ActiveStands, ClaimPassed, Facts, passed}
-use Rattle.history.proofs.Keeping.{active-more, named_more, unnamed, rest-apart, kept-counted, stands-counted}
+use Rattle.history.proofs.Facts.{Added, Continued, ActiveStands, ClaimPassed, Facts, facts, passed}
+use Rattle.history.proofs.Read.{reading}
+use Rattle.history.proofs.Keeping.{active-more, named_more, unnamed, rest-apart, kept-counted, stands-counted, step-accepted, step-refused}
 use Rattle.history.proofs.Looked.{Distinct, Fixed, look-fixed, is_name, other_name, look-set, look-remove, look-reject, look-append}
 
 -- ---- what an automaton's step does to a process's life, at the process that is meant and at another
@@ -215,7 +216,7 @@ module _ (n : Name) (st : State) (v : Rules st) where
 
 -- ---- a call, with what is known of it where it is accepted: what becomes of a process once the claim is counted
 module _ (n : Name) (st : State) (v : Rules st) where
-  pub follows : (call : Call) → Facts st call → after call n (look n (processes (charged st (protection call)))) ≡ look n (processes (effect st call))
+  follows : (call : Call) → Facts st call → after call n (look n (processes (charged st (protection call)))) ≡ look n (processes (effect st call))
   unfolding effect after charged protection
   follows (Open s) f = refl
   follows (Close s) f = sym (follows-close n st v s)
@@ -279,20 +280,21 @@ module _ (n : Name) (st : State) (v : Rules st) where
   follows-claim w k p clear r =
       charge-told w k p r ∙ split p (λ e. rw e (claim-counted w (clear e))) (λ e. rw e)
 
--- ---- a call, refused or not: under any claim, with any tests
-module _ (n : Name) (st : State) (v : Rules st) (w : Protection) (t : Tests) (reads : Reads n st v w (number_under st w t) (passes_under st w t)) where
-  claim-follows : cond (tells_passed (number_under st w t)) (charges w (look n (processes st))) (look n (processes st)) ≡ look n (processes (cond (passes_under st w t) (charged st w) st))
-  claim-follows = follows-claim n st v w (number_under st w t) (passes_under st w t) (under-claim st w t) reads
+-- ---- a call, refused or not
+module _ (n : Name) (st : State) (v : Rules st) where
+  claim-follows : (call : Call) → with_claim (event_of call (number st call)) (look n (processes st)) ≡ look n (processes (cond (passes st call) (charged st (protection call)) st))
+  unfolding with_claim
+  claim-follows call =
+      follows-claim n st v (protection call) (number st call) (passes st call) (passed-claim st call) (λ s u w h. reading st v call s u w h)
 
-  pub follows-step : (next : State) (after : Name → Life → Life) → (number_under st w t ≡ 0 → after n (look n (processes (charged st w))) ≡ look n (processes next))
-      → onward n (record { answered = answer_number (outcome_under st w t next).answer; claim = w; after = after }) (look n (processes st)) ≡ look n (processes (outcome_under st w t next).state)
-  unfolding onward with_claim
-  follows-step next after k =
-      split (eqb (number_under st w t) 0)
+  pub follows-step : (call : Call) → onward n (event st call) (look n (processes st)) ≡ look n (processes (step st call))
+  unfolding onward
+  follows-step call =
+      split (eqb (number st call) 0)
       (λ e.
-      let z = eqb-true (number_under st w t) 0 e in
-      rw (under-number st w t next, e, under-done st w t next z, claim-follows, under-accepted st w t z) (k z))
+      let z = eqb-true (number st call) 0 e in
+      rw (answer-number st call, e, step-accepted st call z, claim-follows call, number-done st call z) (follows n st v call (facts st call z)))
       (λ e.
-      let z = eqb-false (number_under st w t) 0 e in
-      rw (under-number st w t next, e, under-leaves st w t next z, claim-follows)
-      (split (passes_under st w t) (λ p. rw (p, left-under-passed st w t p z)) (λ p. rw (p, left-under-stopped st w t p))))
+      let z = eqb-false (number st call) 0 e in
+      rw (answer-number st call, e, step-refused st call z, claim-follows call)
+      (split (passes st call) (λ p. rw (p, left_passed st call p z)) (λ p. rw (p, left-stopped st call p))))

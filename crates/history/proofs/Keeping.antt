@@ -27,16 +27,16 @@ use Rattle.module_state.specs.declared.Claim.{Claim}
 use Rattle.module_state.specs.declared.Claim.TheVariants.{Elevated, ByUser}
 use Rattle.module_state.specs.declared.Phase.TheVariants.{Closed, Opened}
 use Rattle.module_state.specs.declared.State.{State}
-use Rattle.calls.specs.Calls.{Call, Open, Close, Drop, Select, Start, Continue, Elevate, End, Record, ListProcesses, Kill, SetWord, with_table, user_process, elevation, activated, saved, one_more, named_place, counted, ended, effect, number, reach, Protection, Free, Under, protection, Tests, tests, number_under, protected_number, refused_after_under, charged, left_under, outcome_under, outcome}
+use Rattle.calls.specs.Calls.{Call, Open, Close, Drop, Select, Start, Continue, Elevate, End, Record, ListProcesses, Kill, SetWord, with_table, user_process, elevation, activated, saved, one_more, named_place, counted, ended, effect, number, reach, Protection, Free, Under, protection, protected_number, refused_after, charged, left}
 use Rattle.calls.specs.declared.Outcome.{Outcome}
 use Rattle.calls.specs.Run.{step}
-use Rattle.calls.proofs.Cut.{after-under-claim}
-use Rattle.calls.proofs.Laws.{under-done, under-leaves, outcome-done}
+use Rattle.calls.proofs.Cut.{after-passed}
+use Rattle.calls.proofs.Laws.{outcome-done, refusal-leaves}
 use Rattle.lists.specs.Each.{Each}
 use Rattle.module_rules.specs.Facts.{processes, Owned, Apart, Rules}
 use Rattle.module_rules.proofs.Laws.{apart-turn}
 use Rattle.lists.proofs.Each.{Stands, stands_set, each-imp, each-imp₂, each_at, each-remove, each_left, pairs-rest}
-use Rattle.history.proofs.Facts.{Added, Continued, ClaimPassed, Facts, passed}
+use Rattle.history.proofs.Facts.{Added, Continued, ClaimPassed, Facts, facts, passed}
 use Rattle.history.proofs.Tables.{rules-append, rules-set, rules-remove, rules-reject, rules-idle, rules-chosen, rules-grants, idle}
 
 -- ---- of which process a process can be the active one
@@ -198,30 +198,31 @@ module _ (st : State) (v : Rules st) where
   rules-effect (SetWord s claim c words) f =
       rules-grants (counted st s claim) (kept-counted st v s claim f.passed) c _ refl
 
--- ---- a call, refused or not: by what it does where it is accepted, and by the claim counted where it is refused after it. Of a call under any claim, with any tests
-module _ (st : State) (P : State → Type 0) (p : P st) (c : (s : Session) (claim : Claim) → ClaimPassed st s claim → P (counted st s claim)) where
-  pub by-charged : (w : Protection) → protected_number st w ≡ 0 → P (charged st w)
-  unfolding charged protected_number
-  by-charged Free e = p
-  by-charged (Under s claim) e = c s claim (passed st s claim e)
-
-  module _ (w : Protection) (t : Tests) where
-    by_left : P (left_under st w t)
-    unfolding left_under
-    by_left = split (refused_after_under st w t) (λ r. rw r (by-charged w (after-under-claim st w t r))) (λ r. rw r p)
-
-    pub under-by : (next : State) → (number_under st w t ≡ 0 → P next) → P (outcome_under st w t next).state
-    under-by next k =
-        split (eqb (number_under st w t) 0)
-        (λ e. let z = eqb-true (number_under st w t) 0 e in subst (λ (o : Outcome). P o.state) (sym (under-done st w t next z)) (k z))
-        (λ e. subst P (sym (under-leaves st w t next (eqb-false (number_under st w t) 0 e))) by_left)
-
--- of document 01's
+-- ---- a call, refused or not: by what it does where it is accepted, and by the claim counted where it is refused after it
 module _ (st : State) (call : Call) where
   pub step-accepted : number st call ≡ 0 → step st call ≡ effect st call
   unfolding step
   step-accepted e = ap (λ (o : Outcome). o.state) (outcome-done st call e)
 
-  pub step_by : (P : State → Type 0) → P st → ((s : Session) (claim : Claim) → ClaimPassed st s claim → P (counted st s claim)) → (number st call ≡ 0 → P (effect st call)) → P (step st call)
-  unfolding step outcome number
-  step_by P p c k = under-by st P p c (protection call) (tests st call) (effect st call) k
+  pub step-refused : (number st call ≡ 0 → ⊥) → step st call ≡ left st call
+  unfolding step
+  step-refused e = refusal-leaves st call e
+
+  module _ (P : State → Type 0) (p : P st) (c : (s : Session) (claim : Claim) → ClaimPassed st s claim → P (counted st s claim)) where
+    by-charged : (w : Protection) → protected_number st w ≡ 0 → P (charged st w)
+    unfolding charged protected_number
+    by-charged Free e = p
+    by-charged (Under s claim) e = c s claim (passed st s claim e)
+
+    by_left : P (left st call)
+    unfolding left
+    by_left = split (refused_after st call) (λ r. rw r (by-charged (protection call) (after-passed st call r))) (λ r. rw r p)
+
+    pub step_by : (number st call ≡ 0 → P (effect st call)) → P (step st call)
+    step_by k =
+        split (eqb (number st call) 0)
+        (λ e. let z = eqb-true (number st call) 0 e in subst P (sym (step-accepted z)) (k z))
+        (λ e. subst P (sym (step-refused (eqb-false (number st call) 0 e))) by_left)
+
+pub rules-step : (st : State) (call : Call) → Rules st → Rules (step st call)
+rules-step st call v = step_by st call Rules v (kept-counted st v) (λ z. rules-effect st v call (facts st call z))

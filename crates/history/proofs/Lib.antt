@@ -8,7 +8,6 @@ pub mod Form
 pub mod Owners
 pub mod Told
 pub mod Lives
-pub mod Under
 pub mod Calls
 pub mod Along
 pub mod Since

@@ -24,7 +24,7 @@ module _ (st : State) where
   unfolding provisioned
   owners-same next e = record { as_many = ap length e; same = λ c. ap (λ (l : List Grants). (get_or l c.0 unprovisioned).provisioned) e }
 
-  pub credentials-counted : (s : Session) (claim : Claim) → (counted st s claim).credentials ≡ st.credentials
+  credentials-counted : (s : Session) (claim : Claim) → (counted st s claim).credentials ≡ st.credentials
   unfolding counted
   credentials-counted s Elevated = refl
   credentials-counted s (ByUser u) = refl
@@ -57,7 +57,7 @@ module _ (st : State) where
   owners-effect (Kill s claim name) f = owners-same _ (credentials-counted s claim)
   owners-effect (SetWord s claim c words) f = owners-grants (counted st s claim) (credentials-counted s claim) c _ f.owner refl
 
-  pub owners-step : (call : Call) → SameOwners st (step st call)
+  owners-step : (call : Call) → SameOwners st (step st call)
   owners-step call =
       step_by st call (SameOwners st) (owners-same st refl)
       (λ s claim f. owners-same (counted st s claim) (credentials-counted s claim))

@@ -20,8 +20,8 @@ use Rattle.module_state.specs.declared.Claim.TheVariants.{ByUser}
 use Rattle.module_state.specs.declared.State.{State}
 use Rattle.module_state.specs.declared.UserClaim.{UserClaim}
 use Rattle.module_state.proofs.Laws.{unless-true, by-when, by-unless, by-then, claim-stands, user-tests}
-use Rattle.calls.specs.Calls.{Call, Protection, Under, Tests, tests, number_under, number, protection, ahead_number, protected_number, passes_under, passes}
-use Rattle.calls.proofs.Cut.{under-claim, under-stop, passed-number, ahead-one}
+use Rattle.calls.specs.Calls.{Call, Under, number, protection, ahead_number, protected_number, passes}
+use Rattle.calls.proofs.Cut.{up_to, passed-claim, passed-number, number-stop, ahead-one}
 use Rattle.module_rules.specs.Facts.{processes, Rules}
 use Rattle.history.specs.Lives.{tells_passed}
 use Rattle.history.proofs.Facts.{stands}
@@ -62,25 +62,15 @@ module _ (st : State) (s : Session) (u : UserClaim) (owner : provisioned st u.cr
       early-then _ _ (early-unless 1 _ refl)
       (early-then _ _ early-entered (rw (user-tests st s u) (early-then _ _ (early-held 5 owner) (early-then _ _ (early-held 6 active) (early-turn _)))))
 
--- a user claim that passed is one of a process that stands: of a call under it, with any tests
-module _ (st : State) (w : Protection) (t : Tests) (s : Session) (u : UserClaim) (is : w ≡ Under s (ByUser u)) (p : passes_under st w t ≡ true) where
-  pub under-admitted : admitted st s (ByUser u) ≡ 0
-  unfolding protected_number
-  under-admitted = rw is at (under-claim st w t p)
-
-  pub under-active : has_active st (UserOf s u.credential) ≡ true
-  unfolding sought
-  under-active = claim-stands st s (ByUser u) under-admitted
-
--- of document 01's calls
+-- a user claim that passed is one of a process that stands
 module _ (st : State) (call : Call) (s : Session) (u : UserClaim) (w : protection call ≡ Under s (ByUser u)) (p : passes st call ≡ true) where
   pub claim-passed : admitted st s (ByUser u) ≡ 0
-  unfolding passes
-  claim-passed = under-admitted st (protection call) (tests st call) s u w p
+  unfolding protected_number
+  claim-passed = rw w at (passed-claim st call p)
 
   pub active-passed : has_active st (UserOf s u.credential) ≡ true
-  unfolding passes
-  active-passed = under-active st (protection call) (tests st call) s u w p
+  unfolding sought
+  active-passed = claim-stands st s (ByUser u) claim-passed
 
 module _ (st : State) (v : Rules st) where
   -- whoever has an active process is provisioned
@@ -91,22 +81,17 @@ module _ (st : State) (v : Rules st) where
       rw (user-of x s u.credential f.passes).credential at (each_at _ free_place f.inside v.each).owner
 
   -- up to the claim, where its process stands and 1 alone comes ahead of it: a call that is refused there tells so
-  stops : (ahead : ℕ) (s : Session) (u : UserClaim) → has_active st (UserOf s u.credential) ≡ true → ((ahead ≡ 0 → ⊥) → ahead ≡ 1) → (ahead ▸ admitted st s (ByUser u) ≡ 0 → ⊥) → tells_passed (ahead ▸ admitted st s (ByUser u)) ≡ false
+  pub stops : (ahead : ℕ) (s : Session) (u : UserClaim) → has_active st (UserOf s u.credential) ≡ true → ((ahead ≡ 0 → ⊥) → ahead ≡ 1) → (ahead ▸ admitted st s (ByUser u) ≡ 0 → ⊥) → tells_passed (ahead ▸ admitted st s (ByUser u)) ≡ false
   unfolding tells_passed
   stops ahead s u h one = early-then ahead _ (λ k. rw (one k)) (early-admitted st s u (owner s u h) h)
 
-  -- where a user claim's process stands, a call under the claim is answered 1, 2, 3, 13, 9 or 8 exactly where the claim did not pass: of any call under it with such tests
-  pub under-reading : (w : Protection) (t : Tests) (s : Session) (u : UserClaim) → w ≡ Under s (ByUser u) → ((t.ahead ≡ 0 → ⊥) → t.ahead ≡ 1)
-      → (passes_under st w t ≡ true → tells_passed (number_under st w t) ≡ true) → has_active st (UserOf s u.credential) ≡ true → tells_passed (number_under st w t) ≡ passes_under st w t
-  under-reading w t s u is one tells h =
-      split (passes_under st w t)
-      (λ p. rw p (tells p))
-      (λ p.
-      let e : t.ahead ▸ protected_number st w ≡ t.ahead ▸ admitted st s (ByUser u) = unfold protected_number in rw is in
-      let some : t.ahead ▸ protected_number st w ≡ 0 → ⊥ = unfold passes_under in eqb-false (t.ahead ▸ protected_number st w) 0 p in
-      rw (p, under-stop st w t p, e) (stops t.ahead s u h one (λ z. some (e ∙ z))))
-
-  -- of document 01's
+  -- where a user claim's process stands, a call under the claim is answered 1, 2, 3, 13, 9 or 8 exactly where the claim did not pass
   pub reading : (call : Call) (s : Session) (u : UserClaim) → protection call ≡ Under s (ByUser u) → has_active st (UserOf s u.credential) ≡ true → tells_passed (number st call) ≡ passes st call
-  unfolding tells_passed every number passes ahead_number
-  reading call s u w h = under-reading (protection call) (tests st call) s u w (ahead-one st call w) (λ p. passed-number st tells_passed refl call p) h
+  unfolding tells_passed every
+  reading call s u w h =
+      split (passes st call)
+      (λ p. rw p (passed-number st tells_passed refl call p))
+      (λ p.
+      let is : up_to st call ≡ ahead_number st call ▸ admitted st s (ByUser u) = unfold protected_number in rw w in
+      let some : up_to st call ≡ 0 → ⊥ = unfold passes in eqb-false (up_to st call) 0 p in
+      rw (p, number-stop st call p, is) (stops (ahead_number st call) s u h (ahead-one st call w) (λ z. some (is ∙ z))))

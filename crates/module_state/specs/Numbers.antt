@@ -49,30 +49,16 @@ message = 14
 abbrev pub room : ℕ
 room = 15
 
--- order 5: "16, in these calls, when the credential to be changed is locked, 17 for taking ownership outside the default state"
-abbrev pub locked : ℕ
-locked = 16
-
-abbrev pub owned : ℕ
-owned = 17
-
 -- order 7: "18 when a user claim gets the third answer"
 abbrev pub only_elevated : ℕ
 only_elevated = 18
 
--- all that document 01's calls and the messages answer, and no others
+-- all of them, and no others
 abbrev pub is_known : ℕ → Bool
 is_known n = leb n room || eqb n only_elevated
 
 pub record IsKnown (n : ℕ) : Type 0 where
   pub is : is_known n ≡ true
-
--- and with those of order 5's calls
-abbrev pub is_known_of5 : ℕ → Bool
-is_known_of5 n = is_known n || (eqb n locked || eqb n owned)
-
-pub record IsKnownOf5 (n : ℕ) : Type 0 where
-  pub is : is_known_of5 n ≡ true
 
 -- "Each is given exactly on its condition, at its place in the order."
 infix 25 ◌when◌

@@ -39,10 +39,6 @@ pub const MESSAGE: u8 = 14;
 
 pub const ROOM: u8 = 15;
 
-pub const LOCKED: u8 = 16;
-
-pub const OWNED: u8 = 17;
-
 pub const ONLY_ELEVATED: u8 = 18;
 
 // A management port, and a session handle, which is one of a port's. Neither can stand for the other, nor for a session.

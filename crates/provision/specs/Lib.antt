@@ -1,2 +1,0 @@
-pub mod Provision
-pub mod Run
