@@ -11,13 +11,13 @@ pub const HEAD_NUMBER_AT: usize = 2;
 pub const HEAD_LENGTH: usize = HEAD_NUMBER_AT + 2;
 
 // Whose processes a listing is to have.
-#[derive(Drop)]
+#[derive(Clone, Copy)]
 pub enum Wanted {
     Every,
     Only(Credential),
 }
 
-#[derive(Drop)]
+#[derive(Clone, Copy)]
 pub enum Answer {
     Done,
     // of a call without a claim: its number
@@ -26,21 +26,21 @@ pub enum Answer {
     RefusedClaim(u8, Claim),
 }
 
-#[derive(Drop)]
+#[derive(Clone, Copy)]
 pub struct Outcome {
     pub state: State,
     pub answer: Answer,
 }
 
 // What the tests of a list call come to: their number, and the length of its message where that is 0.
-#[derive(Drop)]
+#[derive(Clone, Copy)]
 pub struct Measured {
     pub number: u8,
     pub length: usize,
 }
 
 // The outcome of a list call, and the length of its message.
-#[derive(Drop)]
+#[derive(Clone, Copy)]
 pub struct Listed {
     pub outcome: Outcome,
     pub length: usize,

@@ -14,7 +14,7 @@ use libc::{STDERR_FILENO, STDIN_FILENO, STDOUT_FILENO};
 
 const MOST_IMAGES: u64 = 4096;
 
-#[derive(Drop)]
+#[derive(Clone, Copy)]
 struct Totals {
     images: u64,
     good: u64,
@@ -23,14 +23,14 @@ struct Totals {
 }
 
 // What is printed: a line for each image, and the last one.
-#[derive(Drop)]
+#[derive(Clone, Copy)]
 enum Output {
     Image(Line),
     Total(Totals),
     TooMany,
 }
 
-#[derive(Drop)]
+#[derive(Clone, Copy)]
 struct Step {
     totals: Totals,
     output: Output,
@@ -90,14 +90,14 @@ fn next_step(totals: Totals, said: &[u8], image: &[u8]) -> Step
 // ---- reading
 
 // Why a part was filled no further.
-#[derive(Drop)]
+#[derive(Clone, Copy)]
 enum Stop {
     Full,
     Ended,
     Failed,
 }
 
-#[derive(Drop)]
+#[derive(Clone, Copy)]
 struct Filled {
     count: usize,
     stop: Stop,
@@ -136,7 +136,7 @@ fn fill(part: &mut [u8]) -> Filled
 }
 
 // Of a length, and of the image after it, how many bytes were there.
-#[derive(Drop)]
+#[derive(Clone, Copy)]
 struct SheetRead {
     said: Filled,
     image: Filled,
@@ -180,7 +180,7 @@ fn has_failed(sheet: SheetRead) -> bool
 // `total ` and three numbers of 20 digits would have 69 bytes.
 const TEXT_SIZE: usize = 80;
 
-#[derive(Drop)]
+#[derive(Clone, Copy)]
 struct Text {
     bytes: [u8; TEXT_SIZE],
     length: usize,
@@ -262,7 +262,7 @@ fn text_of(output: Output) -> Text
 }
 
 // What is said: nothing before the first turn; what was printed; or, on standard error, that the drawer could not be read, or the line not written.
-#[derive(Drop)]
+#[derive(Clone, Copy)]
 enum Told {
     Nothing,
     Printed(Output),
@@ -296,7 +296,7 @@ fn is_printed(told: Told) -> bool
 
 // ---- the drawer
 
-#[derive(Drop)]
+#[derive(Clone, Copy)]
 struct Turn {
     totals: Totals,
     told: Told,

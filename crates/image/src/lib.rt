@@ -39,7 +39,7 @@ pub const SAVED_NAME_AT: usize = SAVED_NEXT_AT + 2;
 pub const SAVED_SIZE: usize = SAVED_NAME_AT + NAME_LENGTH;
 
 // A saved process, as an image has it.
-#[derive(Drop)]
+#[derive(Clone, Copy)]
 pub struct SavedRow {
     pub owner: Credential,
     pub next: u16,
@@ -49,14 +49,14 @@ pub struct SavedRow {
 // ---- what was read of bytes
 
 // A row that a part of bytes says, where the part is a whole one.
-#[derive(Drop)]
+#[derive(Clone, Copy)]
 pub struct SavedRead {
     pub fits: bool,
     pub row: SavedRow,
 }
 
 // The five numbers that bytes say at their head: the mask, how many words there are and from where on, how many rows and from where on.
-#[derive(Drop)]
+#[derive(Clone, Copy)]
 pub struct ImageHead {
     pub mask: u16,
     pub words: usize,
@@ -66,7 +66,7 @@ pub struct ImageHead {
 }
 
 // Whether bytes are an image; and, whether they are or not, the head and the credentials that they say.
-#[derive(Drop)]
+#[derive(Clone, Copy)]
 pub struct ImageTest {
     pub fits: bool,
     pub head: ImageHead,
@@ -74,7 +74,7 @@ pub struct ImageTest {
 }
 
 // What bytes say when they are read as an image. Where they are none, the module has no credentials.
-#[derive(Drop)]
+#[derive(Clone, Copy)]
 pub struct ImageRead {
     pub fits: bool,
     pub state: State,

@@ -2,7 +2,7 @@
 
 // What rescue answers: the length of the image that it wrote, how many nonzero words it cleared, how many rows it kept, and in the bits of a number the place of
 // each row that it dropped. All are 0 on a refusal.
-#[derive(Drop)]
+#[derive(Clone, Copy)]
 pub struct Rescued {
     pub number: u8,
     pub length: usize,

@@ -9,14 +9,14 @@ use module_state::{CREDENTIALS, Grants};
 // Bytes of the length before an image.
 pub const LENGTH_SIZE: usize = 2;
 
-#[derive(Drop)]
+#[derive(Clone, Copy)]
 pub struct Figures {
     pub rows: u64,
     pub classes: u64,
     pub largest: u64,
 }
 
-#[derive(Drop)]
+#[derive(Clone, Copy)]
 pub enum Line {
     Bad,
     Good(Figures),

@@ -14,7 +14,7 @@ use names::{Credential, NAME_LENGTH, Name};
 use table::PLACES;
 
 // The rows that are kept, in front; how many; and the places of those that are dropped, in the bits of a number.
-#[derive(Drop)]
+#[derive(Clone, Copy)]
 struct Sorted {
     pub rows: [SavedRow; PLACES],
     pub kept: usize,

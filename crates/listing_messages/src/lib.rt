@@ -15,21 +15,21 @@ pub const GET_AUTH_PROCESSES: u8 = 0x8e;
 pub const AUTH_PROCESSES: u8 = 0x0e;
 
 // What a request says. Where it is refused, the credential is 0.
-#[derive(Drop)]
+#[derive(Clone, Copy)]
 pub struct RequestRead {
     pub number: u8,
     pub credential: u16,
 }
 
 // How many rows a response has. Where it is refused, the count is 0.
-#[derive(Drop)]
+#[derive(Clone, Copy)]
 pub struct CountRead {
     pub number: u8,
     pub count: u16,
 }
 
 // The row at a place of a response. Where it is refused, the row is zeros.
-#[derive(Drop)]
+#[derive(Clone, Copy)]
 pub struct RowAnswer {
     pub number: u8,
     pub row: Row,

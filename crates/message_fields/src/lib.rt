@@ -8,7 +8,7 @@ use message_formats::{Form, Shape};
 pub const VALUES: usize = 7;
 
 // What the fields at the front of a slice say: how many bytes they have, their values, and whether each value may stand in its field.
-#[derive(Drop)]
+#[derive(Clone, Copy)]
 pub struct FieldsRead {
     pub long: usize,
     pub values: [u64; VALUES],
@@ -16,7 +16,7 @@ pub struct FieldsRead {
 }
 
 // How many bytes the fields have, and whether each value may stand in its field.
-#[derive(Drop)]
+#[derive(Clone, Copy)]
 pub struct FieldsTested {
     pub long: usize,
     pub allowed: bool,

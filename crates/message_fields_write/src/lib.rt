@@ -9,7 +9,7 @@ use message_formats::Shape;
 use module_state::{DONE, MESSAGE, ROOM};
 
 // How many bytes were written; none where it is refused.
-#[derive(Drop)]
+#[derive(Clone, Copy)]
 pub struct Written {
     pub number: u8,
     pub long: usize,

@@ -5,7 +5,7 @@ ghost use Rattle.message_formats.specs.Formats.{form_of, rest_of};
 
 // A field, by its name in 004. `Change` is the operation that changes parameters or policies, `LockOrUnlock` the other two; `NoErrorData` is the error's
 // data where Table 21 says 0.
-#[derive(Drop)]
+#[derive(Clone, Copy)]
 pub enum Field {
     Unused,
     AuthVersion,
@@ -46,7 +46,7 @@ pub enum Field {
 }
 
 // What a field holds: its bytes; of how many values the bits that count say one, 0 where all bits count; and the least and the most that it may say.
-#[derive(Drop)]
+#[derive(Clone, Copy)]
 pub struct Form {
     pub width: usize,
     pub values: u64,
@@ -55,7 +55,7 @@ pub struct Form {
 }
 
 // A part of a list: an element of it.
-#[derive(Drop)]
+#[derive(Clone, Copy)]
 pub enum Part {
     VersionEntry,
     ProcessInfo,
@@ -65,7 +65,7 @@ pub enum Part {
 }
 
 // What follows the fields. A place is that of a value among the fields.
-#[derive(Drop)]
+#[derive(Clone, Copy)]
 pub enum Rest {
     Exactly(usize),
     Said(usize),
@@ -75,7 +75,7 @@ pub enum Rest {
 }
 
 // A message, or a piece of a list, by what it is made of; in brackets 004's tables. Formats.antt has what stands at which byte, at `contents_of`.
-#[derive(Drop)]
+#[derive(Clone, Copy)]
 pub enum Shape {
     // no code, operation or error of 004
     NoMessage,

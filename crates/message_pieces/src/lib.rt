@@ -7,7 +7,7 @@ use message_fields::VALUES;
 use message_formats::{Part, Rest, Shape};
 
 // A piece at the front of a slice: what its fields say, where the bytes behind them begin, and where it ends. Where none stands there, all is 0.
-#[derive(Drop)]
+#[derive(Clone, Copy)]
 pub struct Piece {
     pub fits: bool,
     pub values: [u64; VALUES],
@@ -16,7 +16,7 @@ pub struct Piece {
 }
 
 // Whether a part stands at the front of a slice, and how long it is.
-#[derive(Drop)]
+#[derive(Clone, Copy)]
 pub struct PartRead {
     pub fits: bool,
     pub long: usize,

@@ -10,7 +10,7 @@ use module_state::{DONE, MESSAGE};
 pub const FIELDS_AT: usize = 2;
 
 // What a message says: the values of its fields, and where what follows them begins. Where it is refused, all but the number is 0.
-#[derive(Drop)]
+#[derive(Clone, Copy)]
 pub struct MessageRead {
     pub number: u8,
     pub values: [u64; VALUES],

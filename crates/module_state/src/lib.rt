@@ -42,14 +42,14 @@ pub const ROOM: u8 = 15;
 pub const ONLY_ELEVATED: u8 = 18;
 
 // A management port, and a session handle, which is one of a port's. Neither can stand for the other, nor for a session.
-#[derive(Drop)]
+#[derive(Clone, Copy)]
 pub struct Port(pub u8);
 
-#[derive(Drop)]
+#[derive(Clone, Copy)]
 pub struct Handle(pub u8);
 
 // A class of operations. A session or a credential cannot stand for it.
-#[derive(Drop)]
+#[derive(Clone, Copy)]
 pub struct Class(pub u8);
 
 // The classes that calls of this module ask for.
@@ -80,20 +80,20 @@ pub const CREDENTIALS: usize = LAST_CREDENTIAL as usize + 1;
 // Bytes of a word.
 pub const WORD_SIZE: usize = 4;
 
-#[derive(Drop)]
+#[derive(Clone, Copy)]
 pub enum Phase {
     Closed,
     Opened,
     Chosen,
 }
 
-#[derive(Drop)]
+#[derive(Clone, Copy)]
 pub struct SessionState {
     pub phase: Phase,
 }
 
 // The two words of a credential: bit k of the grant word grants class k, and bit k of the second word says that it does so only under elevation.
-#[derive(Drop)]
+#[derive(Clone, Copy)]
 pub struct Words {
     pub grant: u32,
     pub second: u32,
@@ -104,7 +104,7 @@ pub const NO_WORDS: Words = Words {
     second: 0,
 };
 
-#[derive(Drop)]
+#[derive(Clone, Copy)]
 pub struct Grants {
     pub provisioned: bool,
     pub words: Words,
@@ -117,35 +117,35 @@ pub const UNPROVISIONED: Grants = Grants {
 };
 
 // What the grants of a credential answer for a class.
-#[derive(Drop)]
+#[derive(Clone, Copy)]
 pub enum Lookup {
     NotGranted,
     Granted,
     OnlyElevated,
 }
 
-#[derive(Drop)]
+#[derive(Clone, Copy)]
 pub struct State {
     pub sessions: [SessionState; SESSIONS],
     pub credentials: [Grants; CREDENTIALS],
     pub table: Table,
 }
 
-#[derive(Drop)]
+#[derive(Clone, Copy)]
 pub struct UserClaim {
     pub credential: Credential,
     pub number: u16,
     pub verdict: bool,
 }
 
-#[derive(Drop)]
+#[derive(Clone, Copy)]
 pub enum Claim {
     Elevated,
     ByUser(UserClaim),
 }
 
 // What a state tells of a claim that is made in a session: all that its check asks.
-#[derive(Drop)]
+#[derive(Clone, Copy)]
 pub struct ClaimView {
     pub phase: Phase,
     pub found: Found,
@@ -155,7 +155,7 @@ pub struct ClaimView {
 }
 
 // What the check of a claim comes to: its number, and what a call goes on with where that is 0.
-#[derive(Drop)]
+#[derive(Clone, Copy)]
 pub struct Checked {
     pub claim: Claim,
     pub number: u8,
@@ -166,7 +166,7 @@ pub struct Checked {
 }
 
 // What tests come to that find a process: their number, and the place of the process where that is 0.
-#[derive(Drop)]
+#[derive(Clone, Copy)]
 pub struct Placed {
     pub number: u8,
     pub place: usize,

@@ -5,14 +5,14 @@ ghost use Rattle.names.specs.Names.{name_length, same_bytes, same_name, read_nam
 ghost use Rattle.names.specs.Words.{stride, Word, stirred, digest_of};
 
 // A session, by its slot: which port's it is, and which of that port's. A credential cannot stand for it, nor it for a credential.
-#[derive(Drop)]
+#[derive(Clone, Copy)]
 pub struct Session(pub u8);
 
-#[derive(Drop)]
+#[derive(Clone, Copy)]
 pub struct Credential(pub u16);
 
 // What a process is that stands in the table.
-#[derive(Drop)]
+#[derive(Clone, Copy)]
 pub enum Kind {
     User,
     Elevation,
@@ -20,7 +20,7 @@ pub enum Kind {
 }
 
 // The type that a row has on the wire: 004 Table 46.
-#[derive(Drop)]
+#[derive(Clone, Copy)]
 pub enum RowType {
     ActiveUser,
     ActiveElevation,
@@ -50,12 +50,12 @@ pub const ROW_LENGTH: usize = ROW_NAME_AT + NAME_LENGTH;
 // How many bytes of a name are read at a time.
 const STRIDE: usize = 8;
 
-#[derive(Drop)]
+#[derive(Clone, Copy)]
 pub struct Name {
     pub bytes: [u8; NAME_LENGTH],
 }
 
-#[derive(Drop)]
+#[derive(Clone, Copy)]
 pub struct Row {
     pub credential: Credential,
     pub kind: RowType,
@@ -63,14 +63,14 @@ pub struct Row {
 }
 
 // What a slice says when it is read as a name. Where it does not fit, the name is zeros.
-#[derive(Drop)]
+#[derive(Clone, Copy)]
 pub struct NameRead {
     pub fits: bool,
     pub name: Name,
 }
 
 // What a slice says when it is read as a row. Where it does not fit, the row is zeros.
-#[derive(Drop)]
+#[derive(Clone, Copy)]
 pub struct RowRead {
     pub fits: bool,
     pub row: Row,

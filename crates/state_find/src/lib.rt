@@ -18,7 +18,7 @@ use state_layout::{
 use table::{Active, Found, PLACES};
 
 // What the check of a claim comes to: the number that refuses it, or what a call goes on with.
-#[derive(Drop)]
+#[derive(Clone, Copy)]
 pub enum Tested {
     Refused(u8),
     Passed(Checked),

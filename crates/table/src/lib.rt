@@ -4,7 +4,7 @@ ghost use Rattle.table.specs.Table.{size, table_of, free_place, is_active, is_ac
 
 use names::{Credential, Kind, NAME_LENGTH, Name, Session};
 
-#[derive(Drop)]
+#[derive(Clone, Copy)]
 pub struct Process {
     pub credential: Credential,
     pub kind: Kind,
@@ -16,28 +16,28 @@ pub struct Process {
 pub const PLACES: usize = 12;
 
 // The processes that stand are those of the first `count` places; a count past 12 says that all 12 do.
-#[derive(Drop)]
+#[derive(Clone, Copy)]
 pub struct Table {
     pub places: [Process; PLACES],
     pub count: usize,
 }
 
 // An active process, by what it is active as.
-#[derive(Drop)]
+#[derive(Clone, Copy)]
 pub enum Active {
     UserOf(Session, Credential),
     ElevationIn(Session),
 }
 
 // Which processes a name is looked for among.
-#[derive(Drop)]
+#[derive(Clone, Copy)]
 pub enum Among {
     All,
     Of(Credential),
     SavedOf(Credential),
 }
 
-#[derive(Drop)]
+#[derive(Clone, Copy)]
 pub enum Found {
     At(usize),
     Nothing,
