@@ -1,4 +1,5 @@
 // The searches through the table.
+#![tactic(auto)]
 ghost use Rattle.std.specs.Prelude.{◌≡◌};
 ghost use Rattle.table.specs.Table.{find_active, find_named, count_among};
 

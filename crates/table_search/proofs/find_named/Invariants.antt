@@ -1,0 +1,10 @@
+use Rattle.table_search.proofs.Rules.{Searching}
+use Rattle.table.specs.Table.{is_named}
+use Prim.Native.Nat.{◌-◌}
+use Rattle.table_search.proofs.find_named.Given as goal
+
+abbrev pub invariant-loop-i : goal.invariant-loop-i
+invariant-loop-i l = Searching (is_named l.name l.among) l.places l.count l.i
+
+abbrev pub decreases-loop-i : goal.decreases-loop-i
+decreases-loop-i l = l.count - l.i
