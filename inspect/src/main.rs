@@ -1,4 +1,4 @@
-//! `slavotuk-inspect check` and `slavotuk-inspect page`, in the repository's folder.
+//! `slavotuk-inspect check`, `page` and `wrong`, in the repository's folder.
 #![forbid(unsafe_code)]
 
 use slavotuk_inspect::believed::Figure;
@@ -7,11 +7,12 @@ use slavotuk_inspect::map::{self, Map};
 use slavotuk_inspect::page::{self, Book, Origin};
 use slavotuk_inspect::run::Run;
 use slavotuk_inspect::tree::Tree;
-use slavotuk_inspect::wrong;
+use slavotuk_inspect::wrong::{self, Prover};
 use std::fs;
 use std::io;
-use std::path::Path;
+use std::path::{Path, PathBuf};
 use std::process::{Command, ExitCode};
+use std::thread;
 
 const HELP: &str = "\
 usage: slavotuk-inspect check
@@ -20,8 +21,7 @@ usage: slavotuk-inspect check
 
 check   docs/STATEMENTS.md against the sources: what is wrong with it, and last 'N passed, M failed'
 page    writes the inspector's page
-wrong   tries the wrong builds of these crates, or of all, that `rt` does not try, and reads the logs of those that it does; last 'N passed, M failed'.
-        All crates have to be proved
+wrong   has `rt` prove these crates, or all, tries their wrong builds, and says of each where it was refused; last 'N passed, M failed'
 ";
 
 fn main() -> ExitCode {
@@ -64,7 +64,44 @@ fn tried(crates: &[&str]) -> io::Result<bool> {
             format!("crates.txt lists no crate {name}"),
         ));
     }
-    wrong::report(root, &tree, Path::new("arch/prover"), crates)
+    if !proved(root, crates)? {
+        return Ok(false);
+    }
+    let prover = Prover {
+        path: PathBuf::from("arch/prover"),
+        version: said("rt", &["version"]),
+    };
+    wrong::report(root, &tree, &prover, crates)
+}
+
+/// Has `rt` prove these crates, or all, with those that they rely on, over what it kept; says what it does where it can't.
+fn proved(root: &Path, crates: &[&str]) -> io::Result<bool> {
+    let workers = thread::available_parallelism().map_or(1, |count| count.get());
+    let all = format!("all check --jobs {workers}");
+    let each = crates
+        .iter()
+        .map(|name| (root.join("crates").join(name), "check"));
+    let runs: Vec<_> = match crates {
+        [] => vec![(root.to_path_buf(), all.as_str())],
+        _ => each.collect(),
+    };
+    for (folder, words) in runs {
+        let said = Command::new("rt")
+            .args(words.split(' '))
+            .current_dir(&folder)
+            .output()?;
+        if !said.status.success() {
+            print!(
+                "{}{}",
+                String::from_utf8_lossy(&said.stdout),
+                String::from_utf8_lossy(&said.stderr)
+            );
+            println!("FAILED: `rt {words}` in {}", folder.display());
+            println!("0 passed, 1 failed");
+            return Ok(false);
+        }
+    }
+    Ok(true)
 }
 
 fn written(file: &Path) -> io::Result<bool> {

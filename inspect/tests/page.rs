@@ -241,6 +241,7 @@ fn no_declaration_is_passed_over() {
             "pub ruleset ",
             "ruleset ",
             "#[",
+            "#![",
         ];
         for (at, line) in file
             .text

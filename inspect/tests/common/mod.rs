@@ -26,7 +26,7 @@ const FILES: [(&str, &str); 8] = [
         "ghost use mathlib.Core.Path.{_≡_};\n\nfn one() -> u8\n    ensures { λ r. ⌜ r ≡ 1 ⌝ }\n{\n    1\n}\n\nfn main() {\n    one();\n}\n",
     ),
     ("README.md", "# Small\n\nIt is proved.\n\n## More\n\nNot this.\n\n| Crate | What it has |\n|---|---|\n| names, tell | what things are called; a program |\n"),
-    ("crates/names/must-fail/one_byte.edit", "# one byte\nat: proofs/same/Proof.antt returns\nfile: src/lib.rt\nold: a.0 == b.0\nnew: true\n"),
+    ("crates/names/must-fail/one_byte.edit", "# one byte\nat: same returns\nfile: src/lib.rt\nold: a.0 == b.0\nnew: true\n"),
     (
         "docs/STATEMENTS.md",
         "# Statements\n\n| File | What it says |\n|---|---|\n| names/Names | equal names |\n\n## Names\n\n\
