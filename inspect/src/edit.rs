@@ -37,6 +37,13 @@ pub struct Fact {
     pub name: String,
 }
 
+impl Fact {
+    /// The function whose goal it is.
+    pub fn function(&self) -> Option<&str> {
+        Some(self.of.as_str()).filter(|of| !of.ends_with(".antt"))
+    }
+}
+
 #[derive(Clone, Debug)]
 pub struct Hunk {
     /// from the crate's folder on

@@ -1,8 +1,9 @@
 //! Tries the wrong builds. Each is made by itself in a copy of its crate, and the prover has to refuse the copy, at the fact that the edit names.
 //!
 //! A copy is checked over what `rt check` kept of its crate, so that it costs what its edit changes and not the whole crate. That can't let a wrong build
-//! pass for a refused one: a refusal is of this very check, and the crate as it stands was proved over the same. The log of each stays below build/, and
-//! what was tried on the same files before is not tried again.
+//! pass for a refused one: a refusal is of this very check, and the crate as it stands was proved over the same. Where the fact is a goal of a function,
+//! that function alone is checked first, and the crate only where it is not refused there. The log of each stays below build/, and what was tried on the
+//! same files before is not tried again.
 
 use crate::edit::{Edit, Fact, Shelf};
 use crate::tree::{Crate, Tree};
@@ -53,7 +54,7 @@ pub fn judged(edit: &Edit, check: &Check) -> Outcome {
     let has_line = |head| check.log.lines().any(|line| line.starts_with(head));
     match check.status {
         Some(0) => return Err("NOT REFUSED: the crate is still proved with this edit".to_string()),
-        Some(1) if has_line("logic=not-proved") => {}
+        Some(1) if has_line("logic=not-proved") || has_line("only=") => {}
         _ => {
             let words = ["error", "no verdict"];
             let mut lines = check.log.lines();
@@ -76,7 +77,11 @@ pub fn judged(edit: &Edit, check: &Check) -> Outcome {
         return Ok(refusal.place.to_string());
     }
     Err(match there.first() {
-        Some(refusal) => format!("the proof alone does not fit it: {}", refusal.words),
+        Some(refusal) => format!(
+            "the proof alone does not fit it: {}; refused {}",
+            refusal.words,
+            elsewhere(&refusals)
+        ),
         None => format!(
             "refused, but not at `{}` of {}: {}",
             edit.at.name,
@@ -304,10 +309,13 @@ fn queue<'a>(tree: &'a Tree, crates: &[&str]) -> VecDeque<&'a Edit> {
     edits.into()
 }
 
+/// The texts of a crate, by their paths from its folder on.
+type Files = Vec<(PathBuf, String)>;
+
 /// The sources of a crate, and a sum of all that a check of it reads.
 struct Sources<'a> {
     crate_name: &'a str,
-    files: Vec<(PathBuf, String)>,
+    files: Files,
     sum: DefaultHasher,
 }
 
@@ -347,6 +355,8 @@ impl<'a> Sources<'a> {
 
     fn sum_with(&self, edit: &Edit) -> u64 {
         let mut sum = self.sum.clone();
+        // the goals of another function need not be in the log
+        edit.at.of.hash(&mut sum);
         for hunk in &edit.hunks {
             (&hunk.file, &hunk.old, &hunk.new).hash(&mut sum);
         }
@@ -354,7 +364,7 @@ impl<'a> Sources<'a> {
     }
 
     /// The files with the edit made, or what is wrong with it.
-    fn edited(&self, edit: &Edit) -> Result<Vec<(PathBuf, String)>, String> {
+    fn edited(&self, edit: &Edit) -> Result<Files, String> {
         let mut files = self.files.clone();
         for hunk in &edit.hunks {
             let file = files
@@ -375,8 +385,8 @@ impl<'a> Sources<'a> {
     }
 }
 
-/// The texts below a folder of a crate, by their paths from the crate's folder on, in their order.
-fn texts(crate_folder: &Path, inside: &Path, into: &mut Vec<(PathBuf, String)>) -> io::Result<()> {
+/// The texts below a folder of a crate, in their order.
+fn texts(crate_folder: &Path, inside: &Path, into: &mut Files) -> io::Result<()> {
     let folder = crate_folder.join(inside);
     if !folder.is_dir() {
         return Ok(());
@@ -418,23 +428,19 @@ impl<'a> Room<'a> {
 
     fn check(&self, sources: &Sources, edit: &Edit) -> io::Result<Check> {
         let began = Instant::now();
-        let (status, log) = match sources.edited(edit) {
-            Ok(files) => self.prove(sources.crate_name, &files)?,
-            Err(why) => (Some(2), why),
+        let mut check = match sources.edited(edit) {
+            Ok(files) => self.prove(sources.crate_name, &files, edit)?,
+            Err(log) => Check {
+                status: Some(2),
+                seconds: 0.0,
+                log,
+            },
         };
-        Ok(Check {
-            status,
-            seconds: began.elapsed().as_secs_f64(),
-            log,
-        })
+        check.seconds = began.elapsed().as_secs_f64();
+        Ok(check)
     }
 
-    /// The prover's status, none where it was ended from outside twice, and what it said.
-    fn prove(
-        &self,
-        crate_name: &str,
-        files: &[(PathBuf, String)],
-    ) -> io::Result<(Option<i32>, String)> {
+    fn prove(&self, crate_name: &str, files: &Files, edit: &Edit) -> io::Result<Check> {
         let (copy, checked) = (self.folder.join("copy"), self.folder.join("checked"));
         for folder in [&copy, &checked] {
             emptied(folder)?;
@@ -446,19 +452,34 @@ impl<'a> Room<'a> {
         }
         let kept = format!("crates/{crate_name}/out/incremental");
         linked(&self.root.join(kept), &checked)?;
-        let mut command = Command::new(&self.prover.path);
-        command.arg(crate_name).arg(&copy).arg(&checked);
-        let mut said = command.output()?;
-        if said.status.code().is_none() {
-            // most likely for memory
-            said = command.output()?;
+        let command = || {
+            let mut command = Command::new(&self.prover.path);
+            command.arg(crate_name).arg(&copy).arg(&checked);
+            command
+        };
+        if let Some(function) = edit.at.function() {
+            let check = said(command().args(["--only", function]))?;
+            if judged(edit, &check).is_ok() {
+                return Ok(check);
+            }
         }
-        let log = [said.stdout, said.stderr].concat();
-        Ok((
-            said.status.code(),
-            String::from_utf8_lossy(&log).into_owned(),
-        ))
+        said(&mut command())
     }
+}
+
+/// The prover's status, none where it was ended from outside twice, and what it said.
+fn said(command: &mut Command) -> io::Result<Check> {
+    let mut said = command.output()?;
+    if said.status.code().is_none() {
+        // most likely for memory
+        said = command.output()?;
+    }
+    let log = [said.stdout, said.stderr].concat();
+    Ok(Check {
+        status: said.status.code(),
+        seconds: 0.0,
+        log: String::from_utf8_lossy(&log).into_owned(),
+    })
 }
 
 impl Drop for Room<'_> {

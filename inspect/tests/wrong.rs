@@ -11,14 +11,14 @@ use std::sync::Mutex;
 const SOURCE: &str = "crates/names/src/lib.rt";
 const EDIT: &str = "crates/names/must-fail/one_byte.edit";
 
-/// Checks a copy by what stands in it in place of the comparison; where its crate was checked before, that lies beside it. It counts its calls.
+/// Checks a copy by what stands in it in place of the comparison; where its crate was checked before, that lies beside it. It notes how it was called.
 const PROVER: &str = "#!/usr/bin/env bash
 refused() {
     echo \"./proofs/same/Answers.antt:3:4: error: $1\"
     echo logic=not-proved
     exit 1
 }
-echo >>\"${0%/*}/calls\"
+echo \"${@:4}\" >>\"${0%/*}/calls\"
 grep -q proved \"$3/earlier/names.oantt\" || exit 2
 case $(cat \"$2/src/lib.rt\") in
 *'a.0 == b.0'*) echo 'logic=proved functions=1' ;;
@@ -128,6 +128,14 @@ fn a_text_that_is_not_there_is_told() {
 }
 
 #[test]
+fn the_whole_crate_is_checked_where_the_function_is_not_refused() {
+    let fixture = tree("wrong-whole", "ELSEWHERE");
+    begins(outcome(&fixture).0, "refused, but not at");
+    let calls = fs::read_to_string(fixture.0.join("calls")).expect("read");
+    assert_eq!(calls, "--only same\n\n");
+}
+
+#[test]
 fn what_was_tried_on_the_same_files_is_not_tried_again() {
     let fixture = tree("wrong-again", "FALSE");
     let is_new = || outcome(&fixture).1;
@@ -136,5 +144,5 @@ fn what_was_tried_on_the_same_files_is_not_tried_again() {
     fs::write(proof, "pub same : 1 ≡ 1\nsame = refl\n").expect("written");
     assert_eq!([is_new(), is_new()], [true, false]);
     let calls = fs::read_to_string(fixture.0.join("calls")).expect("read");
-    assert_eq!(calls.len(), 2);
+    assert_eq!(calls, "--only same\n--only same\n");
 }
