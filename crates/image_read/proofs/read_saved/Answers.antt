@@ -11,7 +11,6 @@ overflow_add-a c = search rules
 pub overflow_add-e : goal.overflow_add-e
 overflow_add-e c = search rules
 
--- no old answer (part-read_row-end)
 pub slice_bounds-read_row-end : goal.slice_bounds-read_row-end
 slice_bounds-read_row-end c = search rules
 

@@ -8,7 +8,6 @@ overflow_add-a c = search rules
 pub overflow_add-e : goal.overflow_add-e
 overflow_add-e c = search rules
 
--- no old answer (part-is_keepable-end)
 pub slice_bounds-is_keepable-end : goal.slice_bounds-is_keepable-end
 slice_bounds-is_keepable-end c = search rules
 

@@ -17,11 +17,9 @@ overflow_add-f c = search rules
 pub overflow_add-g : goal.overflow_add-g
 overflow_add-g c = search rules
 
--- no old answer (part-differ-end)
 pub slice_bounds-differ-end : goal.slice_bounds-differ-end
 slice_bounds-differ-end c = search rules
 
--- no old answer (part-differ-end-2)
 pub slice_bounds-differ-end-in-loop-j : goal.slice_bounds-differ-end-in-loop-j
 slice_bounds-differ-end-in-loop-j c = search rules
 

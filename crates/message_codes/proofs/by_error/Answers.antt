@@ -50,7 +50,6 @@ pub returns-in-255 : goal.returns-in-255
 unfolding find errors
 returns-in-255 c = search rules
 
--- OLD: c = search rules depth 16
 pub returns-in_default : goal.returns-in_default
 unfolding find errors
 returns-in_default c = search rules depth 16

@@ -14,7 +14,6 @@ pub returns-in-3 : goal.returns-in-3
 unfolding find operations
 returns-in-3 c = search rules
 
--- OLD: c = search rules depth 7
 pub returns-in_default : goal.returns-in_default
 unfolding find operations
 returns-in_default c = search rules depth 7

@@ -22,7 +22,6 @@ pub returns-in-4 : goal.returns-in-4
 unfolding find pieces
 returns-in-4 c = search rules
 
--- OLD: c = search rules depth 9
 pub returns-in_default : goal.returns-in_default
 unfolding find pieces
 returns-in_default c = search rules depth 9

@@ -62,7 +62,6 @@ pub returns-in-143 : goal.returns-in-143
 unfolding find requests
 returns-in-143 c = search rules
 
--- OLD: c = search rules depth 19
 pub returns-in_default : goal.returns-in_default
 unfolding find requests
 returns-in_default c = search rules depth 19

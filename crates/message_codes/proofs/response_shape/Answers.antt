@@ -66,7 +66,6 @@ pub returns-in-127 : goal.returns-in-127
 unfolding find responses
 returns-in-127 c = search rules
 
--- OLD: c = search rules depth 20
 pub returns-in_default : goal.returns-in_default
 unfolding find responses
 returns-in_default c = search rules depth 20

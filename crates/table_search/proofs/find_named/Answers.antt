@@ -1,5 +1,3 @@
-use Prim.Native.Nat.{◌-◌}
-use mathlib.Core.Logic.{⊎_elim}
 use native.Mathlib.Omega.{arith}
 use Rattle.table_search.proofs.Rules.{rules}
 use Rattle.table_search.proofs.find_named.Goals.{then-count-i, else-count-i+then-is_named}
@@ -11,10 +9,8 @@ loop-i-init c = search rules
 pub loop-i-preserved : goal.loop-i-preserved
 loop-i-preserved c = search rules
 
--- OLD: c = ⊎_elim (λ w. absurd (omega arith)) (λ w. search rules) c.before.if1.branch
 pub returns-then-at-count : goal.returns-then-at-count
 returns-then-at-count c = elim c.if-count-i.branch [ then-count-i w ↦ absurd (omega arith) | else-count-i+then-is_named w ↦ search rules ]
 
--- OLD: c = ⊎_elim (λ w. search rules) (λ w. absurd (omega arith)) c.before.if1.branch
 pub returns-else-at-count : goal.returns-else-at-count
 returns-else-at-count c = elim c.if-count-i.branch [ then-count-i w ↦ search rules | else-count-i+then-is_named w ↦ absurd (omega arith) ]
