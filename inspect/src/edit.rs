@@ -40,7 +40,8 @@ pub struct Fact {
 impl Fact {
     /// The function whose goal it is.
     pub fn function(&self) -> Option<&str> {
-        Some(self.of.as_str()).filter(|of| !of.ends_with(".antt"))
+        let of = Some(self.of.as_str());
+        of.filter(|of| !of.is_empty() && !of.ends_with(".antt"))
     }
 }
 
@@ -66,14 +67,15 @@ pub fn read(crate_name: &str, shelf: Shelf, name: &str, text: &str) -> Edit {
     let mut hunks: Vec<Hunk> = Vec::new();
     let mut file = "";
     for line in text.lines() {
-        if let Some(words) = line.strip_prefix('#') {
-            comment.push(words.trim());
-        } else if let Some(fact) = value(line, "at:") {
+        // `rt` says of a line that it doesn't read, but of a comment nothing
+        if let Some(fact) = value(line.strip_prefix("# ").unwrap_or(line), "at:") {
             let (of, name) = fact.split_once(' ').unwrap_or((fact, ""));
             at = Fact {
                 of: of.to_string(),
                 name: name.to_string(),
             };
+        } else if let Some(words) = line.strip_prefix('#') {
+            comment.push(words.trim());
         } else if let Some(path) = line.strip_prefix("file:") {
             file = path.trim();
         } else if let Some(old) = value(line, "old:") {
@@ -147,6 +149,21 @@ mod tests {
             (edit.hunks[1].file.as_str(), edit.hunks[1].new.as_str()),
             ("src/lib.rt", "")
         );
+    }
+
+    #[test]
+    fn the_fact_may_stand_in_a_comment() {
+        let edit = read(
+            "names",
+            Shelf::MustFail,
+            "x",
+            "# stops\n# at: proofs/Laws.antt once\n",
+        );
+        assert_eq!(
+            (edit.comment.as_str(), edit.at.of.as_str()),
+            ("stops", "proofs/Laws.antt")
+        );
+        assert_eq!(edit.at.function(), None);
     }
 
     #[test]

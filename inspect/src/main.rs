@@ -17,11 +17,12 @@ use std::thread;
 const HELP: &str = "\
 usage: slavotuk-inspect check
        slavotuk-inspect page FILE
-       slavotuk-inspect wrong [CRATE..]
+       slavotuk-inspect wrong [--proved] [CRATE..]
 
 check   docs/STATEMENTS.md against the sources: what is wrong with it, and last 'N passed, M failed'
 page    writes the inspector's page
-wrong   has `rt` prove these crates, or all, tries their wrong builds, and says of each where it was refused; last 'N passed, M failed'
+wrong   has `rt` prove these crates, or all, unless they are proved, tries their wrong builds, and says of each where it was refused;
+        last 'N passed, M failed'
 ";
 
 fn main() -> ExitCode {
@@ -30,7 +31,8 @@ fn main() -> ExitCode {
     let done = match words.as_slice() {
         ["check"] => checked(),
         ["page", file] => written(Path::new(file)),
-        ["wrong", crates @ ..] => tried(crates),
+        ["wrong", "--proved", crates @ ..] => tried(crates, true),
+        ["wrong", crates @ ..] => tried(crates, false),
         _ => {
             eprint!("{HELP}");
             return ExitCode::from(2);
@@ -52,7 +54,7 @@ fn checked() -> io::Result<bool> {
     Ok(check::report(&verdicts))
 }
 
-fn tried(crates: &[&str]) -> io::Result<bool> {
+fn tried(crates: &[&str], are_proved: bool) -> io::Result<bool> {
     let root = Path::new(".");
     let tree = Tree::read(root)?;
     if let Some(name) = crates
@@ -64,7 +66,7 @@ fn tried(crates: &[&str]) -> io::Result<bool> {
             format!("crates.txt lists no crate {name}"),
         ));
     }
-    if !proved(root, crates)? {
+    if !are_proved && !proved(root, crates)? {
         return Ok(false);
     }
     let prover = Prover {
@@ -74,28 +76,30 @@ fn tried(crates: &[&str]) -> io::Result<bool> {
     wrong::report(root, &tree, &prover, crates)
 }
 
-/// Has `rt` prove these crates, or all, with those that they rely on, over what it kept; says what it does where it can't.
+/// Has `rt` prove these crates, or all, over what it kept, and prints the verdicts that it gives, or all that it says where it can't.
 fn proved(root: &Path, crates: &[&str]) -> io::Result<bool> {
     let workers = thread::available_parallelism().map_or(1, |count| count.get());
     let all = format!("all check --jobs {workers}");
-    let each = crates
-        .iter()
-        .map(|name| (root.join("crates").join(name), "check"));
-    let runs: Vec<_> = match crates {
+    let folders = crates.iter().map(|name| root.join("crates").join(name));
+    let runs: Vec<(PathBuf, &str)> = match crates {
         [] => vec![(root.to_path_buf(), all.as_str())],
-        _ => each.collect(),
+        _ => folders.map(|folder| (folder, "check")).collect(),
     };
     for (folder, words) in runs {
-        let said = Command::new("rt")
+        let mut command = Command::new("rt");
+        let output = command
             .args(words.split(' '))
             .current_dir(&folder)
             .output()?;
-        if !said.status.success() {
-            print!(
-                "{}{}",
-                String::from_utf8_lossy(&said.stdout),
-                String::from_utf8_lossy(&said.stderr)
-            );
+        let printed = String::from_utf8_lossy(&output.stdout);
+        let is_verdict = |line: &&str| line.starts_with("== ") || line.starts_with("logic=");
+        if output.status.success() {
+            printed
+                .lines()
+                .filter(is_verdict)
+                .for_each(|line| println!("{line}"));
+        } else {
+            println!("{printed}{}", String::from_utf8_lossy(&output.stderr));
             println!("FAILED: `rt {words}` in {}", folder.display());
             println!("0 passed, 1 failed");
             return Ok(false);

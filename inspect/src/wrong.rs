@@ -82,6 +82,9 @@ pub fn judged(edit: &Edit, check: &Check) -> Outcome {
             refusal.words,
             elsewhere(&refusals)
         ),
+        None if edit.at == Fact::default() => {
+            format!("names no fact: refused {}", elsewhere(&refusals))
+        }
         None => format!(
             "refused, but not at `{}` of {}: {}",
             edit.at.name,
