@@ -97,9 +97,10 @@ pub fn judged(edit: &Edit, check: &Check) -> Outcome {
 /// The facts at which it was refused, as an edit names them.
 fn elsewhere(refusals: &[Refusal]) -> String {
     let facts = refusals.iter().filter(|refusal| refusal.is_of_a_fact());
-    let facts: Vec<String> = facts
+    let mut facts: Vec<String> = facts
         .map(|it| format!("{} {}", it.fact.of, it.fact.name))
         .collect();
+    facts.dedup();
     match facts.as_slice() {
         [] => "at no fact that is told".to_string(),
         facts => format!("at {}", facts.join(", ")),
