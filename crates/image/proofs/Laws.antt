@@ -178,9 +178,9 @@ module _ (offset : ℕ) (l : List Grants) where
   seconds-long eight = split (has_seconds offset) (λ n. rw (seconds-new n, n, numbers-long, length-map, eight)) (λ n. rw (seconds-old n, n))
 
 -- what stands before the rows
-pub front_long : (grants : List Grants) (n offset : ℕ) → length grants ≡ credential_count → length (front_bytes grants n offset) ≡ front_long offset
+pub front-long : (grants : List Grants) (n offset : ℕ) → length grants ≡ credential_count → length (front_bytes grants n offset) ≡ front_long offset
 unfolding front_bytes
-front_long grants n offset eight =
+front-long grants n offset eight =
     simp length-append
     (omega (arith, head-long (mask_of grants) n offset, numbers-long word_size (map grant_in grants), length-map grants grant_in, seconds-long offset grants eight, eight))
 
@@ -196,7 +196,7 @@ front-rows i = simp append_assoc
 image-long : (i : Image) → is_row_offset i.offset ≡ true → length i.grants ≡ credential_count → Each (λ r. length r.name.bytes ≡ name_length) i.saved
     → length (image_bytes i) ≡ image_long i.offset (length i.saved)
 unfolding image_long
-image-long i o eight n = rw (front-rows i, length-append, front_long i.grants (length i.saved) i.offset eight, front_at i.offset o, rows_long n)
+image-long i o eight n = rw (front-rows i, length-append, front-long i.grants (length i.saved) i.offset eight, front_at i.offset o, rows_long n)
 
 -- the image of any state that a function has
 pub long-is : {st : State} → Wide st → length (state_image st) ≡ image_room st
@@ -320,7 +320,7 @@ module _ {i : Image} (f : Fit i) where
   from-saved : drop i.offset b ≡ saved
   from-saved =
       let front : List ℕ = front_bytes i.grants (length i.saved) i.offset in
-      let long : length front ≡ i.offset = front_long i.grants (length i.saved) i.offset f.eight ∙ front_at i.offset f.offset in
+      let long : length front ≡ i.offset = front-long i.grants (length i.saved) i.offset f.eight ∙ front_at i.offset f.offset in
       rw (front-rows i) (drop_at front saved i.offset long)
 
   firsts-are : words_from words_at b ≡ firsts

@@ -88,7 +88,7 @@ module _ (l : Shape) {at : ℕ} {f : Field} {form : Form} (h : at < 7) (p : f �
 
   module _ {b out : List ℕ} {ok : Bool} {place : ℕ} (v : Read l b out ok place at) where
     pub read_fits : Fits w64 (place + form.width)
-    read_fits = measured-fits v.decreases
+    read_fits = measured-fits v.measured
 
     module _ {n r : ℕ} (i : n ≡ number_at (width_of form.width) place b) (e : r ≡ meant form n) where
       value-is : r ≡ meant (form_of f) (number_at (form_of f).width place b)
@@ -99,7 +99,7 @@ module _ (l : Shape) {at : ℕ} {f : Field} {form : Form} (h : at < 7) (p : f �
       read-on {a} t =
           let inside : at < length out = omega (arith, v.long) in
           record {
-            measured = measured-on v.decreases;
+            measured = measured-on v.measured;
             long = length-set out at r ∙ v.long;
             is = v.is ∙ rw (next, add-one, take-suc-set out at r inside, append_snoc, value-is, q, drop-drop);
             may = v.may ∙ rw (next, ← and_assoc, t, value-is, q, drop-drop);
@@ -107,13 +107,13 @@ module _ (l : Shape) {at : ℕ} {f : Field} {form : Form} (h : at < 7) (p : f �
 
   module _ {values : List ℕ} {ok : Bool} {place : ℕ} (v : Tested l values ok place at) where
     pub tested-fits : Fits w64 (place + form.width)
-    tested-fits = measured-fits v.decreases
+    tested-fits = measured-fits v.measured
 
     pub tested-on : {a : Bool} → a ≡ is_allowed form (get_or values at 0) → Tested l values (ok && a) (place + form.width) (at + 1)
     unfolding are_allowed
     tested-on {a} t =
         let z : at + 0 ≡ at = omega arith in
-        record { measured = measured-on v.decreases; may = v.may ∙ rw (next, ← and_assoc, t, q, get_or-drop, z, drop-drop) }
+        record { measured = measured-on v.measured; may = v.may ∙ rw (next, ← and_assoc, t, q, get_or-drop, z, drop-drop) }
 
 module _ (l : Shape) {at : ℕ} (h : 7 ≤ at) where
   past : drop at (fields l) ≡ []
@@ -134,10 +134,10 @@ module _ (l : Shape) {at : ℕ} (h : 7 ≤ at) where
 
     pub read-end : ◌≡◌ {A = FieldsRead} (record { long = place; values = out; allowed = ok }) (fields_read l b)
     unfolding fields_read head_long values_of
-    read-end = rw (measured-end v.decreases, may, said)
+    read-end = rw (measured-end v.measured, may, said)
 
   pub tested-end : {values : List ℕ} {ok : Bool} {place : ℕ} → Tested l values ok place at → ◌≡◌ {A = FieldsTested} (record { long = place; allowed = ok }) (fields_tested l values)
   unfolding fields_tested are_allowed head_long
-  tested-end {values} {ok} v = let may : are_allowed (fields l) values ≡ ok = v.may ∙ rw past (and-true ok) in rw (measured-end v.decreases, ← may)
+  tested-end {values} {ok} v = let may : are_allowed (fields l) values ≡ ok = v.may ∙ rw past (and-true ok) in rw (measured-end v.measured, ← may)
 
 pub ruleset rules = (std_rules, meant-all, meant-bits, allowed-below, allowed-not, read-begin, read_fits, read-on, read-end, tested-begin, tested-fits, tested-on, tested-end)

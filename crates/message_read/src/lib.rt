@@ -1,4 +1,5 @@
 // The messages of 004 clause 9.2, read.
+#![tactic(auto)]
 ghost use Rattle.std.specs.Prelude.{◌≡◌};
 ghost use Rattle.message_read.specs.Messages.{shape_in, refused, read_message};
 

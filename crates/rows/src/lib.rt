@@ -1,5 +1,6 @@
 // Bytes: numbers of up to eight of them, read and written little endian. `specs/` and `proofs/` have the records in rows of bytes as well.
 #![tactic(auto)]
+
 ghost use Rattle.std.specs.Prelude.{◌≡◌, length, get_or};
 ghost use Rattle.rows.specs.Bytes.{bytes_of, number_at, byte_of, width_of, Widened};
 ghost use Rattle.rows.specs.Rows.{over};

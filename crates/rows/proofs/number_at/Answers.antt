@@ -1,5 +1,3 @@
-use Prim.Native.Nat.{◌-◌}
-use mathlib.Core.Logic.{⊎_elim}
 use Rattle.rows.proofs.Rules.{rules}
 use Rattle.rows.proofs.number_at.Goals.{then-asked-there, else-asked-there}
 use Rattle.rows.proofs.number_at.Goals as goal
@@ -7,7 +5,6 @@ use Rattle.rows.proofs.number_at.Goals as goal
 pub returns-then-bytes-at : goal.returns-then-bytes-at
 returns-then-bytes-at c = search rules
 
--- OLD: c = ⊎_elim (λ w. search rules) (λ w. search rules) c.if2.branch
 pub loop-done-init : goal.loop-done-init
 loop-done-init c = elim c.if-asked-there.branch [ then-asked-there w ↦ search rules | else-asked-there w ↦ search rules ]
 

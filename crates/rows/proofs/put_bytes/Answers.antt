@@ -1,4 +1,3 @@
-use Prim.Native.Nat.{◌-◌}
 use Rattle.rows.proofs.Rules.{rules}
 use Rattle.rows.proofs.put_bytes.Goals as goal
 

@@ -7,7 +7,6 @@ use Rattle.table_removal.proofs.without_session.Goals as goal
 pub loop-i-init : goal.loop-i-init
 loop-i-init c = search rules
 
--- OLD: c = ⊎_elim (λ w. search rules) (λ w. search rules) c.if1.branch
 pub loop-i-preserved : goal.loop-i-preserved
 loop-i-preserved c = elim c.if-not-is_active_in.branch [ then-not-is_active_in w ↦ search rules | else-not-is_active_in w ↦ search rules ]
 

@@ -7,7 +7,6 @@ use Rattle.table_search.proofs.count_among.Goals as goal
 pub loop-i-init : goal.loop-i-init
 loop-i-init c = search rules
 
--- OLD: c = ⊎_elim (λ w. search rules) (λ w. search rules) c.if1.branch
 pub loop-i-preserved : goal.loop-i-preserved
 loop-i-preserved c = elim c.if-is_among.branch [ then-is_among w ↦ search rules | else-is_among w ↦ search rules ]
 

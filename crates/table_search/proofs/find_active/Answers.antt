@@ -11,10 +11,8 @@ loop-i-init c = search rules
 pub loop-i-preserved : goal.loop-i-preserved
 loop-i-preserved c = search rules
 
--- OLD: c = ⊎_elim (λ w. absurd (omega arith)) (λ w. search rules) c.before.if1.branch
 pub returns-then-at-n : goal.returns-then-at-n
 returns-then-at-n c = elim c.if-n-i.branch [ then-n-i w ↦ absurd (omega arith) | else-n-i+then-is_active w ↦ search rules ]
 
--- OLD: c = ⊎_elim (λ w. search rules) (λ w. absurd (omega arith)) c.before.if1.branch
 pub returns-else-at-n : goal.returns-else-at-n
 returns-else-at-n c = elim c.if-n-i.branch [ then-n-i w ↦ search rules | else-n-i+then-is_active w ↦ absurd (omega arith) ]

@@ -11,10 +11,8 @@ loop-i-init c = search rules
 pub loop-i-preserved : goal.loop-i-preserved
 loop-i-preserved c = search rules
 
--- OLD: c = ⊎_elim (λ w. absurd (omega arith)) (λ w. search rules) c.before.if1.branch
 pub returns-then-at-count : goal.returns-then-at-count
 returns-then-at-count c = elim c.if-count-i.branch [ then-count-i w ↦ absurd (omega arith) | else-count-i+then-is_named w ↦ search rules ]
 
--- OLD: c = ⊎_elim (λ w. search rules) (λ w. absurd (omega arith)) c.before.if1.branch
 pub returns-else-at-count : goal.returns-else-at-count
 returns-else-at-count c = elim c.if-count-i.branch [ then-count-i w ↦ search rules | else-count-i+then-is_named w ↦ absurd (omega arith) ]

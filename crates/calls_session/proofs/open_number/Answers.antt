@@ -1,0 +1,15 @@
+use Rattle.calls.specs.Calls.{number}
+use Rattle.calls.proofs.Rules.{rules}
+use Rattle.calls_session.proofs.open_number.Goals as goal
+
+pub returns-then-not-is_session : goal.returns-then-not-is_session
+unfolding number
+returns-then-not-is_session c = search rules
+
+pub returns-then-not-is_closed : goal.returns-then-not-is_closed
+unfolding number
+returns-then-not-is_closed c = search rules
+
+pub returns : goal.returns
+unfolding number
+returns c = search rules

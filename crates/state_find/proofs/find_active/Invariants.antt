@@ -1,0 +1,11 @@
+use Rattle.state_layout.specs.Layout.{state_of}
+use Rattle.table.specs.Table.{is_active}
+use Rattle.table_search.proofs.Rules.{Searching}
+use Prim.Native.Nat.{◌-◌}
+use Rattle.state_find.proofs.find_active.Given as goal
+
+abbrev pub invariant-loop-i : goal.invariant-loop-i
+invariant-loop-i l = Searching (is_active l.which) (state_of l.s).table.places l.n l.i
+
+abbrev pub decreases-loop-i : goal.decreases-loop-i
+decreases-loop-i l = l.n - l.i
