@@ -1,5 +1,6 @@
 // The claim of a protected call, on a state by value: its check, and a claim that passed it counted.
 #![tactic(auto)]
+
 ghost use Rattle.std.specs.Prelude.{◌≡◌};
 ghost use Rattle.module_state.specs.Claim.{process_found, claim_view, checked};
 ghost use Rattle.calls_claim.specs.Count.{counted_at, counted_by, charged_by};

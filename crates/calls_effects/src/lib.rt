@@ -1,5 +1,6 @@
 // What the calls make: outcomes, states with one part changed, processes; and a fresh module.
 #![tactic(auto)]
+
 ghost use Rattle.std.specs.Prelude.{◌≡◌};
 ghost use Rattle.calls.specs.Calls.{with_table, with_phase, with_grants, user_process, elevation, activated, saved, ended, fresh};
 ghost use Rattle.module_state.specs.Module.{taken};

@@ -1,5 +1,6 @@
 // What the list call asks, ahead of the check of its claim and after it, the number that it answers, and the length of its message.
 #![tactic(auto)]
+
 ghost use Rattle.std.specs.Prelude.{◌≡◌, length};
 ghost use Rattle.module_state.specs.Claim.{grant_number};
 ghost use Rattle.module_state.specs.Numbers.{◌unless◌, ◌▸◌};

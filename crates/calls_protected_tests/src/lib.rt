@@ -1,5 +1,6 @@
 // What each protected call but list asks, ahead of the check of its claim and after it, and the number that it answers.
 #![tactic(auto)]
+
 ghost use Rattle.std.specs.Prelude.{◌≡◌};
 ghost use Rattle.module_state.specs.Claim.{placed};
 ghost use Rattle.calls.specs.Calls.{is_device, named_place, reach, end_tests, record_tests, kill_tests, set_word_tests, asked};

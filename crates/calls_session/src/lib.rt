@@ -1,5 +1,6 @@
 // Open, close and select: state in by value, answer and state out by value. Each asks its tests, in their order, for the number, and does what it does where that is 0.
 #![tactic(auto)]
+
 ghost use Rattle.std.specs.Prelude.{◌≡◌};
 ghost use Rattle.calls.specs.Calls.{Open, Close, Select, is_version, number, outcome};
 

@@ -1,6 +1,7 @@
 // Start, continue, elevate and drop: state in by value, answer and state out by value. Start and elevate ask their tests for the number, and append a process where
 // that is 0. Continue and drop go on from the place at which their test finds the process.
 #![tactic(auto)]
+
 ghost use Rattle.std.specs.Prelude.{◌≡◌};
 ghost use Rattle.module_state.specs.Numbers.{◌when◌, ◌unless◌, ◌▸◌};
 ghost use Rattle.module_state.specs.Numbers as No;

@@ -1,5 +1,6 @@
 // The check of a claim, on what a state tells of it: once for all protected calls, wherever the state lies.
 #![tactic(auto)]
+
 ghost use Rattle.std.specs.Prelude.{◌≡◌};
 ghost use Rattle.table.specs.Table.{found_place};
 ghost use Rattle.module_state.specs.Claim.{sought, speaks_for, is_in_range, is_spent, turn_number, claim_number, check_number, placed, check_of, passed_by};

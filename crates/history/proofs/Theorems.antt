@@ -202,7 +202,7 @@ history-last st (b ∷ calls) call = ap (λ l. event st b ∷ l) (history-last (
 follow-last : (n : Name) (o : Life) (st : State) (calls : List Call) (call : Call) → follow n (history st (calls ++ (call ∷ []))) o ≡ onward n (event (run st calls) call) (follow n (history st calls) o)
 unfolding follow history run
 follow-last n o st [] call = refl
-follow-last n o st (b ∷ calls) call = follow-last n _ (step st b) calls call
+follow-last n o st (b ∷ calls) call = follow-last n (onward n (event st b) o) (step st b) calls call
 
 -- "A name may be given again once its process is removed; the count then starts afresh.": right after an accepted start nothing is counted
 pub afresh : (tell : Name → Life) (first : State) (calls : List Call) (s : Session) (c : Credential) (name : Name) → number (run first calls) (Start s c name) ≡ 0 → told tell (history first (calls ++ (Start s c name ∷ []))) name ≡ Live s c []

@@ -1,5 +1,6 @@
 // What an image holds, in figures, and the line that a sheet of a drawer gets: document 02, order 6. docs/FIGURES.md tells how the desk uses it.
 #![tactic(auto)]
+
 ghost use Rattle.std.specs.Prelude.{◌≡◌, true};
 ghost use Rattle.image.specs.Image.{saved_among, is_image, image_test, SavedLie};
 ghost use Rattle.image_figures.specs.Figures.{classes_held, classes_granted, largest_next, figures_in, size_said, line_of};

@@ -1,5 +1,6 @@
 // What stands before the rows of an image, its head and its words, in either layout, written at the front of a buffer. docs/IMAGE.md draws it.
 #![tactic(auto)]
+
 ghost use Rattle.std.specs.Prelude.{◌≡◌, ◌++◌, map, ◌+◌, ◌-◌, ◌≤◌, length};
 ghost use Rattle.rows.specs.Rows.{over, Put};
 ghost use Rattle.module_state.specs.Module.{word_size};

@@ -1,5 +1,6 @@
 // The head of an image: its five numbers tested, and the credentials that its mask and its words say. docs/IMAGE.md draws both layouts.
 #![tactic(auto)]
+
 ghost use Rattle.std.specs.Prelude.{◌≡◌, ◌≤◌};
 ghost use Rattle.image.specs.Image.{seconds_at, is_row_offset, head_in, words_from, seconds_from, grants_said, grants_among, head_fits};
 

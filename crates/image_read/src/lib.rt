@@ -1,5 +1,6 @@
 // The module that an image makes, read into a value. docs/IMAGE.md draws the image.
 #![tactic(auto)]
+
 ghost use Rattle.std.specs.Prelude.{◌≡◌, map};
 ghost use Rattle.table.specs.Table.{table_of};
 ghost use Rattle.image.specs.Image.{saved_among, saved_process, read_image, SavedLie};

@@ -1,5 +1,6 @@
 // Rescue of a damaged image: which of its rows are kept, what is reported, and the good image written to a second buffer. Document 02, order 8.
 #![tactic(auto)]
+
 ghost use Rattle.std.specs.Prelude.{◌≡◌, true, map, ◌+◌, ◌*◌, ◌≤◌, length, take, drop};
 ghost use Rattle.lists.specs.Lists.{sum, join};
 ghost use Rattle.rows.specs.Rows.{rows, over, Put};

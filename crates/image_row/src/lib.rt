@@ -1,5 +1,6 @@
 // The row that an image has of a saved process: 52 bytes, read and written. docs/IMAGE.md draws it.
 #![tactic(auto)]
+
 ghost use Rattle.std.specs.Prelude.{◌≡◌};
 ghost use Rattle.image.specs.Image.{no_saved, read_saved, saved_over};
 

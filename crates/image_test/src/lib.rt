@@ -1,5 +1,6 @@
 // Whether bytes are an image, tested where they lie. docs/IMAGE.md draws it.
 #![tactic(auto)]
+
 ghost use Rattle.std.specs.Prelude.{◌≡◌, true, ◌<◌, eqb, length};
 ghost use Rattle.rows.specs.Rows.{every, pairwise};
 ghost use Rattle.image.specs.Image.{saved_size, image_long, saved_from, saved_among, is_owner, is_keepable, differ, head_fits, words_fit, image_test, SavedLie};

@@ -1,5 +1,6 @@
 // The image of a state, in the new layout, written at the front of a buffer. docs/IMAGE.md draws it.
 #![tactic(auto)]
+
 ghost use Rattle.std.specs.Prelude.{◌≡◌, map, ◌*◌, ◌≤◌, length};
 ghost use Rattle.lists.specs.Lists.{join};
 ghost use Rattle.rows.specs.Rows.{Put};

@@ -1,5 +1,6 @@
 // The response AUTH_PROCESSES written, and the list call with its bytes.
 #![tactic(auto)]
+
 ghost use Rattle.std.specs.Prelude.{◌≡◌, ◌≤◌, length};
 ghost use Rattle.table.specs.Table.{is_among, standing};
 ghost use Rattle.calls.specs.Calls.{listed};

@@ -1,5 +1,6 @@
 // The listing messages: GET_AUTH_PROCESSES and AUTH_PROCESSES. Both are read here, and the request and what both begin with are written.
 #![tactic(auto)]
+
 ghost use Rattle.std.specs.Prelude.{◌≡◌, length, drop};
 ghost use Rattle.rows.specs.Rows.{rows, every, over};
 ghost use Rattle.names.specs.Names.{row_length, is_row};

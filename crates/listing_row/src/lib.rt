@@ -1,5 +1,6 @@
 // The row that a listing has of a process: 51 bytes, written and read.
 #![tactic(auto)]
+
 ghost use Rattle.std.specs.Prelude.{◌≡◌};
 ghost use Rattle.names.specs.Names.{row_in, is_row, no_row, read_row};
 

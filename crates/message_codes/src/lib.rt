@@ -1,5 +1,6 @@
 // Which shape a message of 004 clause 9.2 has, by its code: Tables 16 and 17.
 #![tactic(auto)]
+
 ghost use Rattle.std.specs.Prelude.{◌≡◌};
 ghost use Rattle.message_codes.specs.Codes.{find, operations, errors, requests, responses, shape_of, piece_of};
 

@@ -1,5 +1,6 @@
 // The fields of the messages of 004 clause 9.2, read and tested. Values are seven, of which those that a shape has no field for are 0.
 #![tactic(auto)]
+
 ghost use Rattle.std.specs.Prelude.{◌≡◌};
 ghost use Rattle.message_formats.specs.Formats.{meant, is_allowed};
 ghost use Rattle.message_fields.specs.Fields.{fields_read, fields_tested};

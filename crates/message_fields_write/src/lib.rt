@@ -1,5 +1,6 @@
 // The fields of a message of 004 clause 9.2 or of a piece of a list, and the bytes that follow them, written.
 #![tactic(auto)]
+
 ghost use Rattle.std.specs.Prelude.{◌≡◌, ◌&&◌, ◌+◌, ◌≤◌, leb, length};
 ghost use Rattle.rows.specs.Rows.{over};
 ghost use Rattle.message_fields.specs.Fields.{fields, head_long, field_bytes, are_allowed};

@@ -1,5 +1,6 @@
 // What the messages of 004 clause 9.2 are made of: what a field may hold, and what follows the fields.
 #![tactic(auto)]
+
 ghost use Rattle.std.specs.Prelude.{◌≡◌};
 ghost use Rattle.message_formats.specs.Formats as Formats;
 ghost use Rattle.message_formats.specs.Formats.{form_of, rest_of};

@@ -1,6 +1,7 @@
 // What follows the fields of a message: bytes, or the parts of a list, tested where they lie. A part is one piece or two, each with fields and the bytes that
 // they say.
 #![tactic(auto)]
+
 ghost use Rattle.std.specs.Prelude.{◌≡◌, get_or};
 ghost use Rattle.message_pieces.specs.Pieces.{rest_long, no_piece, piece_in, first, second, part_in, are_parts, fits_rest};
 

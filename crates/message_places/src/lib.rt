@@ -1,5 +1,6 @@
 // Which field stands at which place of a message, and of a piece of a list.
 #![tactic(auto)]
+
 ghost use Rattle.std.specs.Prelude.{◌≡◌, [], ◌∷◌, get_or};
 ghost use Rattle.message_formats.specs.declared.Field.TheVariants.{Unused};
 ghost use Rattle.message_formats.specs.declared.Shape.TheVariants.{Capabilities};

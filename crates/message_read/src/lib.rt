@@ -1,5 +1,6 @@
 // The messages of 004 clause 9.2, read.
 #![tactic(auto)]
+
 ghost use Rattle.std.specs.Prelude.{◌≡◌};
 ghost use Rattle.message_read.specs.Messages.{shape_in, refused, read_message};
 

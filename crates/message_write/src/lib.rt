@@ -1,5 +1,6 @@
 // The messages of 004 clause 9.2 and the pieces of their lists, written.
 #![tactic(auto)]
+
 ghost use Rattle.std.specs.Prelude.{◌≡◌};
 ghost use Rattle.message_fields_write.specs.Bodies.{body_bytes, body_long, written};
 ghost use Rattle.message_write.specs.Written.{message_bytes, message_long, write_number, write_piece_number, written_over};

@@ -1,5 +1,6 @@
 // What the module holds, and whom it grants what; the types of a claim and of its check.
 #![tactic(auto)]
+
 ghost use Rattle.std.specs.Prelude.{◌≡◌};
 ghost use Rattle.module_state.specs.Module.{is_session, slot_of, is_credential, phase_of, is_closed, words_of, grants_of, closed_module, has_bit, lookup};
 ghost use Rattle.module_state.specs.Claim.{phase_number, entered, lookup_number, grant_number};

@@ -1,5 +1,6 @@
 // What things are called, and the types of the row that a listing has of a process.
 #![tactic(auto)]
+
 ghost use Rattle.std.specs.Prelude.{◌≡◌, ◌+◌, ◌≤◌};
 ghost use Rattle.rows.specs.Bytes.{is_zero};
 ghost use Rattle.names.specs.Names.{name_length, same_bytes, same_name, read_name, name_in, type_number, type_numbered, type_of, kind_of};

@@ -1,5 +1,6 @@
 // Whether the fields of a slice are in their ranges, each place may stand by itself, and no two are rivals, tested where they lie. docs/STATE.md draws the layout.
 #![tactic(auto)]
+
 ghost use Rattle.std.specs.Prelude.{◌≡◌, ◌≤◌, length, drop};
 ghost use Rattle.rows.specs.Rows.{rows};
 ghost use Rattle.table.specs.Table.{places};

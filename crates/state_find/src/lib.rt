@@ -1,5 +1,6 @@
 // The check of a claim on the state that a slice says, where it lies: nothing is read but what its tests come to. docs/STATE.md draws the layout.
 #![tactic(auto)]
+
 ghost use Rattle.std.specs.Prelude.{◌≡◌, ◌<◌, length};
 ghost use Rattle.table.specs.Table.{places, size, is_active, find_active, process_at};
 ghost use Rattle.module_state.specs.Module.{phase_of, grants_of};

@@ -1,6 +1,7 @@
 // Whether the parts of a slice are in their ranges, tested where they lie: the count and the places past it, the sessions and the credentials.
 // docs/STATE.md draws the layout.
 #![tactic(auto)]
+
 ghost use Rattle.std.specs.Prelude.{◌≡◌, ◌+◌, ◌*◌, ◌≤◌, length, drop};
 ghost use Rattle.rows.specs.Bytes.{is_zero};
 ghost use Rattle.rows.specs.Rows.{rows, every};

@@ -1,5 +1,6 @@
 // The state that a slice says, read into a value. docs/STATE.md draws the layout.
 #![tactic(auto)]
+
 ghost use Rattle.std.specs.Prelude.{◌≡◌, map, length, drop};
 ghost use Rattle.rows.specs.Rows.{rows};
 ghost use Rattle.names.specs.Names.{kind_numbered};

@@ -1,5 +1,6 @@
 // Whether a slice holds a state, tested where it lies. docs/STATE.md draws the layout.
 #![tactic(auto)]
+
 ghost use Rattle.std.specs.Prelude.{◌≡◌, ◌<◌, ◌≤◌, length};
 ghost use Rattle.rows.specs.Rows.{pairwise};
 ghost use Rattle.state_layout.specs.Layout.{place_size, state_length, process_from, holds_state};

@@ -1,5 +1,6 @@
 // The bytes of a state, written into a slice. docs/STATE.md draws the layout.
 #![tactic(auto)]
+
 ghost use Rattle.std.specs.Prelude.{◌≡◌, map, ◌*◌, length};
 ghost use Rattle.lists.specs.Lists.{join};
 ghost use Rattle.rows.specs.Rows.{Put};

@@ -1,5 +1,6 @@
 // The table of a state, written into a slice: all of it, or the next number of one place. docs/STATE.md draws the layout.
 #![tactic(auto)]
+
 ghost use Rattle.std.specs.Prelude.{◌≡◌, map, [], ◌∷◌, ◌+◌, ◌*◌, ◌≤◌, length};
 ghost use Rattle.lists.specs.Lists.{join};
 ghost use Rattle.rows.specs.Bytes.{byte_of};

@@ -1,5 +1,6 @@
 // A table of at most 12 processes, in the order of their starts. It goes in by value and comes back by value.
 #![tactic(auto)]
+
 ghost use Rattle.std.specs.Prelude.{◌≡◌, []};
 ghost use Rattle.table.specs.Table.{size, table_of, free_place, is_active, is_active_in, is_among, is_named, process_at};
 

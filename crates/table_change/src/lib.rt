@@ -1,5 +1,6 @@
 // A process put into the table: after the others, or in the place of one.
 #![tactic(auto)]
+
 ghost use Rattle.std.specs.Prelude.{◌≡◌};
 ghost use Rattle.table.specs.Table.{standing, table_of, appended, replaced};
 

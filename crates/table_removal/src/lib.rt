@@ -1,5 +1,6 @@
 // Processes taken out of the table: one, or those that are active in a session.
 #![tactic(auto)]
+
 ghost use Rattle.std.specs.Prelude.{◌≡◌};
 ghost use Rattle.table.specs.Table.{removed, without_session};
 

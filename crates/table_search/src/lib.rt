@@ -1,5 +1,6 @@
 // The searches through the table.
 #![tactic(auto)]
+
 ghost use Rattle.std.specs.Prelude.{◌≡◌};
 ghost use Rattle.table.specs.Table.{find_active, find_named, count_among};
 
