@@ -25,7 +25,6 @@ use Rattle.calls.specs.declared.Outcome.{Outcome}
 use Rattle.calls.proofs.Cut.{left-stopped, left_passed, passed-by}
 use Rattle.calls.proofs.Rules.{refused_as, next_fits, counted_is, counted-elevated, rules as call-rules}
 use Rattle.calls_claim.specs.Count.{counted_at, counted_by, charged_by}
-use borrow.Author.Rules.{rules as std_rules}
 use Rattle.lists.proofs.Lists.{length-mapped}
 use Rattle.module_state.specs.declared.ClaimView.{ClaimView}
 use Rattle.module_state.specs.declared.Grants.{Grants}

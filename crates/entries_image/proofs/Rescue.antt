@@ -11,7 +11,6 @@ use lib.ListN.{length, take, drop}
 use lib.Seq.{take_at}
 use Rattle.lists.proofs.Tests.{split}
 use Rattle.rows.specs.Bytes.{Bytes}
-use Rattle.rows.specs.Rows.{over}
 use Rattle.rows.proofs.Over.{over-room}
 use Rattle.module_state.specs.Numbers.{◌when◌, ◌unless◌, ◌▸◌}
 use Rattle.state_layout.specs.Layout.{state_length}

@@ -3,7 +3,6 @@
 use Prim.Native.Nat.{ℕ}
 use mathlib.Core.Path.{refl}
 use mathlib.Core.List.{List}
-use native.Mathlib.Omega.{arith}
 use Rattle.module_state.specs.Numbers as No
 use Rattle.lists.proofs.Tests.{split}
 use Rattle.calls.proofs.Facts.{known-unless, known-when, known-then}

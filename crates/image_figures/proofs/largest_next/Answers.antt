@@ -1,5 +1,4 @@
 use Prim.Native.Nat.{◌-◌}
-use mathlib.Core.Logic.{⊎_elim}
 use Rattle.image_figures.proofs.Rules.{rules}
 use Rattle.image_figures.proofs.largest_next.Goals.{then-largest-next, else-largest-next}
 use Rattle.image_figures.proofs.largest_next.Goals as goal
@@ -10,11 +9,9 @@ overflow_add-a c = search rules
 pub overflow_add-e : goal.overflow_add-e
 overflow_add-e c = search rules
 
--- no old answer (part-number16-end)
 pub slice_bounds-number16-end : goal.slice_bounds-number16-end
 slice_bounds-number16-end c = search rules
 
--- OLD: c = ⊎_elim (λ w. search rules) (λ w. search rules) c.if1.branch
 pub loop-i-preserved : goal.loop-i-preserved
 loop-i-preserved c = elim c.if-largest-next.branch [ then-largest-next w ↦ search rules | else-largest-next w ↦ search rules ]
 

@@ -1,5 +1,4 @@
 use Prim.Native.Nat.{◌-◌}
-use mathlib.Core.Logic.{⊎_elim}
 use Rattle.image_rescue.proofs.Rules.{rules}
 use Rattle.image_rescue.proofs.sort_rows.Goals.{then-is_kept, else-is_kept}
 use Rattle.image_rescue.proofs.sort_rows.Goals as goal
@@ -22,7 +21,6 @@ overflow_add-dropped c = search rules
 pub overflow_mul-bit : goal.overflow_mul-bit
 overflow_mul-bit c = search rules
 
--- OLD: c = ⊎_elim (λ w. search rules) (λ w. search rules) c.if1.branch
 pub loop-i-preserved : goal.loop-i-preserved
 loop-i-preserved c = elim c.if-is_kept.branch [ then-is_kept w ↦ search rules | else-is_kept w ↦ search rules ]
 

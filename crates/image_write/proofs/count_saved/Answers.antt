@@ -1,5 +1,4 @@
 use Prim.Native.Nat.{◌-◌}
-use mathlib.Core.Logic.{⊎_elim}
 use Rattle.image_write.proofs.Rules.{rules}
 use Rattle.image_write.proofs.count_saved.Goals.{then-is_saved_one, else-is_saved_one}
 use Rattle.image_write.proofs.count_saved.Goals as goal
@@ -7,7 +6,6 @@ use Rattle.image_write.proofs.count_saved.Goals as goal
 pub loop-i-init : goal.loop-i-init
 loop-i-init c = search rules
 
--- OLD: c = ⊎_elim (λ w. search rules) (λ w. search rules) c.if1.branch
 pub loop-i-preserved : goal.loop-i-preserved
 loop-i-preserved c = elim c.if-is_saved_one.branch [ then-is_saved_one w ↦ search rules | else-is_saved_one w ↦ search rules ]
 

@@ -1,5 +1,4 @@
 use Prim.Native.Nat.{◌-◌}
-use mathlib.Core.Logic.{⊎_elim}
 use Rattle.image_write.proofs.Rules.{rules}
 use Rattle.image_write.proofs.put_saved.Goals.{then-is_saved_one, else-is_saved_one}
 use Rattle.image_write.proofs.put_saved.Goals as goal
@@ -7,11 +6,9 @@ use Rattle.image_write.proofs.put_saved.Goals as goal
 pub loop-i-init : goal.loop-i-init
 loop-i-init c = search rules
 
--- no old answer (part-put_row-end)
 pub slice_bounds-put_row-end : goal.slice_bounds-put_row-end
 slice_bounds-put_row-end c = search rules
 
--- OLD: c = ⊎_elim (λ w. search rules) (λ w. search rules) c.if1.branch
 pub loop-i-preserved : goal.loop-i-preserved
 loop-i-preserved c = elim c.if-is_saved_one.branch [ then-is_saved_one w ↦ search rules | else-is_saved_one w ↦ search rules ]
 

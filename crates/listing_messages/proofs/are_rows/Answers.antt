@@ -2,7 +2,6 @@ use Prim.Native.Nat.{◌-◌}
 use Rattle.listing_messages.proofs.Rules.{rules}
 use Rattle.listing_messages.proofs.are_rows.Goals as goal
 
--- no old answer (part-is_row-end)
 pub slice_bounds-is_row-end : goal.slice_bounds-is_row-end
 slice_bounds-is_row-end c = search rules
 

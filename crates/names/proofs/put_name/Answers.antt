@@ -1,4 +1,3 @@
-use Rattle.std.proofs.Common.{◌-◌}
 use Rattle.names.proofs.Rules.{rules}
 use Rattle.names.proofs.put_name.Goals as goal
 

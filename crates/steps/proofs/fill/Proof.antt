@@ -2,7 +2,6 @@
 use Prim.Native.Nat.{◌-◌, ◌≤◌}
 use mathlib.Core.Path.{◌≡◌}
 use lib.ListN.{length}
-use borrow.Author.Rules.{rules as std_rules}
 use Rattle.steps.proofs.fill.Statement.{statement}
 use Rattle.steps.proofs.fill.Tie as tie
 

@@ -1,6 +1,5 @@
 -- written by tools/scaffold, which keeps the answers that are not a plain search
 use Prim.Native.Nat.{◌≤◌, ◌-◌}
-use borrow.Author.Rules.{rules as std_rules}
 use Rattle.steps.proofs.name.Statement.{statement}
 use Rattle.steps.proofs.name.Tie as tie
 

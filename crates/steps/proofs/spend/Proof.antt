@@ -4,7 +4,6 @@ use mathlib.Core.Path.{◌≡◌}
 use lib.ListN.{length}
 use mathlib.Core.Logic.{⊎_elim}
 use native.Mathlib.Omega.{arith}
-use borrow.Author.Rules.{rules as std_rules}
 use Rattle.steps.proofs.spend.Statement.{statement}
 use Rattle.steps.proofs.spend.Tie as tie
 

@@ -1,4 +1,3 @@
-use Prim.Native.Nat.{◌-◌}
 use Rattle.table_change.proofs.Rules.{rules}
 use Rattle.table_change.proofs.tidied.Goals as goal
 

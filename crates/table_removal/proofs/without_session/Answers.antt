@@ -1,5 +1,4 @@
 use Prim.Native.Nat.{◌-◌}
-use mathlib.Core.Logic.{⊎_elim}
 use Rattle.table_removal.proofs.Rules.{rules}
 use Rattle.table_removal.proofs.without_session.Goals.{then-not-is_active_in, else-not-is_active_in}
 use Rattle.table_removal.proofs.without_session.Goals as goal

@@ -1,5 +1,3 @@
-use Prim.Native.Nat.{◌-◌}
-use mathlib.Core.Logic.{⊎_elim}
 use Rattle.table_search.proofs.Rules.{rules}
 use Rattle.table_search.proofs.count_among.Goals.{then-is_among, else-is_among}
 use Rattle.table_search.proofs.count_among.Goals as goal

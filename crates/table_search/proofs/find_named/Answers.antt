@@ -1,5 +1,3 @@
-use Prim.Native.Nat.{◌-◌}
-use mathlib.Core.Logic.{⊎_elim}
 use native.Mathlib.Omega.{arith}
 use Rattle.table_search.proofs.Rules.{rules}
 use Rattle.table_search.proofs.find_named.Goals.{then-count-i, else-count-i+then-is_named}
