@@ -1,4 +1,6 @@
 // What a call answers and leaves. `specs` defines each call; the code of its tests and of what it does is in the crates above.
+#![tactic(auto)]
+
 ghost use Rattle.std.specs.Prelude.{◌≡◌};
 ghost use Rattle.calls.specs.Calls.{answer_number};
 

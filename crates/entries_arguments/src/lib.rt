@@ -1,4 +1,6 @@
 // What a program in C or Rust hands in, as the numbers that it comes in: the values that a call takes, and whether it fits.
+#![tactic(auto)]
+
 ghost use Rattle.std.specs.Prelude.{◌≡◌, ◌&&◌};
 ghost use Rattle.rows.specs.Rows.{every};
 ghost use Rattle.entries_arguments.specs.Arguments.{session_of, class_of, credential_of, wanted_of, is_flag, user_claim_of, claim_of, are_claim_flags, handed, are_pairs};

@@ -1,4 +1,6 @@
 // What every entry begins and ends with: whether its call is made on a slice; and what the call made of the state, put back into the slice that it was read from.
+#![tactic(auto)]
+
 ghost use Rattle.std.specs.Prelude.{◌≡◌};
 ghost use Rattle.entries_call.specs.CallEntry.{Ready};
 ghost use Rattle.entries_call.specs.PutBack.{may_change, PutBack};

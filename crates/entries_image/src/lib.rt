@@ -1,4 +1,6 @@
 // The image of a module as programs in C and Rust write it, restore a module from it and rescue a damaged one: byte slices that they lend.
+#![tactic(auto)]
+
 ghost use Rattle.std.specs.Prelude.{◌≡◌};
 ghost use Rattle.entries_image.specs.Entries.{ImageEntry, RestoreEntry, RescueEntry};
 

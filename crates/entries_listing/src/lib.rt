@@ -1,4 +1,6 @@
 // The listing's messages, read and written for programs in C and Rust.
+#![tactic(auto)]
+
 ghost use Rattle.std.specs.Prelude.{◌≡◌};
 ghost use Rattle.rows.specs.Rows.{over};
 ghost use Rattle.calls.specs.Listing.{head_length};

@@ -1,4 +1,6 @@
 // The messages of 004 clause 9.2 and the pieces of their lists, read and written for programs in C and Rust.
+#![tactic(auto)]
+
 ghost use Rattle.std.specs.Prelude.{◌≡◌, length};
 ghost use Rattle.rows.specs.Bytes.{byte_of};
 ghost use Rattle.message_fields.specs.Fields.{value_count, head_long, values_of};

@@ -1,4 +1,6 @@
 // The protected calls as programs in C and Rust call them: numbers and byte slices, the state in a slice that they lend.
+#![tactic(auto)]
+
 ghost use Rattle.std.specs.Prelude.{◌&&◌};
 ghost use Rattle.names.specs.Names.{read_name};
 ghost use Rattle.module_state.specs.Module.{both_words};

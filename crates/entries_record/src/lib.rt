@@ -1,4 +1,6 @@
 // The record call where the state lies: nothing is read for it but what the check of its claim asks, and nothing is written but the two bytes of a next number.
+#![tactic(auto)]
+
 ghost use Rattle.std.specs.Prelude.{◌≡◌, true};
 ghost use Rattle.module_state.specs.Claim.{checked};
 ghost use Rattle.calls.specs.Calls.{Record};

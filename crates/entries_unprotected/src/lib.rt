@@ -1,5 +1,7 @@
 // The calls without a claim as programs in C and Rust call them: numbers and byte slices, the state in a slice that they lend. Also a fresh module,
 // whether a slice holds a state, and the library's version.
+#![tactic(auto)]
+
 ghost use Rattle.std.specs.Prelude.{◌≡◌, true, ◌&&◌};
 ghost use Rattle.rows.specs.Bytes.{byte_of};
 ghost use Rattle.names.specs.Names.{read_name};

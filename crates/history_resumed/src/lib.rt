@@ -1,1 +1,2 @@
 // Demand 3 counted from what was told before: definitions and theorems, and no code.
+#![tactic(auto)]

@@ -1,5 +1,7 @@
 // The image of a module: where its numbers, its words and its rows lie. docs/IMAGE.md draws it; specs/Image.antt has the same names, and which bytes
 // are an image. Each part begins where the one before it ends, and so does each field.
+#![tactic(auto)]
+
 use module_state::{CREDENTIALS, Grants, State, WORD_SIZE};
 use names::{Credential, NAME_LENGTH, Name};
 

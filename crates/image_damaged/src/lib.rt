@@ -1,4 +1,5 @@
 // Damaged images, order 8. What a rescue needs of bytes, keeps, writes and reports is in specs/Rescue.antt, and its laws in proofs/Laws.antt.
+#![tactic(auto)]
 
 // What rescue answers: the length of the image that it wrote, how many nonzero words it cleared, how many rows it kept, and in the bits of a number the place of
 // each row that it dropped. All are 0 on a refusal.

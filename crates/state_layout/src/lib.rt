@@ -1,5 +1,7 @@
 // The module's state in the bytes that the host lends: where each part and each field of it lies. docs/STATE.md draws it; specs/Layout.antt has the
 // same names, and which bytes hold a state. Each part begins where the one before it ends, and so does each field.
+#![tactic(auto)]
+
 use module_state::{CREDENTIALS, SESSIONS, WORD_SIZE};
 use names::NAME_LENGTH;
 use table::PLACES;

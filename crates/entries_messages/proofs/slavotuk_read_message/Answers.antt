@@ -1,0 +1,11 @@
+use Rattle.entries_messages.proofs.Rules.{rules}
+use Rattle.entries_messages.proofs.slavotuk_read_message.Goals as goal
+
+pub returns-then-values-ne-VALUES : goal.returns-then-values-ne-VALUES
+returns-then-values-ne-VALUES c = search rules
+
+pub returns-then-read-ne-DONE : goal.returns-then-read-ne-DONE
+returns-then-read-ne-DONE c = search rules
+
+pub returns : goal.returns
+returns c = search rules

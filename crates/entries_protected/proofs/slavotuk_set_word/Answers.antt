@@ -1,0 +1,8 @@
+use Rattle.entries_protected.proofs.Rules.{rules}
+use Rattle.entries_protected.proofs.slavotuk_set_word.Goals as goal
+
+pub returns-then-not-is_ready : goal.returns-then-not-is_ready
+returns-then-not-is_ready c = search rules
+
+pub returns : goal.returns
+returns c = search rules
