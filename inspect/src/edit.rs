@@ -67,8 +67,7 @@ pub fn read(crate_name: &str, shelf: Shelf, name: &str, text: &str) -> Edit {
     let mut hunks: Vec<Hunk> = Vec::new();
     let mut file = "";
     for line in text.lines() {
-        // `rt` says of a line that it doesn't read, but of a comment nothing
-        if let Some(fact) = value(line.strip_prefix("# ").unwrap_or(line), "at:") {
+        if let Some(fact) = value(line, "at:") {
             let (of, name) = fact.split_once(' ').unwrap_or((fact, ""));
             at = Fact {
                 of: of.to_string(),
@@ -149,21 +148,6 @@ mod tests {
             (edit.hunks[1].file.as_str(), edit.hunks[1].new.as_str()),
             ("src/lib.rt", "")
         );
-    }
-
-    #[test]
-    fn the_fact_may_stand_in_a_comment() {
-        let edit = read(
-            "names",
-            Shelf::MustFail,
-            "x",
-            "# stops\n# at: proofs/Laws.antt once\n",
-        );
-        assert_eq!(
-            (edit.comment.as_str(), edit.at.of.as_str()),
-            ("stops", "proofs/Laws.antt")
-        );
-        assert_eq!(edit.at.function(), None);
     }
 
     #[test]
