@@ -1,4 +1,4 @@
-.PHONY: help inspect inspect-test run lib own install figures test edits scaffold soak faults bench bench-input trace tools clean
+.PHONY: help inspect inspect-test run lib own install figures test edits soak faults bench bench-input trace tools clean
 
 # `rt` can't run beside another one
 .NOTPARALLEL:
@@ -43,8 +43,7 @@ help:
 	@echo "make install  the same into PREFIX ($(PREFIX)) with a file for pkg-config; DESTDIR goes before it"
 	@echo "make figures  proves the program that prints the figures of a drawer of images, and puts it into build/figures"
 	@echo "make test     the proofs, the wrong builds and the hosts' tests; its last line is 'N passed, 0 failed'"
-	@echo "make edits    how long each wrong build took to refuse in the last run; make edits CRATE=NAME tries those of a crate first"
-	@echo "make scaffold CRATE=NAME FUNCTIONS='F ..'  writes the frames of these functions' proofs, and keeps the answers that stand in them"
+	@echo "make edits    how long each wrong build took to refuse in the last run; make edits CRATE=NAME tries those of a crate"
 	@echo "make soak     the compiled module against the model, until it is stopped; make soak TIME=600 for so many seconds"
 	@echo "make faults   breaks the model in some three hundred and thirty ways and asks that the comparison tells"
 	@echo "make bench    the record entry against ordinary Rust, in time and in instructions, what the other entries cost, and the figures against cksum;"
@@ -106,9 +105,6 @@ test: tools
 edits:
 	@tests/edits $(CRATE)
 
-scaffold:
-	@$(CARGO) slavotuk-scaffold -- write $(CRATE) $(FUNCTIONS)
-
 soak: own
 	@$(CARGO) slavotuk-compare -- soak $(if $(TIME),--seconds $(TIME),--forever)
 
@@ -138,4 +134,4 @@ tools:
 	@tests/install
 
 clean:
-	rm -rf build target
+	rm -rf build crates/*/out

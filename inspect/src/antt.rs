@@ -200,26 +200,17 @@ fn declared(text: &str) -> Option<Vec<String>> {
     None
 }
 
-/// `A.B.{x, y}` or `A.B as C`, as it stands after `use`.
+/// `A.B.{x, y as z}` or `A.B as C`, as it stands after `use`.
 pub fn used(text: &str) -> Option<Use> {
     let text = text.trim_end_matches(';').trim();
-    if let Some((module, alias)) = text.split_once(" as ") {
-        return Some(Use {
-            module: module.to_string(),
-            names: Vec::new(),
-            alias: Some(alias.to_string()),
-        });
+    if let Some((module, names)) = text.split_once(".{") {
+        return Some(Use::names_of(module, names));
     }
-    let (module, names) = text.split_once(".{")?;
-    let names = names
-        .trim_end_matches('}')
-        .split(',')
-        .map(|name| name.trim().to_string())
-        .collect();
+    let (module, alias) = text.split_once(" as ")?;
     Some(Use {
         module: module.to_string(),
-        names,
-        alias: None,
+        names: Vec::new(),
+        alias: Some(alias.to_string()),
     })
 }
 
@@ -238,17 +229,20 @@ mod tests {
     #[test]
     fn a_definition_has_its_comment_its_clauses_and_no_more() {
         let content = read(
-            "-- the file\nuse A.B.{x, _∷_}\n\n-- ---- names: \"all 48 bytes\"\n\n-- each byte\nunfoldable pub sameBytes : List ℕ → Bool\n\
-             sameBytes [] = true\nsameBytes (x ∷ xs) =\n    cond x\n    (sameBytes xs)\n\nabbrev pub next : ℕ\nnext = 1\n",
+            "-- the file\nuse A.B.{x, ◌∷◌}\n\n-- ---- names: \"all 48 bytes\"\n\n-- each byte\nunfoldable pub same_bytes : List ℕ → Bool\n\
+             same_bytes [] = true\nsame_bytes (x ∷ xs) =\n    cond x\n    (same_bytes xs)\n\nabbrev pub next : ℕ\nnext = 1\n",
         );
-        assert_eq!(names(&content), ["sameBytes", "next"]);
+        assert_eq!(names(&content), ["same_bytes", "next"]);
         let same = &content.declarations[0];
         assert_eq!(same.comment, ["each byte"]);
-        assert_eq!(same.statement, ["unfoldable pub sameBytes : List ℕ → Bool"]);
+        assert_eq!(
+            same.statement,
+            ["unfoldable pub same_bytes : List ℕ → Bool"]
+        );
         assert_eq!(same.body.len(), 4);
         assert_eq!((same.line, same.body_line(), same.section), (7, 8, 1));
         assert!(same.public && same.kind == Kind::Definition);
-        assert_eq!(content.uses, [used("A.B.{x, _∷_}").unwrap()]);
+        assert_eq!(content.uses, [used("A.B.{x, ◌∷◌}").unwrap()]);
     }
 
     #[test]
@@ -262,13 +256,13 @@ mod tests {
 
     #[test]
     fn an_operator_is_declared_with_its_holes_and_defined_without_them() {
-        let content = read("infix 25 _when_\n-- a number\nunfoldable pub _when_ : ℕ → Bool → ℕ\nn when b = cond b n done\n");
-        assert_eq!(names(&content), ["_when_"]);
+        let content = read("infix 25 ◌when◌\n-- a number\nunfoldable pub ◌when◌ : ℕ → Bool → ℕ\nn when b = cond b n done\n");
+        assert_eq!(names(&content), ["◌when◌"]);
         assert_eq!(content.declarations[0].body, ["n when b = cond b n done"]);
         assert_eq!(content.declarations[0].comment, ["a number"]);
         assert_eq!(
             content.fixities,
-            [("_when_".to_string(), "infix 25".to_string())]
+            [("◌when◌".to_string(), "infix 25".to_string())]
         );
     }
 
@@ -320,17 +314,20 @@ mod tests {
     #[test]
     fn a_clause_with_typed_brackets_is_a_clause() {
         assert!(is_clause("f (x : ℕ) = x"));
-        assert!(is_clause("same-once κs a x y s t p q = p ∙ sym q"));
+        assert!(is_clause("same_once κs a x y s t p q = p ∙ sym q"));
         assert!(!is_clause("f : (x : ℕ) → x ≡ x"));
         assert!(!is_clause("pub f : ℕ"));
     }
 
     #[test]
     fn an_alias_is_read() {
-        let alias = used("Rattle·claims.specs.Numbers as No").unwrap();
+        let alias = used("Rattle.claims.specs.Numbers as No").unwrap();
         assert_eq!(
             (alias.module.as_str(), alias.alias.as_deref()),
-            ("Rattle·claims.specs.Numbers", Some("No"))
+            ("Rattle.claims.specs.Numbers", Some("No"))
         );
+        let names = used("A.B.{rules as std_rules, x}").unwrap();
+        assert_eq!(names.names, ["rules as std_rules", "x"]);
+        assert_eq!(names.alias, None);
     }
 }

@@ -180,8 +180,8 @@ mod tests {
     use crate::xml::Node;
 
     const SPECS: &str = "abbrev pub used : ℕ\nused = below\n\nabbrev below : ℕ\nbelow =\n    -- why\n    0\n\nabbrev pub unused : ℕ\nunused = 1\n";
-    const CODE: &str = "ghost use Rattle·names·specs.specs.Names.{used, unused};\n\npub extern \"C\" fn none() -> u8\n    ensures { λ r. ⌜ r ≡ used ⌝ }\n{\n    \
-        other()\n}\n\npub fn other() -> u8\n    ensures { λ r. ⌜ r ≡ unused ⌝ }\n{\n    0\n}\n";
+    const CODE: &str = "ghost use Rattle.names.specs.Names.{used, unused};\n\npub extern \"C\" fn none() -> u8\n    ensures { result ≡ used }\n{\n    \
+        other()\n}\n\npub fn other() -> u8\n    ensures { result ≡ unused }\n{\n    0\n}\n";
 
     #[test]
     fn what_the_contracts_of_entries_cite_is_believed_and_what_other_functions_cite_is_not() {

@@ -1,11 +1,10 @@
 //! Reads a wrong build (`.edit`): a comment, where it is refused, and texts of the crate's files with what stands for them.
 
-/// Where a wrong build lies in its crate, and so who tries it.
+/// Where a wrong build lies in its crate. `slavotuk-inspect wrong` tries all of them.
 #[derive(Clone, Copy, Debug, PartialEq, Eq)]
 pub enum Shelf {
-    /// those that documents 01 and 02 name: `rt ci` tries them
+    /// those that documents 01 and 02 name: `rt ci` tries them too
     MustFail,
-    /// all others: `slavotuk-inspect wrong` does
     Wrong,
 }
 
@@ -30,11 +29,20 @@ pub struct Edit {
     pub hunks: Vec<Hunk>,
 }
 
-/// The fact that fails under an edit: the file of the proof, from the crate's folder on, and the name of what is proved there.
+/// The fact that fails under an edit: a goal of a function, by the function's path in the crate; or a lemma of a file, by the file's path from the crate's
+/// folder on.
 #[derive(Clone, Debug, Default, PartialEq, Eq)]
 pub struct Fact {
-    pub file: String,
+    pub of: String,
     pub name: String,
+}
+
+impl Fact {
+    /// The function whose goal it is.
+    pub fn function(&self) -> Option<&str> {
+        let of = Some(self.of.as_str());
+        of.filter(|of| !of.is_empty() && !of.ends_with(".antt"))
+    }
 }
 
 #[derive(Clone, Debug)]
@@ -59,14 +67,14 @@ pub fn read(crate_name: &str, shelf: Shelf, name: &str, text: &str) -> Edit {
     let mut hunks: Vec<Hunk> = Vec::new();
     let mut file = "";
     for line in text.lines() {
-        if let Some(words) = line.strip_prefix('#') {
-            comment.push(words.trim());
-        } else if let Some(fact) = value(line, "at:") {
-            let (file, name) = fact.split_once(' ').unwrap_or((fact, ""));
+        if let Some(fact) = value(line, "at:") {
+            let (of, name) = fact.split_once(' ').unwrap_or((fact, ""));
             at = Fact {
-                file: file.to_string(),
+                of: of.to_string(),
                 name: name.to_string(),
             };
+        } else if let Some(words) = line.strip_prefix('#') {
+            comment.push(words.trim());
         } else if let Some(path) = line.strip_prefix("file:") {
             file = path.trim();
         } else if let Some(old) = value(line, "old:") {
@@ -128,11 +136,11 @@ mod tests {
 
     #[test]
     fn the_comment_the_files_and_the_texts_are_read() {
-        let edit = read("names", Shelf::Wrong, "x", "# stops\n# early\nat: proofs/same/Proof.antt loop-again\nfile: src/lib.rt\nold:     while i < 48 {\nnew:     while i < 16 {\nold: a\nnew:\n");
+        let edit = read("names", Shelf::Wrong, "x", "# stops\n# early\nat: same loop-i-preserved\nfile: src/lib.rt\nold:     while i < 48 {\nnew:     while i < 16 {\nold: a\nnew:\n");
         assert_eq!(edit.comment, "stops early");
         assert_eq!(
-            (edit.at.file.as_str(), edit.at.name.as_str()),
-            ("proofs/same/Proof.antt", "loop-again")
+            (edit.at.of.as_str(), edit.at.name.as_str()),
+            ("same", "loop-i-preserved")
         );
         assert_eq!(edit.hunks.len(), 2);
         assert_eq!(edit.hunks[0].old, "    while i < 48 {");

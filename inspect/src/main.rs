@@ -1,4 +1,4 @@
-//! `slavotuk-inspect check` and `slavotuk-inspect page`, in the repository's folder.
+//! `slavotuk-inspect check`, `page` and `wrong`, in the repository's folder.
 #![forbid(unsafe_code)]
 
 use slavotuk_inspect::believed::Figure;
@@ -7,21 +7,22 @@ use slavotuk_inspect::map::{self, Map};
 use slavotuk_inspect::page::{self, Book, Origin};
 use slavotuk_inspect::run::Run;
 use slavotuk_inspect::tree::Tree;
-use slavotuk_inspect::wrong;
+use slavotuk_inspect::wrong::{self, Prover};
 use std::fs;
 use std::io;
-use std::path::Path;
+use std::path::{Path, PathBuf};
 use std::process::{Command, ExitCode};
+use std::thread;
 
 const HELP: &str = "\
 usage: slavotuk-inspect check
        slavotuk-inspect page FILE
-       slavotuk-inspect wrong [CRATE..]
+       slavotuk-inspect wrong [--proved] [CRATE..]
 
 check   docs/STATEMENTS.md against the sources: what is wrong with it, and last 'N passed, M failed'
 page    writes the inspector's page
-wrong   tries the wrong builds of these crates, or of all, that `rt` does not try, and reads the logs of those that it does; last 'N passed, M failed'.
-        All crates have to be proved
+wrong   has `rt` prove these crates, or all, unless they are proved, tries their wrong builds, and says of each where it was refused;
+        last 'N passed, M failed'
 ";
 
 fn main() -> ExitCode {
@@ -30,7 +31,8 @@ fn main() -> ExitCode {
     let done = match words.as_slice() {
         ["check"] => checked(),
         ["page", file] => written(Path::new(file)),
-        ["wrong", crates @ ..] => tried(crates),
+        ["wrong", "--proved", crates @ ..] => tried(crates, true),
+        ["wrong", crates @ ..] => tried(crates, false),
         _ => {
             eprint!("{HELP}");
             return ExitCode::from(2);
@@ -52,7 +54,7 @@ fn checked() -> io::Result<bool> {
     Ok(check::report(&verdicts))
 }
 
-fn tried(crates: &[&str]) -> io::Result<bool> {
+fn tried(crates: &[&str], are_proved: bool) -> io::Result<bool> {
     let root = Path::new(".");
     let tree = Tree::read(root)?;
     if let Some(name) = crates
@@ -64,7 +66,46 @@ fn tried(crates: &[&str]) -> io::Result<bool> {
             format!("crates.txt lists no crate {name}"),
         ));
     }
-    wrong::report(root, &tree, Path::new("arch/prover"), crates)
+    if !are_proved && !proved(root, crates)? {
+        return Ok(false);
+    }
+    let prover = Prover {
+        path: PathBuf::from("arch/prover"),
+        version: said("rt", &["version"]),
+    };
+    wrong::report(root, &tree, &prover, crates)
+}
+
+/// Has `rt` prove these crates, or all, over what it kept, and prints the verdicts that it gives, or all that it says where it can't.
+fn proved(root: &Path, crates: &[&str]) -> io::Result<bool> {
+    let workers = thread::available_parallelism().map_or(1, |count| count.get());
+    let all = format!("all check --jobs {workers}");
+    let folders = crates.iter().map(|name| root.join("crates").join(name));
+    let runs: Vec<(PathBuf, &str)> = match crates {
+        [] => vec![(root.to_path_buf(), all.as_str())],
+        _ => folders.map(|folder| (folder, "check")).collect(),
+    };
+    for (folder, words) in runs {
+        let mut command = Command::new("rt");
+        let output = command
+            .args(words.split(' '))
+            .current_dir(&folder)
+            .output()?;
+        let printed = String::from_utf8_lossy(&output.stdout);
+        let is_verdict = |line: &&str| line.starts_with("== ") || line.starts_with("logic=");
+        if output.status.success() {
+            printed
+                .lines()
+                .filter(is_verdict)
+                .for_each(|line| println!("{line}"));
+        } else {
+            println!("{printed}{}", String::from_utf8_lossy(&output.stderr));
+            println!("FAILED: `rt {words}` in {}", folder.display());
+            println!("0 passed, 1 failed");
+            return Ok(false);
+        }
+    }
+    Ok(true)
 }
 
 fn written(file: &Path) -> io::Result<bool> {

@@ -2,7 +2,7 @@
 //! at the margin.
 
 use crate::antt;
-use crate::source::{indent, Content, Declaration, Held, Kind, Member, Use};
+use crate::source::{begins_contract, indent, Content, Declaration, Held, Kind, Member, Use};
 
 const COMMENT: &str = "//";
 
@@ -16,9 +16,12 @@ pub fn read(text: &str) -> Content {
         let text = line.trim();
         if text.is_empty() || text.starts_with(COMMENT) {
             held.push(line);
-        } else if let Some(found) = used(text) {
-            content.uses.push(found);
+        } else if text.starts_with("use ") || text.starts_with("ghost use ") {
+            let last = lines[at..].iter().position(|line| line.ends_with(';'));
+            let end = at + last.unwrap_or(0);
+            content.uses.extend(used(&lines[at..=end].concat()));
             held.take();
+            at = end;
         } else if let Some(mut declaration) = begun(text, at + 1) {
             declaration.comment = held.comment(COMMENT);
             fill(&mut declaration, &lines[at..]);
@@ -30,20 +33,16 @@ pub fn read(text: &str) -> Content {
     content
 }
 
-/// `ghost use A.B.{x};` names the logic, `use a::B;` the code of another crate.
+/// `ghost use A.B.{x};` names the logic, `use a::B;` and `use a::{B, C};` the code of another crate.
 fn used(text: &str) -> Option<Use> {
     if let Some(ghost) = text.strip_prefix("ghost use ") {
         return antt::used(ghost);
     }
-    let (module, name) = text
+    let (module, names) = text
         .strip_prefix("use ")?
         .trim_end_matches(';')
         .rsplit_once("::")?;
-    Some(Use {
-        module: module.to_string(),
-        names: vec![name.to_string()],
-        alias: None,
-    })
+    Some(Use::names_of(module, names.trim_start_matches('{')))
 }
 
 fn begun(text: &str, number: usize) -> Option<Declaration> {
@@ -76,7 +75,7 @@ fn fill(declaration: &mut Declaration, lines: &[&str]) {
         Kind::Function => {
             let opens = lines
                 .iter()
-                .position(|line| line.ends_with('{') && !line.ends_with("ensures {"))
+                .position(|line| line.ends_with('{') && !begins_contract(line))
                 .unwrap_or(lines.len() - 1);
             let ends = lines
                 .iter()
@@ -134,9 +133,9 @@ fn members(declaration: &Declaration, first: &str) -> Vec<Member> {
 mod tests {
     use super::*;
 
-    const FILE: &str = "// The file.\nghost use mathlib.Core.Path.{_≡_};\nuse claims::DONE;\n\n// A handle.\npub struct Session(pub u8);\n\n\
-        pub enum Kind {\n    // a user's\n    User,\n    Saved(Session),\n}\n\npub const LONG: usize = 48;\n\n// Whether.\n#[no_mangle]\n\
-        pub extern \"C\" fn slavotuk_same(a: Name) -> bool\n    requires { ⌜ Fits a ⌝ }\n    ensures { λ r. ⌜ r ≡ sameName a ⌝ }\n{\n    \
+    const FILE: &str = "// The file.\n#![tactic(auto)]\n\nghost use Rattle.std.specs.Prelude.{◌≡◌};\nuse claims::{\n    DONE,\n    SPENT,\n};\n\n\
+        // A handle.\n#[derive(Clone, Copy)]\npub struct Session(pub u8);\n\npub enum Kind {\n    // a user's\n    User,\n    Saved(Session),\n}\n\npub const LONG: usize = 48;\n\n// Whether.\n#[unsafe(no_mangle)]\n\
+        pub extern \"C\" fn slavotuk_same(a: Name) -> bool\n    requires { Fits a }\n    ensures same {\n        result ≡ same_name a\n    }\n{\n    \
         if a.x {\n        return false;\n    }\n    true\n}\n\nfn name(most: u8) -> Name {\n    Name { bytes: most }\n}\n";
 
     #[test]
@@ -158,17 +157,18 @@ mod tests {
             ]
         );
         assert_eq!(content.uses.len(), 2);
+        assert_eq!(content.uses[1].names, ["DONE", "SPENT"]);
     }
 
     #[test]
     fn a_function_has_its_contract_apart_from_its_code() {
         let content = read(FILE);
         let same = &content.declarations[3];
-        assert_eq!(same.statement.len(), 3);
+        assert_eq!(same.statement.len(), 5);
         assert_eq!(same.body.first().map(String::as_str), Some("{"));
         assert_eq!(same.body.last().map(String::as_str), Some("}"));
-        assert_eq!(same.comment, ["Whether.", "#[no_mangle]"][..1]);
-        assert_eq!((same.line, same.body_line()), (18, 21));
+        assert_eq!(same.comment, ["Whether."]);
+        assert_eq!((same.line, same.body_line()), (24, 29));
     }
 
     #[test]
@@ -187,6 +187,6 @@ mod tests {
             .iter()
             .map(|m| (m.name.as_str(), m.line))
             .collect();
-        assert_eq!(variants, [("User", 10), ("Saved", 11)]);
+        assert_eq!(variants, [("User", 16), ("Saved", 17)]);
     }
 }

@@ -1,6 +1,6 @@
 //! What a word of a file means: a declaration of the tree, or a name of the logic's own library.
 
-use crate::source::{indent, Declaration, Kind, Use};
+use crate::source::{begins_contract, indent, Declaration, Kind, Use};
 use crate::tree::{Folder, Id, Tree};
 use crate::words::{self, Piece};
 use std::collections::{BTreeSet, HashMap, HashSet};
@@ -50,8 +50,9 @@ impl<'a> Scope<'a> {
         let is_code = self.tree.crates.iter().any(|c| c.name == used.module);
         let module = module(self.tree, &used.module);
         for name in &used.names {
+            let (name, local) = name.split_once(" as ").unwrap_or((name, name));
             if let Some(meaning) = self.of_module(&module, name) {
-                self.learn(is_code, name, meaning);
+                self.learn(is_code, local, meaning);
             }
         }
         if let Some(alias) = &used.alias {
@@ -113,12 +114,17 @@ impl<'a> Scope<'a> {
             .map(Meaning::Ours)
     }
 
+    /// The pieces of a line of the logic.
+    pub fn pieces<'b>(&self, line: &'b str, margin: usize) -> Vec<Piece<'b>> {
+        words::of_logic(line, margin, &|word| self.aliases.contains_key(word))
+    }
+
     /// A word of the logic. An operator is declared with holes at its sides; `A.x` is the x of the module called A here.
     pub fn of_logic(&self, word: &str) -> Option<Meaning> {
         if let Some(meaning) = self
             .names
             .get(word)
-            .or_else(|| self.names.get(&format!("_{word}_")))
+            .or_else(|| self.names.get(&format!("◌{word}◌")))
         {
             return Some(meaning.clone());
         }
@@ -159,10 +165,10 @@ fn bare_names(declaration: &Declaration) -> Vec<&str> {
     names
 }
 
-/// `Rattle·CRATE.specs.FILE`, with `·specs` or `·proofs` after a crate's own name; or a crate of code.
+/// `Rattle.CRATE.specs.FILE` or `Rattle.CRATE.proofs.FILE`; or a crate of code.
 fn module(tree: &Tree, path: &str) -> Module {
     let outside = || Module::Outside(path.to_string());
-    let Some(ours) = path.strip_prefix("Rattle·") else {
+    let Some(ours) = path.strip_prefix("Rattle.") else {
         let is_crate = tree.crates.iter().any(|c| c.name == path);
         return if is_crate {
             Module::Declared(path.to_string())
@@ -173,7 +179,6 @@ fn module(tree: &Tree, path: &str) -> Module {
     let Some((crate_name, rest)) = ours.split_once('.') else {
         return outside();
     };
-    let crate_name = crate_name.split('·').next().unwrap_or(crate_name);
     let parts: Vec<&str> = rest.split('.').collect();
     let file = |folder, stem| tree.find_file(crate_name, folder, stem).map(Module::File);
     let found = match parts.as_slice() {
@@ -203,7 +208,7 @@ pub fn bound(scope: &Scope, lines: &[String]) -> Vec<HashSet<String>> {
 
 /// Binders `(x y : T)`, `λ x.`, `let x :`, and the variables of the patterns on a clause's left side.
 fn bound_in(scope: &Scope, text: &str) -> HashSet<String> {
-    let pieces = words::of_logic(text, indent(text));
+    let pieces = scope.pieces(text, indent(text));
     let mut names = variables(scope, &pieces);
     // the words since the last bracket, λ or let
     let mut run: Option<Vec<&str>> = None;
@@ -247,20 +252,13 @@ fn is_constructor(scope: &Scope, word: &str) -> bool {
     }
 }
 
-/// Whether a line of a function's statement, and each after it, is of the contract.
-pub fn begins_contract(line: &str) -> bool {
-    ["requires", "ensures"]
-        .iter()
-        .any(|word| line.trim_start().starts_with(word))
-}
-
 /// What lines of the logic cite, in their order, without what they bind.
 pub fn cited_by_logic(scope: &Scope, lines: &[String]) -> BTreeSet<Id> {
     let bounds = bound(scope, lines);
     let margin = lines.first().map_or(0, |line| indent(line));
     let mut cited = BTreeSet::new();
     for (line, bound) in lines.iter().zip(&bounds) {
-        for piece in words::of_logic(line, margin) {
+        for piece in scope.pieces(line, margin) {
             let Piece::Word(word) = piece else { continue };
             if let Some(Meaning::Ours(id)) = scope.of_logic(word).filter(|_| !bound.contains(word))
             {
@@ -341,13 +339,13 @@ mod tests {
     use super::*;
     use crate::tree::tests::tree;
 
-    const NUMBERS: &str = "infix 25 _when_\nunfoldable pub _when_ : ℕ → Bool → ℕ\nn when b = cond b n done\n\nabbrev pub done : ℕ\ndone = 0\n";
-    const CALLS: &str = "use lib.Dec.{eqb}\nuse Rattle·claims.specs.Numbers as No\nuse Rattle·claims.specs.Numbers.{_when_}\n\
-        use Rattle·claims.specs.declared.Phase.{Phase}\nuse Rattle·claims.specs.declared.Phase.the-variants.{Closed}\n\n\
+    const NUMBERS: &str = "infix 25 ◌when◌\nunfoldable pub ◌when◌ : ℕ → Bool → ℕ\nn when b = cond b n done\n\nabbrev pub done : ℕ\ndone = 0\n";
+    const CALLS: &str = "use lib.Dec.{eqb as same}\nuse Rattle.claims.specs.Numbers as No\nuse Rattle.claims.specs.Numbers.{◌when◌}\n\
+        use Rattle.claims.specs.declared.Phase.{Phase}\nuse Rattle.claims.specs.declared.Phase.TheVariants.{Closed}\n\n\
         pub data Call : Type 0 where\n  Open : Phase → Call\n\nabbrev pub word : ℕ\nword = 1\n\n\
-        unfoldable pub number : Phase → Call → ℕ\nnumber word (Open s) = No.done when eqb word (λ s. word)\nnumber Closed call = word\n";
-    const CODE: &str = "ghost use Rattle·claims.specs.Numbers.{done};\n\npub enum Phase {\n    Closed,\n}\n\npub fn none() -> u8\n    \
-        ensures { λ r. ⌜ r ≡ done ⌝ }\n{\n    done()\n}\n\npub fn done() -> u8\n    ensures { λ r. ⌜ r ≡ done ⌝ }\n{\n    0\n}\n";
+        unfoldable pub number : Phase → Call → ℕ\nnumber word (Open s) = No.done when same word.at (λ s. word)\nnumber Closed call = word\n";
+    const CODE: &str = "ghost use Rattle.claims.specs.Numbers.{done};\n\npub enum Phase {\n    Closed,\n}\n\npub fn none() -> u8\n    \
+        ensures { result ≡ done }\n{\n    done()\n}\n\npub fn done() -> u8\n    ensures { result ≡ done }\n{\n    0\n}\n";
 
     fn read() -> Tree {
         tree(&[
@@ -372,11 +370,11 @@ mod tests {
             Some(Meaning::Outside(module)) => module,
             None => String::new(),
         };
-        assert_eq!(name("when"), "_when_");
+        assert_eq!(name("when"), "◌when◌");
         assert_eq!(name("No.done"), "done");
         assert_eq!(name("Closed"), "Phase");
         assert_eq!(name("Open"), "Call");
-        assert_eq!(name("eqb"), "lib.Dec");
+        assert_eq!(name("same"), "lib.Dec");
         assert_eq!(name("done"), "", "it is known here below its alias alone");
     }
 
@@ -392,7 +390,7 @@ mod tests {
         let body = &tree.declaration(id).body;
         assert_eq!(
             named(&tree, cited_by_logic(&scope, &body[..1])),
-            ["_when_", "done", "Call", "number"]
+            ["◌when◌", "done", "Call", "number"]
         );
         assert_eq!(
             named(&tree, cited_by_logic(&scope, &body[1..])),

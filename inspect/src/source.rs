@@ -73,12 +73,28 @@ impl Declaration {
     }
 }
 
-/// Names taken from another module: these, or all of them below an alias.
+/// Names taken from another module: these, one by another name as `x as y`, or all of them below an alias.
 #[derive(Clone, Debug, PartialEq, Eq)]
 pub struct Use {
     pub module: String,
     pub names: Vec<String>,
     pub alias: Option<String>,
+}
+
+impl Use {
+    /// Names that commas separate, up to a bracket.
+    pub fn names_of(module: &str, names: &str) -> Use {
+        let names = names.split('}').next().unwrap_or_default();
+        let names = names.split(',').map(str::trim);
+        Use {
+            module: module.to_string(),
+            names: names
+                .filter(|name| !name.is_empty())
+                .map(str::to_string)
+                .collect(),
+            alias: None,
+        }
+    }
 }
 
 /// What a reader finds in a file.
@@ -121,6 +137,13 @@ impl Held {
 fn uncommented(line: &str, mark: &str) -> String {
     let text = line.trim().strip_prefix(mark).unwrap_or(line).trim();
     text.strip_prefix("---- ").unwrap_or(text).to_string()
+}
+
+/// Whether a line of a function's statement, and each after it, is of the contract.
+pub fn begins_contract(line: &str) -> bool {
+    ["requires", "ensures"]
+        .iter()
+        .any(|word| line.trim_start().starts_with(word))
 }
 
 pub fn indent(line: &str) -> usize {

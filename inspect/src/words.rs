@@ -4,7 +4,7 @@
 pub enum Piece<'a> {
     /// a name or a sign
     Word(&'a str),
-    /// a field that is taken of what stands before it: ` .name`, with its dot
+    /// a field that is taken of what stands before it: `.name`, with its dot
     Field(&'a str),
     /// a field that a record is given: `name = ..` between braces
     Label(&'a str),
@@ -25,9 +25,13 @@ impl<'a> Piece<'a> {
     }
 }
 
-/// The pieces of a line of the logic, in a declaration whose margin this is. A word goes up to a space or a bracket; a dot at its end is
-/// that of a λ.
-pub fn of_logic(line: &str, margin: usize) -> Vec<Piece<'_>> {
+/// The pieces of a line of the logic, in a declaration whose margin this is. A word goes up to a space, a bracket or a dot; a dot at its end is
+/// that of a λ, and one behind the alias of a module leads to a name of it.
+pub fn of_logic<'a>(
+    line: &'a str,
+    margin: usize,
+    is_alias: &dyn Fn(&str) -> bool,
+) -> Vec<Piece<'a>> {
     let mut pieces = Vec::new();
     let mut rest = line;
     if rest.trim_start().starts_with("--") {
@@ -45,7 +49,7 @@ pub fn of_logic(line: &str, margin: usize) -> Vec<Piece<'_>> {
         if ends(first) {
             pieces.push(Piece::Other(text));
         } else {
-            word_of_logic(text, &mut pieces);
+            word_of_logic(text, is_alias, &mut pieces);
         }
         rest = after;
     }
@@ -69,14 +73,23 @@ fn is_label(pieces: &[Piece], at: usize, margin: usize) -> bool {
     is_given && begins
 }
 
-fn word_of_logic<'a>(text: &'a str, pieces: &mut Vec<Piece<'a>>) {
-    if text.len() > 1 && text.starts_with('.') {
-        pieces.push(Piece::Field(text));
-    } else if let Some(word) = text.strip_suffix('.').filter(|word| !word.is_empty()) {
-        pieces.push(Piece::Word(word));
-        pieces.push(Piece::Other("."));
-    } else {
-        pieces.push(Piece::Word(text));
+fn word_of_logic<'a>(text: &'a str, is_alias: &dyn Fn(&str) -> bool, pieces: &mut Vec<Piece<'a>>) {
+    let next_dot = |from: usize| text[from..].find('.').map_or(text.len(), |at| from + at);
+    let first = next_dot(0);
+    let mut end = match is_alias(&text[..first]) && first < text.len() {
+        true => next_dot(first + 1),
+        false => first,
+    };
+    if end > 0 {
+        pieces.push(Piece::Word(&text[..end]));
+    }
+    while end < text.len() {
+        let next = next_dot(end + 1);
+        pieces.push(match &text[end..next] {
+            "." => Piece::Other("."),
+            field => Piece::Field(field),
+        });
+        end = next;
     }
 }
 
@@ -130,8 +143,9 @@ mod tests {
     fn the_logics_words_fields_and_signs() {
         assert_eq!(
             words(of_logic(
-                "same a b = λ x. No.done ▸ (f {st} [] .bytes .0)",
-                0
+                "same a b = λ x. No.done ▸ (f {st} []).bytes.0 s.now",
+                0,
+                &|word| word == "No"
             )),
             [
                 Word("same"),
@@ -146,16 +160,25 @@ mod tests {
                 Word("st"),
                 Word("[]"),
                 Field(".bytes"),
-                Field(".0")
+                Field(".0"),
+                Word("s"),
+                Field(".now")
             ]
         );
-        assert_eq!(of_logic("  -- \"all\"", 0), [Comment("  -- \"all\"")]);
+        assert_eq!(
+            of_logic("  -- \"all\"", 0, &|_| false),
+            [Comment("  -- \"all\"")]
+        );
     }
 
     #[test]
     fn a_field_that_is_given_is_no_name() {
         assert_eq!(
-            words(of_logic("x = record { number = n; word = let r = y }", 0)),
+            words(of_logic(
+                "x = record { number = n; word = let r = y }",
+                0,
+                &|_| false
+            )),
             [
                 Word("x"),
                 Word("="),
@@ -171,8 +194,14 @@ mod tests {
                 Word("y")
             ]
         );
-        assert_eq!(words(of_logic("      number = n;", 0))[0], Label("number"));
-        assert_eq!(words(of_logic("  last = n", 2))[0], Word("last"));
+        assert_eq!(
+            words(of_logic("      number = n;", 0, &|_| false))[0],
+            Label("number")
+        );
+        assert_eq!(
+            words(of_logic("  last = n", 2, &|_| false))[0],
+            Word("last")
+        );
     }
 
     #[test]
@@ -207,12 +236,15 @@ mod tests {
     #[test]
     fn nothing_is_lost() {
         for line in [
-            "    record { 0 = numberAt 2 0 part };",
-            "λ (e : Event). e .call",
-            "a ≢ b′ .",
+            "    record { 0 = number_at 2 0 part };",
+            "λ (e : Event). e.call",
+            "a ≢ b' . (f x).0.now",
             "",
         ] {
-            let joined: String = of_logic(line, 0).into_iter().map(Piece::text).collect();
+            let joined: String = of_logic(line, 0, &|word| word == "e")
+                .into_iter()
+                .map(Piece::text)
+                .collect();
             assert_eq!(joined, line);
             let joined: String = of_code(line).into_iter().map(Piece::text).collect();
             assert_eq!(joined, line);

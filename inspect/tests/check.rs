@@ -28,14 +28,14 @@ fn a_right_map_passes() {
 #[test]
 fn a_name_that_is_not_there() {
     let told = [
-        "docs/STATEMENTS.md:11: Definition, names/Names: `sameNames` is not there",
-        "names/Names: `sameName`, which the contracts of names::same cite, is in no row",
+        "docs/STATEMENTS.md:11: Definition, names/Names: `same_names` is not there",
+        "names/Names: `same_name`, which the contracts of names::same cite, is in no row",
     ];
-    fails("name", MAP, "`sameName`", "`sameNames`", &told);
+    fails("name", MAP, "`same_name`", "`same_names`", &told);
     fails(
         "theorem",
         MAP,
-        "`same-once`",
+        "`same_once`",
         "`once`",
         &["docs/STATEMENTS.md:11: Proved, names/Unique: `once` is not there"],
     );
@@ -73,7 +73,7 @@ fn a_place_that_is_not_there() {
         MAP,
         "names/Unique",
         "names/Once",
-        &["docs/STATEMENTS.md:11: Proved, names/Once: `same-once` is not there"],
+        &["docs/STATEMENTS.md:11: Proved, names/Once: `same_once` is not there"],
     );
 }
 
@@ -131,8 +131,8 @@ fn a_wrong_build_whose_text_is_gone() {
 
 #[test]
 fn a_definition_that_contracts_cite_and_no_row_shows() {
-    let told = ["names/Names: `sameName`, which the contracts of names::same cite, is in no row"];
-    fails("definition", MAP, "names/Names: `sameName`; ", "", &told);
+    let told = ["names/Names: `same_name`, which the contracts of names::same cite, is in no row"];
+    fails("definition", MAP, "names/Names: `same_name`; ", "", &told);
 }
 
 #[test]
@@ -177,8 +177,8 @@ fn a_public_function_that_asks_something() {
     fails(
         "asks",
         "crates/names/src/lib.rt",
-        "    ensures { λ r. ⌜ r ≡ sameName",
-        "    requires { ⌜ a ≡ b ⌝ }\n    ensures { λ r. ⌜ r ≡ sameName",
+        "    ensures { result ≡ same_name",
+        "    requires { a ≡ b }\n    ensures { result ≡ same_name",
         &told,
     );
 }

@@ -70,10 +70,10 @@ fn a_row_has_the_texts_of_what_it_cites() {
     ));
     for text in [
         "Two names are equal",
-        "sameName a b = eqb a b",
+        "same_name a b = a == b",
         "pub fn same(a: Name, b: Name) -> bool",
-        "ensures { λ r. ⌜ r ≡ sameName a b ⌝ }",
-        "same-once : OneAnswer 0 same-kinds.ps same-kinds.r same.Post",
+        "ensures { result ≡ same_name a b }",
+        "same_once : OneAnswer 0 same-kinds.ps same-kinds.r same.Post",
         "−     a.0 == b.0",
         "+     true",
     ] {
@@ -86,9 +86,9 @@ fn a_row_has_the_texts_of_what_it_cites() {
 fn a_sentence_leads_to_the_line_of_code_and_back() {
     let html = small("way", None);
     let row = between(&html, "id=\"sentence-1\">", "</article>");
-    assert!(row.contains("href=\"#names.src.lib:8\""), "to the code");
+    assert!(row.contains("href=\"#names.src.lib:9\""), "to the code");
     assert!(
-        row.contains("href=\"#names.src.lib:9\""),
+        row.contains("href=\"#names.src.lib:10\""),
         "to the line of the wrong build"
     );
     let function = between(
@@ -96,7 +96,7 @@ fn a_sentence_leads_to_the_line_of_code_and_back() {
         "<article class=\"d\" id=\"names.src.lib.same\">",
         "</article>",
     );
-    assert!(plain(between(function, "id=\"names.src.lib:9\"", "</span>")).contains("a.0 == b.0"));
+    assert!(plain(between(function, "id=\"names.src.lib:10\"", "</span>")).contains("a.0 == b.0"));
     assert!(function.contains("href=\"#sentence-1\""), "back");
     assert!(
         function.contains("href=\"#names.must-fail.one_byte\""),
@@ -109,12 +109,12 @@ fn a_definition_says_who_cites_it() {
     let html = small("cited", None);
     let definition = between(
         &html,
-        "<article class=\"d\" id=\"names.specs.Names.sameName\">",
+        "<article class=\"d\" id=\"names.specs.Names.same_name\">",
         "</article>",
     );
     assert!(definition.contains("Cited by the contracts of:</b> <a href=\"#names.src.lib.same\">"));
     assert!(
-        definition.contains("title=\"of the logic's library: lib.Dec\""),
+        definition.contains("title=\"of the logic's library: Rattle.std.specs.Prelude\""),
         "a name from outside says from where"
     );
 }
@@ -126,9 +126,9 @@ fn where_no_run_is_at_hand_it_says_so() {
 
 #[test]
 fn a_run_is_told_with_its_date_commit_and_kit() {
-    let log = "date: then\ncommit: def\nkit: kit-5\nlogic=proved functions=1 sum=0\nrt: names proved (1 s)\n\
-               rt: must-fail names/one_byte: refused, as it must be (first at proofs/Unique.antt:1:2; 1 s)\nrt: ok, 1 crates proved\n\
-               wrong: names/one_byte: refused at proofs/same/Proof.antt:3:4\n";
+    let log = "date: then\ncommit: def\nkit: kit-5\n== names\nlogic=proved functions=1 sum=0\nrt: names proved\n\
+               rt: must-fail names/one_byte.edit: refused, as it must be: note\nrt: ok; handles allowed: none; must-fail edits: 1 refused\n\
+               wrong: names/one_byte: refused at proofs/same/Answers.antt:3:4 (2.0 s)\n";
     let html = small("run", Some(log));
     let told = plain(between(&html, "<h2 id=\"run\">", "<h2"));
     assert!(
@@ -140,16 +140,16 @@ fn a_run_is_told_with_its_date_commit_and_kit() {
         "{told}"
     );
     assert!(told.contains("No library reports an axiom."), "{told}");
-    assert!(plain(&html).contains("refused at proofs/same/Proof.antt:3:4"));
+    assert!(plain(&html).contains("refused at proofs/same/Answers.antt:3:4: same returns"));
 }
 
 #[test]
 fn a_run_that_failed_is_told_as_failed() {
     let html = small(
         "failed",
-        Some("rt: names NOT proved\nrt: 1 of 1 crates not proved\n"),
+        Some("rt: names NOT PROVED\nrt: FAILED: names\n0 passed, 1 failed\n"),
     );
-    assert!(html.contains("It failed: 1 of 1 crates not proved"));
+    assert!(html.contains("It failed: names."));
 }
 
 /// This repository.
@@ -241,6 +241,8 @@ fn no_declaration_is_passed_over() {
             "pub ruleset ",
             "ruleset ",
             "#[",
+            "#![",
+            "};",
         ];
         for (at, line) in file
             .text

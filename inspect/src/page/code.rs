@@ -2,8 +2,8 @@
 
 use crate::page::html::{anchor, escaped, line_anchor};
 use crate::page::Book;
-use crate::scope::{begins_contract, bound, Meaning, Scope};
-use crate::source::{counts, indent, Kind};
+use crate::scope::{bound, Meaning, Scope};
+use crate::source::{begins_contract, counts, indent, Kind};
 use crate::tree::{Folder, Id};
 use crate::words::{self, Piece};
 use std::collections::HashSet;
@@ -118,10 +118,7 @@ fn logic(book: &Book, scope: &Scope, bound: &HashSet<String>, line: &str, margin
         Piece::Word(word) if bound.contains(word) => escaped(word),
         Piece::Word(word) => logic_word(book, scope, word),
     };
-    words::of_logic(line, margin)
-        .into_iter()
-        .map(piece)
-        .collect()
+    scope.pieces(line, margin).into_iter().map(piece).collect()
 }
 
 fn logic_word(book: &Book, scope: &Scope, word: &str) -> String {

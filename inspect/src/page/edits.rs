@@ -120,18 +120,8 @@ fn refusal(book: &Book, at: usize, full: bool) -> String {
     else {
         return "<p class=\"refusal\">not in the last gate run</p>".to_string();
     };
-    // the first word of an error is the fact that is not shown
-    let words = refusal.words.as_str();
-    let words = if full {
-        words
-    } else {
-        words
-            .split(": ")
-            .next()
-            .unwrap_or_default()
-            .trim_matches('`')
-    };
-    let words = match words {
+    let fact = format!("{} {}", edit.at.of, edit.at.name);
+    let words = match if full { &refusal.words } else { &fact }.as_str() {
         "" => String::new(),
         words => format!(": <code>{}</code>", escaped(&shortened(words, MOST))),
     };

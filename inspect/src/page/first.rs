@@ -5,6 +5,7 @@ use crate::check;
 use crate::page::html::{anchor, crate_anchor, escaped, link, number, several};
 use crate::page::{prose, sentences, Book};
 use crate::run::Run;
+use crate::source::Kind;
 use crate::tree::Folder;
 
 pub fn page(book: &Book) -> String {
@@ -167,7 +168,7 @@ fn run(book: &Book) -> String {
 }
 
 fn told(book: &Book, run: &Run) -> String {
-    let functions: usize = run.crates.iter().map(|c| c.functions).sum();
+    let functions: usize = run.crates.iter().map(|name| functions_of(book, name)).sum();
     let other = match run.commit == book.origin.commit {
         true => String::new(),
         false => format!(
@@ -178,11 +179,11 @@ fn told(book: &Book, run: &Run) -> String {
     let places: String = run
         .crates
         .iter()
-        .map(|c| run_row(run, &c.crate_name, c.functions, c.axioms))
+        .map(|name| run_row(run, name, functions_of(book, name)))
         .collect();
     format!(
         "<p>{}, commit {}, kit {}.{other} It proved {} with {}, and refused {}. {}</p>\n\
-         <details><summary>Crate by crate</summary><div class=\"wide\"><table class=\"numbers\"><tr><th>crate</th><th>functions proved</th><th>axioms</th><th>wrong \
+         <details><summary>Crate by crate</summary><div class=\"wide\"><table class=\"numbers\"><tr><th>crate</th><th>functions proved</th><th>wrong \
          builds refused</th></tr>\n{places}</table></div></details>\n<p>{} Where each wrong build was refused stands with it.</p>\n",
         escaped(&run.date),
         escaped(&run.commit),
@@ -198,33 +199,39 @@ fn told(book: &Book, run: &Run) -> String {
 fn ended(run: &Run) -> String {
     match run.end.starts_with("ok") {
         true => format!("It ended: {}.", escaped(&run.end)),
-        false => format!("<strong>It failed: {}.</strong>", escaped(&run.end)),
+        false => {
+            let what = run.end.trim_start_matches("FAILED: ");
+            format!("<strong>It failed: {}.</strong>", escaped(what))
+        }
     }
 }
 
-fn run_row(run: &Run, name: &str, functions: usize, axioms: usize) -> String {
+fn functions_of(book: &Book, crate_name: &str) -> usize {
+    let declarations = book.tree.declarations();
+    let functions = declarations.filter(|id| {
+        book.tree.file(*id).crate_name == crate_name
+            && book.tree.declaration(*id).kind == Kind::Function
+    });
+    functions.count()
+}
+
+fn run_row(run: &Run, name: &str, functions: usize) -> String {
     let refused = run
         .refusals
         .keys()
         .filter(|(crate_name, _)| crate_name == name)
         .count();
-    format!("<tr><td>{name}</td><td>{functions}</td><td>{axioms}</td><td>{refused}</td></tr>\n")
+    format!("<tr><td>{name}</td><td>{functions}</td><td>{refused}</td></tr>\n")
 }
 
-/// A library proves what it says and assumes nothing; a program rests on the C library that it writes with.
+/// A library proves what it says and assumes nothing; a program, as tests are one, rests on the C library that it writes with.
 fn axioms(book: &Book, run: &Run) -> String {
-    let is_program = |name: &str| {
-        book.tree
-            .files
-            .iter()
-            .any(|file| file.crate_name == name && file.is_program())
+    let is_library = |name: &str| {
+        let mut files = book.tree.files.iter();
+        files.any(|file| file.crate_name == name && file.stem == "lib")
     };
-    let with: Vec<&str> = run
-        .crates
-        .iter()
-        .filter(|c| c.axioms > 0 && !is_program(&c.crate_name))
-        .map(|c| c.crate_name.as_str())
-        .collect();
+    let assuming = run.assuming.iter().map(String::as_str);
+    let with: Vec<&str> = assuming.filter(|name| is_library(name)).collect();
     match with.as_slice() {
         [] => "No library reports an axiom.".to_string(),
         names => format!(

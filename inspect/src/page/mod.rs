@@ -144,10 +144,15 @@ fn meanings(signs: usize, text: &str) -> Vec<String> {
     }
 }
 
+/// A field is written behind a letter, and is a sign without it.
 fn signs_of(code: &str) -> BTreeSet<&str> {
     let words = code
         .split([' ', '(', ')', '{', '}'])
         .map(|word| word.trim_end_matches('.'));
+    let words = words.map(|word| match word.find('.') {
+        Some(1) => &word[1..],
+        _ => word,
+    });
     words.filter(|word| !is_placeholder(word)).collect()
 }
 
@@ -301,8 +306,8 @@ pub mod tests {
     fn letters_stand_for_values() {
         assert_eq!(signs_of("a ≡ b").into_iter().collect::<Vec<_>>(), ["≡"]);
         assert_eq!(
-            signs_of("now (s .entry)").into_iter().collect::<Vec<_>>(),
-            [".entry", "now"]
+            signs_of("length s.old").into_iter().collect::<Vec<_>>(),
+            [".old", "length"]
         );
         assert_eq!(signs_of("λ x. e").into_iter().collect::<Vec<_>>(), ["λ"]);
     }
