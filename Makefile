@@ -97,7 +97,7 @@ endif
 
 figures: tools build/figures
 
-build/figures: $(SOURCES) arch/figures
+build/figures: $(SOURCES) arch/figures arch/kit
 	@arch/figures $@
 
 test: tools
@@ -138,4 +138,4 @@ tools:
 	@tests/install
 
 clean:
-	rm -rf build target
+	rm -rf build target crates/*/out
