@@ -17,7 +17,7 @@ PREFIX ?= /usr/local
 LIBDIR := $(PREFIX)/lib
 INCLUDEDIR := $(PREFIX)/include
 
-SOURCES := crates.txt $(shell find crates \( -name must-fail -o -name wrong \) -prune -o -type f -print)
+SOURCES := crates.txt $(shell find crates \( -name must-fail -o -name wrong -o -name out \) -prune -o -type f -print)
 CARGO := cargo run --quiet --release --package
 
 # the header has the version; the soname changes with its first number
@@ -70,11 +70,7 @@ lib: tools $(call lib-files,$(LIB),$(WITH_SHARED))
 # for this machine: the hosts link nothing else
 own: tools $(call lib-files,$(OWN),yes)
 
-# proved once for both
-build/bitcode/options: $(SOURCES) arch/bitcode arch/kit
-	@arch/bitcode $(@D)
-
-build/lib-%/libslavotuk.a: build/bitcode/options arch/archive arch/kit
+build/lib-%/libslavotuk.a: $(SOURCES) arch/archive arch/kit
 	@arch/archive $* $@
 
 # all of the archive, with the entries alone to be seen from outside
@@ -101,7 +97,7 @@ endif
 
 figures: tools build/figures
 
-build/figures: $(SOURCES) arch/figures arch/kit
+build/figures: $(SOURCES) arch/figures
 	@arch/figures $@
 
 test: tools

@@ -128,13 +128,9 @@ fn header() -> String {
     fs::read_to_string(root().join("include/slavotuk.h")).expect("the header is there")
 }
 
-/// The sources of all libraries, of which some have entries.
+/// The source of the crate that exports the entries.
 fn sources() -> String {
-    let crates = fs::read_dir(root().join("crates")).expect("the crates are there");
-    let folders = crates.map(|folder| folder.expect("a crate can be read").path());
-    folders
-        .filter_map(|folder| fs::read_to_string(folder.join("src/lib.rt")).ok())
-        .collect()
+    fs::read_to_string(root().join("crates/entries_c/src/lib.rt")).expect("the exports are there")
 }
 
 const NOTHING: [&str; 0] = [];

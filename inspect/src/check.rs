@@ -27,6 +27,7 @@ pub fn check(root: &Path, tree: &Tree, map: &Map) -> Vec<Verdict> {
         files_are_named(tree, map),
         answers_are_one(tree),
         nothing_is_asked(tree),
+        exports_say_the_same(tree),
         readme_has_the_crates(root, tree),
     ]
 }
@@ -341,6 +342,34 @@ fn nothing_is_asked(tree: &Tree) -> Verdict {
     }
 }
 
+/// What is exported has the name, the parameters and the contract of a library's function, and calls that one.
+fn exports_say_the_same(tree: &Tree) -> Verdict {
+    let says_the_same = |export: Id| {
+        let (export, functions) = (tree.declaration(export), tree.public_functions());
+        let mut same =
+            functions.filter(|function| tree.declaration(*function).statement == export.statement);
+        same.any(|function| {
+            let call = format!("{}::{}(", tree.file(function).crate_name, export.name);
+            let body = export.body.get(1);
+            body.is_some_and(|line| line.trim_start().starts_with(&call))
+        })
+    };
+    let exports: Vec<Id> = tree.exports().collect();
+    let others = exports.iter().filter(|id| !says_the_same(**id));
+    let wrong = others.map(|id| {
+        format!(
+            "{}: `{}` says something else than the function that it calls",
+            tree.file(*id).crate_name,
+            tree.declaration(*id).name
+        )
+    });
+    Verdict {
+        rule: "exports say what the functions say that they call",
+        looked_at: exports.len(),
+        wrong: wrong.collect(),
+    }
+}
+
 /// README's table of crates has those of crates.txt, in their order: who reads one finds the other.
 fn readme_has_the_crates(root: &Path, tree: &Tree) -> Verdict {
     let readme = fs::read_to_string(root.join("README.md")).unwrap_or_default();
@@ -389,4 +418,36 @@ pub fn report(verdicts: &[Verdict]) -> bool {
         looked_at.saturating_sub(failed)
     );
     failed == 0
+}
+
+#[cfg(test)]
+mod tests {
+    use super::*;
+    use crate::tree::tests::tree;
+
+    const ENTRY: &str = "pub extern \"C\" fn open(port: u32) -> u32\n    ensures { result ≡ opened port }\n{\n    0\n}\n";
+
+    fn told_of(export: &str) -> usize {
+        let mut tree = tree(&[
+            ("entries", Folder::Src, "lib", ENTRY),
+            ("entries_c", Folder::Src, "lib", export),
+        ]);
+        tree.crates[1].is_exported = true;
+        exports_say_the_same(&tree).wrong.len()
+    }
+
+    #[test]
+    fn an_export_that_says_something_else_than_the_entry_is_told() {
+        let right = ENTRY.replace("    0\n", "    entries::open(port)\n");
+        assert_eq!(told_of(&right), 0);
+        let changes = [
+            ("opened port", "opened 0"),
+            ("port: u32", "port: u16"),
+            ("fn open", "fn shut"),
+            ("entries::open", "entries::shut"),
+        ];
+        for (from, to) in changes {
+            assert_eq!(told_of(&right.replace(from, to)), 1, "{from} as {to}");
+        }
+    }
 }

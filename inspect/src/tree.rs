@@ -54,6 +54,8 @@ impl File {
 #[derive(Debug, PartialEq)]
 pub struct Crate {
     pub name: String,
+    /// whether it is a static library: programs in C and Rust link what it exports, and no crate relies on it
+    pub is_exported: bool,
     /// the heading that it stands below
     pub family: String,
     pub comment: String,
@@ -117,10 +119,26 @@ impl Tree {
 
     /// The functions of the libraries that anyone may call.
     pub fn public_functions(&self) -> impl Iterator<Item = Id> + '_ {
+        self.functions().filter(|id| !self.is_exported(*id))
+    }
+
+    /// The functions that a static library exports: each says what the function says that it calls.
+    pub fn exports(&self) -> impl Iterator<Item = Id> + '_ {
+        self.functions().filter(|id| self.is_exported(*id))
+    }
+
+    fn functions(&self) -> impl Iterator<Item = Id> + '_ {
         self.declarations().filter(|id| {
             let declaration = self.declaration(*id);
             declaration.kind == Kind::Function && declaration.public && !self.file(*id).is_program()
         })
+    }
+
+    fn is_exported(&self, id: Id) -> bool {
+        let crate_name = &self.file(id).crate_name;
+        self.crates
+            .iter()
+            .any(|c| c.name == *crate_name && c.is_exported)
     }
 
     /// Whether a function's contract says something of its answer: in a library each does, in a program those that have one.
@@ -191,7 +209,7 @@ impl Tree {
     }
 }
 
-/// The lines of crates.txt: `name: those it relies on`, below a comment, in families below a heading of two signs.
+/// The lines of crates.txt: `name: those it relies on` or `name staticlib: those it relies on`, below a comment, in families below a heading of two signs.
 pub fn crates(text: &str) -> Vec<Crate> {
     let mut found: Vec<Crate> = Vec::new();
     let mut family = "";
@@ -202,9 +220,11 @@ pub fn crates(text: &str) -> Vec<Crate> {
         } else if let Some(words) = line.strip_prefix('#') {
             comment = words.trim();
         } else if let Some((name, others)) = line.split_once(':') {
+            let (name, kind) = name.trim().split_once(' ').unwrap_or((name.trim(), ""));
             let relies_on = others.split_whitespace().map(str::to_string).collect();
             found.push(Crate {
-                name: name.trim().to_string(),
+                name: name.to_string(),
+                is_exported: kind == "staticlib",
                 family: family.to_string(),
                 comment: comment.to_string(),
                 relies_on,
@@ -349,5 +369,13 @@ pub mod tests {
             ("lists", "lists: no code")
         );
         assert_eq!(found[1].relies_on, ["lists"]);
+    }
+
+    #[test]
+    fn a_static_library_is_told_from_a_library() {
+        let found = crates("entries:\n# exported\nentries_c staticlib: entries\n");
+        assert_eq!(found[1].name, "entries_c");
+        assert_eq!((found[0].is_exported, found[1].is_exported), (false, true));
+        assert_eq!(found[1].relies_on, ["entries"]);
     }
 }
