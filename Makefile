@@ -96,7 +96,7 @@ endif
 
 figures: tools build/figures
 
-build/figures: $(SOURCES) arch/figures
+build/figures: $(SOURCES) arch/figures arch/kit
 	@arch/figures $@
 
 test: tools

@@ -61,14 +61,14 @@ pub record Drawers : Type 0 where
   pub layouts-mixed : printed_of (74 ∷ 0 ∷ (laid 42 3 0 0 (replicate 32 0) ++ (42 ∷ 0 ∷ laid 74 3 0 0 []))) ≡ bad ∷ bad ∷ total 2 0 0 0 ∷ []
   -- a word of a credential that is not provisioned makes a bad image, and is not counted
   pub unprovisioned-word : printed_of (42 ∷ 0 ∷ image 3 128 0 []) ≡ bad ∷ total 1 0 0 0 ∷ []
-  -- "A bad or cut_off image, or a lone last byte": alone, and after a good one; a length of 0 goes on, and so does one that no image has
+  -- "A bad or cut-off image, or a lone last byte": alone, and after a good one; a length of 0 goes on, and so does one that no image has
   pub lone-byte : printed_of (42 ∷ []) ≡ bad ∷ total 1 0 0 0 ∷ []
   pub lone-later : printed_of (42 ∷ 0 ∷ (plain ++ (42 ∷ []))) ≡ good 0 5 0 ∷ bad ∷ total 2 1 0 5 ∷ []
-  pub cut_off : printed_of (42 ∷ 0 ∷ take 41 plain) ≡ bad ∷ total 1 0 0 0 ∷ []
+  pub cut-off : printed_of (42 ∷ 0 ∷ take 41 plain) ≡ bad ∷ total 1 0 0 0 ∷ []
   pub cut-head : printed_of (42 ∷ 0 ∷ []) ≡ bad ∷ total 1 0 0 0 ∷ []
   pub length-0 : printed_of (0 ∷ 0 ∷ 42 ∷ 0 ∷ plain) ≡ bad ∷ good 0 5 0 ∷ total 2 1 0 5 ∷ []
   pub length-43 : printed_of (43 ∷ 0 ∷ (plain ++ (0 ∷ 42 ∷ 0 ∷ plain))) ≡ bad ∷ good 0 5 0 ∷ total 2 1 0 5 ∷ []
-  -- after a cut_off image nothing comes: its length reaches over the image behind it
+  -- after a cut-off image nothing comes: its length reaches over the image behind it
   pub cut-reaches : printed_of (0 ∷ 1 ∷ (take 41 plain ++ (42 ∷ 0 ∷ plain))) ≡ bad ∷ total 1 0 0 0 ∷ []
 
 pub drawers : Drawers
@@ -85,7 +85,7 @@ drawers =
       unprovisioned-word = refl;
       lone-byte = refl;
       lone-later = refl;
-      cut_off = refl;
+      cut-off = refl;
       cut-head = refl;
       length-0 = refl;
       length-43 = refl;

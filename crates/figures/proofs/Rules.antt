@@ -6,14 +6,13 @@ use mathlib.Core.Bool.{Bool, true, false, cond, true≢false, ◌&&◌, ◌||◌
 use mathlib.Core.List.{List, [], ◌∷◌, ◌++◌, map, append-nil}
 use native.Mathlib.Omega.{arith}
 use mir.Syntax.{w64}
-use mir.Val.{Fits, SFits, to_z, of_z}
-use mir.ValLaws.{to_z-of_z}
+use mir.Val.{Fits}
 use borrow.Author.Rules.{rules as std_rules}
-use borrow.Author.Tests.{eqb-false, eq-eqb, ne_eqb, ltb-true}
+use borrow.Author.Tests.{eqb-false, eq-eqb, ne_eqb}
 use lib.Dec.{eqb}
-use lib.IntN.{ℤ, pos, negsuc}
-use lib.Signed.{lt_z}
 use lib.ListN.{length, take, drop, length-append, length-map}
+use Rattle.std.specs.Prelude.{Result, Ok, Err}
+use Rattle.std.specs.declared.io.Error.{Error}
 use Rattle.lists.specs.Lists.{sum}
 use Rattle.lists.proofs.Tests.{split, and_right}
 use Rattle.io.proofs.Counting.{length-take_of_le}
@@ -141,27 +140,18 @@ module _ (t : Totals) (said image : List ℕ) where
       step_line e c = record { is = λ l h. rw (ne_eqb (length said) 0 n, ne_eqb (length l) most_images (λ q. k (lines-so-far l h ∙ q)), c.is l h, e) }
 
 -- ---- why a part is filled no further
-failed-below : (got : ℤ) → lt_z got (pos 0) ≡ true → Failed ≡ stop_of got
+pub stop-ended : {got : Result ℕ Error} {n : ℕ} → got ≡ Ok n → Ended ≡ stop_of got
 unfolding stop_of
-failed-below (pos n) e = absurd (omega (arith, ltb-true n 0 e))
-failed-below (negsuc n) e = refl
+stop-ended e = rw e
 
-ended-else : (got : ℤ) → lt_z got (pos 0) ≡ false → Ended ≡ stop_of got
+pub stop-failed : {got : Result ℕ Error} {error : Error} → got ≡ Err error → Failed error ≡ stop_of got
 unfolding stop_of
-ended-else (pos n) e = refl
-ended-else (negsuc n) e = absurd (true≢false e)
+stop-failed e = rw e
 
-module _ (got : ℤ) (f : SFits w64 got) where
-  pub stop-failed : lt_z (to_z w64 (of_z w64 got)) (pos 0) ≡ true → Failed ≡ stop_of got
-  stop-failed e = failed-below got (rw (to_z-of_z w64 got f) at e)
-
-  pub stop-ended : lt_z (to_z w64 (of_z w64 got)) (pos 0) ≡ false → Ended ≡ stop_of got
-  stop-ended e = ended-else got (rw (to_z-of_z w64 got f) at e)
-
-never-full : (got : ℤ) → stop_of got ≡ Full → ⊥
+never-full : (got : Result ℕ Error) → stop_of got ≡ Full → ⊥
 unfolding stop_of
-never-full (pos n) e = let z : ◌≡◌ {A = ℕ} 0 1 = cc in omega arith
-never-full (negsuc n) e = let z : ◌≡◌ {A = ℕ} 0 1 = cc in omega arith
+never-full (Ok n) e = cc
+never-full (Err error) e = cc
 
 -- ---- a part that is being filled keeps its length
 pub record Filling (old new : List ℕ) (count : ℕ) : Type 0 where
@@ -171,7 +161,7 @@ pub record Filling (old new : List ℕ) (count : ℕ) : Type 0 where
 pub filling-begin : (old : List ℕ) → Filling old old 0
 filling-begin old = record { long = refl; few = omega arith }
 
-pub filled-short : {old new : List ℕ} {count : ℕ} {stop : Stop} (after : List ℕ) (got : ℤ) → Filling old new count → length after ≡ length new → stop ≡ stop_of got
+pub filled-short : {old new : List ℕ} {count : ℕ} {stop : Stop} (after : List ℕ) (got : Result ℕ Error) → Filling old new count → length after ≡ length new → stop ≡ stop_of got
     → FilledTo (length after) (record { count = count; stop = stop })
 filled-short after got v same e = record { few = omega (arith, same, v.few); whole = λ f. absurd (never-full got (sym e ∙ f)) }
 

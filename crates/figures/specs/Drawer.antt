@@ -1,5 +1,6 @@
 -- Document 02, order 6: "A program reads standard input: images of order 2, each after its length in 2 bytes, little endian." What it says of a drawer.
-use Rattle.std.specs.Prelude.{ℕ, zero, suc, ◌+◌, ◌≤◌, ◌≡◌, Bool, true, false, cond, ◌&&◌, ◌||◌, List, [], ◌∷◌, ◌++◌, map, eqb, ltb, ℤ, pos, negsuc, length, take, drop}
+use Rattle.std.specs.Prelude.{ℕ, zero, suc, ◌+◌, ◌≤◌, ◌≡◌, Bool, true, false, cond, ◌&&◌, ◌||◌, List, [], ◌∷◌, ◌++◌, map, eqb, ltb, length, take, drop, Result, Ok, Err}
+use Rattle.std.specs.declared.io.Error.{Error}
 use Rattle.lists.specs.Lists.{sum}
 use Rattle.image_figures.specs.Figures.{length_size, size_said, line_of}
 use Rattle.image_figures.specs.declared.Figures.{Figures}
@@ -95,15 +96,15 @@ pub record OfSheet (x : Line) : Type 0 where
   pub sheet : Sheet
   pub is : x ≡ line_of sheet.said sheet.image
 
--- ---- what is read: a part of a buffer is filled until it is full, the input ends or a read fails; `read` answers a negative number where it fails
-unfoldable pub stop_of : ℤ → Stop
-stop_of (pos n) = Ended
-stop_of (negsuc n) = Failed
+-- ---- what is read: a part of a buffer is filled until it is full, the input ends or a read fails; `read` answers an error where it fails
+unfoldable pub stop_of : Result ℕ Error → Stop
+stop_of (Ok n) = Ended
+stop_of (Err error) = Failed error
 
 abbrev pub is_failure : Stop → Bool
 is_failure Full = false
 is_failure Ended = false
-is_failure Failed = true
+is_failure (Failed error) = true
 
 pub record FilledTo (size : ℕ) (filled : Filled) : Type 0 where
   pub few : filled.count ≤ size

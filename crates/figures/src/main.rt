@@ -2,13 +2,16 @@
 // how the desk uses it. Proved: what comes of exactly the bytes that were read, from totals that begin with those of no image; that it goes on until a total,
 // too many images or a failure, and that a failed read is one; the text of each line. Run, and not proved: that `read` hands over the bytes of standard input
 // in their order, that what a turn answers is written, and nothing else, and that no word is taken on the command line.
+#![tactic(auto)]
+
 ghost use Rattle.std.specs.Prelude.{◌≡◌, true, [], ◌<◌, length};
 ghost use Rattle.io.specs.Counts.{IsPrefixLen};
 ghost use Rattle.figures.specs.Drawer.{totals_of, totals_with, most_images, step_of, After, OfSheets, OfSheet, stop_of, FilledTo, Buffers, SheetIn, is_failure, has_failed, SaidAs, is_printed, is_last, Turned};
 ghost use Rattle.figures.specs.Text.{number_then, three_text, line_text, text_of, Holds, Added, Spells};
 
 use image_figures::{LENGTH_SIZE, Line};
-use libc::{STDERR_FILENO, STDIN_FILENO, STDOUT_FILENO};
+use std::env::{Env, FillError};
+use std::io::{Cursor, Error, Print, Read, Write};
 
 // ---- the totals
 
@@ -94,7 +97,7 @@ fn next_step(totals: Totals, said: &[u8], image: &[u8]) -> Step
 enum Stop {
     Full,
     Ended,
-    Failed,
+    Failed(Error),
 }
 
 #[derive(Clone, Copy)]
@@ -104,23 +107,24 @@ struct Filled {
 }
 
 // Of what `read` answers where it reads no byte.
-fn stop_of(got: isize) -> Stop
+fn stop_of(got: Result<usize, Error>) -> Stop
     ensures { result ≡ stop_of got }
 {
-    if got < 0 {
-        return Stop::Failed;
+    match got {
+        Ok(_) => Stop::Ended,
+        Err(error) => Stop::Failed(error),
     }
-    Stop::Ended
 }
 
 // Reads until a part is full, the input ends or a read fails.
-fn fill(part: &mut [u8]) -> Filled
+fn fill(rt: &HostRuntime, part: &mut [u8]) -> Filled
     ensures { FilledTo (length part.new) result }
 {
+    let mut input = rt.stdin();
     let mut count: usize = 0;
     while count < part.len() {
-        let got = libc::read(STDIN_FILENO, &mut part[count..]);
-        let more = io::count(got, &part[count..]);
+        let got = input.read(&mut part[count..]);
+        let more = got.unwrap_or(0);
         if more == 0 {
             return Filled {
                 count: count,
@@ -142,14 +146,14 @@ struct SheetRead {
     image: Filled,
 }
 
-fn read_sheet(said: &mut [u8], image: &mut [u8]) -> SheetRead
+fn read_sheet(rt: &HostRuntime, said: &mut [u8], image: &mut [u8]) -> SheetRead
     requires { Buffers said.old image.old }
     ensures { SheetIn said.new image.new result }
 {
-    let head = fill(said);
+    let head = fill(rt, said);
     let there = head.count;
     let size = image_figures::size_said(&said[..there]) as usize;
-    let rest = fill(&mut image[..size]);
+    let rest = fill(rt, &mut image[..size]);
     SheetRead {
         said: head,
         image: rest,
@@ -163,7 +167,7 @@ fn is_failed(filled: Filled) -> bool
     match stop {
         Stop::Full => false,
         Stop::Ended => false,
-        Stop::Failed => true,
+        Stop::Failed(_) => true,
     }
 }
 
@@ -261,6 +265,34 @@ fn text_of(output: Output) -> Text
     }
 }
 
+// A line on standard error: what failed, and the reason in the system's words. std writes the number of the reason after them, which is left out.
+fn tell_failure(rt: &HostRuntime, what: &str, error: Error) {
+    let mut bytes = [0u8; 128];
+    let mut text = Cursor::new(bytes.as_mut_slice());
+    let _ = write!(text, "{error}");
+    let end = text.position() as usize;
+    let length = end.min(bytes.len());
+    let words = match std::str::from_utf8(&bytes[..length]) {
+        Ok(words) => words,
+        Err(_) => "",
+    };
+    let reason = match words.split_once(" (os error ") {
+        Some((reason, _)) => reason,
+        None => words,
+    };
+    let _ = eprintln!(rt; "{what}: {reason}");
+}
+
+// Says that the drawer could not be read.
+fn tell_unread(rt: &HostRuntime, sheet: SheetRead) {
+    for filled in [sheet.said, sheet.image] {
+        if let Stop::Failed(error) = filled.stop {
+            tell_failure(rt, "standard input", error);
+            return;
+        }
+    }
+}
+
 // What is said: nothing before the first turn; what was printed; or, on standard error, that the drawer could not be read, or the line not written.
 #[derive(Clone, Copy)]
 enum Told {
@@ -270,14 +302,14 @@ enum Told {
     Unwritten,
 }
 
-fn print(output: Output) -> Told
+fn print(rt: &HostRuntime, output: Output) -> Told
     ensures { SaidAs output result }
 {
     let text = text_of(output);
     let bytes = text.bytes;
     let length = text.length;
-    if !io::write_all(STDOUT_FILENO, &bytes[..length]) {
-        os::fail(b"standard output");
+    if let Err(error) = Print::write_all(rt, &bytes[..length]) {
+        tell_failure(rt, "standard output", error);
         return Told::Unwritten;
     }
     Told::Printed(output)
@@ -304,14 +336,14 @@ struct Turn {
 }
 
 // What comes of a sheet that was read is printed.
-fn take_turn(totals: Totals, sheet: SheetRead, said: &[u8], image: &[u8]) -> Turn
+fn take_turn(rt: &HostRuntime, totals: Totals, sheet: SheetRead, said: &[u8], image: &[u8]) -> Turn
     requires of_sheets { OfSheets totals }
     requires buffers { Buffers said.now image.now }
     requires sheet_in { SheetIn said.now image.now sheet }
     ensures { Turned totals sheet said.now image.now result }
 {
     if has_failed(sheet) {
-        os::fail(b"standard input");
+        tell_unread(rt, sheet);
         return Turn {
             totals: totals,
             told: Told::Unread,
@@ -322,7 +354,7 @@ fn take_turn(totals: Totals, sheet: SheetRead, said: &[u8], image: &[u8]) -> Tur
     let long = sheet.image.count;
     let step = next_step(totals, &said[..there], &image[..long]);
     let output = step.output;
-    let told = print(output);
+    let told = print(rt, output);
     let counted = step.totals;
     Turn {
         totals: counted,
@@ -343,7 +375,7 @@ fn no_totals() -> Totals
 }
 
 // Answers with what is said last.
-fn report(said: &mut [u8], image: &mut [u8]) -> Told
+fn report(rt: &HostRuntime, said: &mut [u8], image: &mut [u8]) -> Told
     requires { Buffers said.old image.old }
     ensures { is_last result ≡ true }
 {
@@ -351,8 +383,8 @@ fn report(said: &mut [u8], image: &mut [u8]) -> Told
     let mut told = Told::Nothing;
     let mut more = true;
     while more {
-        let sheet = read_sheet(said, image);
-        let turn = take_turn(totals, sheet, said, image);
+        let sheet = read_sheet(rt, said, image);
+        let turn = take_turn(rt, totals, sheet, said, image);
         totals = turn.totals;
         told = turn.told;
         more = turn.more;
@@ -360,12 +392,22 @@ fn report(said: &mut [u8], image: &mut [u8]) -> Told
     told
 }
 
-fn main() {
-    if 1 < os::arg_count() {
-        io::write_all(STDERR_FILENO, b"usage: figures < DRAWER\n");
+// Whether there is a word on the command line.
+fn has_words(rt: &HostRuntime) -> bool {
+    let mut word = [0u8; 1];
+    match rt.arg(1, &mut word) {
+        Ok(_) => true,
+        Err(FillError::TooLong) => true,
+        Err(FillError::NotPresent) => false,
+    }
+}
+
+fn main(rt: HostRuntime) {
+    if has_words(&rt) {
+        let _ = rt.eprintln("usage: figures < DRAWER");
         return;
     }
     let mut said = [0u8; LENGTH_SIZE];
     let mut image = io::large_buffer();
-    report(&mut said, &mut image);
+    report(&rt, &mut said, &mut image);
 }

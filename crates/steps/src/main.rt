@@ -1,6 +1,7 @@
 // Document 01's worked steps 1 to 13, with the numbers as order 3 corrects them, through the entries, on a state that is lent: a line for each step, with the
 // number of each call. Then step 13 by refusals, and the relay's attack. What it writes is compared with the file stdout beside it.
-use libc::STDOUT_FILENO;
+#![tactic(auto)]
+
 use module_state::{CREDENTIALS, DONE, NOT_GRANTED, SPENT};
 use names::NAME_LENGTH;
 use state_layout::STATE_LENGTH;
@@ -43,56 +44,73 @@ const KEPT: u32 = 1;
 
 const ALL: u32 = 65535;
 
-fn begin(step: u64) {
-    io::print_decimal(STDOUT_FILENO, step);
-    io::write_all(STDOUT_FILENO, b":");
+// What can't be written is not told.
+fn begin(rt: &HostRuntime, step: u64) {
+    let _ = print!(rt; "{step}:");
 }
 
-fn say(n: u64) {
-    io::write_all(STDOUT_FILENO, b" ");
-    io::print_decimal(STDOUT_FILENO, n);
+fn say(rt: &HostRuntime, n: u64) {
+    let _ = print!(rt; " {n}");
 }
 
-fn end_line() {
-    io::write_all(STDOUT_FILENO, b"\n");
+fn end_line(rt: &HostRuntime) {
+    let _ = print!(rt; "\n");
 }
 
 // Writes the number that an entry answered.
-fn told(n: u32) {
-    say(n as u64);
+fn told(rt: &HostRuntime, n: u32) {
+    say(rt, n as u64);
 }
 
-fn open(state: &mut [u8], s: u32) {
-    told(entries_unprotected::slavotuk_open(state, PORT, s));
+fn open(rt: &HostRuntime, state: &mut [u8], s: u32) {
+    told(rt, entries_unprotected::slavotuk_open(state, PORT, s));
 }
 
-fn select(state: &mut [u8], s: u32, version: u32) {
-    told(entries_unprotected::slavotuk_select(state, PORT, s, version));
+fn select(rt: &HostRuntime, state: &mut [u8], s: u32, version: u32) {
+    told(
+        rt,
+        entries_unprotected::slavotuk_select(state, PORT, s, version),
+    );
 }
 
-fn start(state: &mut [u8], s: u32, c: u32, name: &[u8]) {
-    told(entries_unprotected::slavotuk_start(state, PORT, s, c, name));
+fn start(rt: &HostRuntime, state: &mut [u8], s: u32, c: u32, name: &[u8]) {
+    told(
+        rt,
+        entries_unprotected::slavotuk_start(state, PORT, s, c, name),
+    );
 }
 
-fn continue_saved(state: &mut [u8], s: u32, c: u32, name: &[u8]) {
-    told(entries_unprotected::slavotuk_continue(state, PORT, s, c, name));
+fn continue_saved(rt: &HostRuntime, state: &mut [u8], s: u32, c: u32, name: &[u8]) {
+    told(
+        rt,
+        entries_unprotected::slavotuk_continue(state, PORT, s, c, name),
+    );
 }
 
-fn record(state: &mut [u8], c: u32, number: u16, class: u32) {
-    told(entries_protected::slavotuk_record(state, PORT, 0, USER, c, number, YES, class));
+fn record(rt: &HostRuntime, state: &mut [u8], c: u32, number: u16, class: u32) {
+    told(
+        rt,
+        entries_protected::slavotuk_record(state, PORT, 0, USER, c, number, YES, class),
+    );
 }
 
-fn kill(state: &mut [u8], s: u32, c: u32, number: u16, name: &[u8]) {
-    told(entries_protected::slavotuk_kill(state, PORT, s, USER, c, number, YES, name));
+fn kill(rt: &HostRuntime, state: &mut [u8], s: u32, c: u32, number: u16, name: &[u8]) {
+    told(
+        rt,
+        entries_protected::slavotuk_kill(state, PORT, s, USER, c, number, YES, name),
+    );
 }
 
 // The number of a listing of all, and the length of its message.
-fn list(state: &mut [u8], number: u16, response: &mut [u8]) {
+fn list(rt: &HostRuntime, state: &mut [u8], number: u16, response: &mut [u8]) {
     let mut long: usize = 0;
-    told(entries_protected::slavotuk_list(
-        state, PORT, 0, USER, 0, number, YES, ALL, response, &mut long,
-    ));
-    say(long as u64);
+    told(
+        rt,
+        entries_protected::slavotuk_list(
+            state, PORT, 0, USER, 0, number, YES, ALL, response, &mut long,
+        ),
+    );
+    say(rt, long as u64);
 }
 
 // "Credentials 0 (word 15) and 1 (word 16) are provisioned." No class is granted only under elevation.
@@ -107,81 +125,84 @@ fn fresh(state: &mut [u8]) {
     entries_unprotected::slavotuk_fresh(state, &provisioned, &words, &seconds);
 }
 
-fn step1(state: &mut [u8]) {
-    begin(1);
-    open(state, 4);
-    open(state, 0);
-    open(state, 0);
-    end_line();
+fn step1(rt: &HostRuntime, state: &mut [u8]) {
+    begin(rt, 1);
+    open(rt, state, 4);
+    open(rt, state, 0);
+    open(rt, state, 0);
+    end_line(rt);
 }
 
-fn step2(state: &mut [u8]) {
-    begin(2);
-    start(state, 0, 0, &p());
-    select(state, 0, 0x20);
-    select(state, 0, 0x10);
-    select(state, 0, 0x10);
-    end_line();
+fn step2(rt: &HostRuntime, state: &mut [u8]) {
+    begin(rt, 2);
+    start(rt, state, 0, 0, &p());
+    select(rt, state, 0, 0x20);
+    select(rt, state, 0, 0x10);
+    select(rt, state, 0, 0x10);
+    end_line(rt);
 }
 
-fn step3(state: &mut [u8]) {
-    begin(3);
-    start(state, 0, 2, &p());
-    start(state, 0, 0, &p());
-    start(state, 0, 1, &p());
-    end_line();
+fn step3(rt: &HostRuntime, state: &mut [u8]) {
+    begin(rt, 3);
+    start(rt, state, 0, 2, &p());
+    start(rt, state, 0, 0, &p());
+    start(rt, state, 0, 1, &p());
+    end_line(rt);
 }
 
-fn step4(state: &mut [u8]) {
-    begin(4);
-    start(state, 0, 1, &r());
-    start(state, 0, 1, &p());
-    end_line();
+fn step4(rt: &HostRuntime, state: &mut [u8]) {
+    begin(rt, 4);
+    start(rt, state, 0, 1, &r());
+    start(rt, state, 0, 1, &p());
+    end_line(rt);
 }
 
-fn step5(state: &mut [u8]) {
-    begin(5);
-    record(state, 1, 0, 4);
-    record(state, 1, 0, 4);
-    end_line();
+fn step5(rt: &HostRuntime, state: &mut [u8]) {
+    begin(rt, 5);
+    record(rt, state, 1, 0, 4);
+    record(rt, state, 1, 0, 4);
+    end_line(rt);
 }
 
-fn step6(state: &mut [u8]) {
-    begin(6);
-    told(entries_protected::slavotuk_record(state, PORT, 0, USER, 1, 1, NO, 4));
-    record(state, 1, 1, 5);
-    record(state, 1, 2, 4);
-    end_line();
+fn step6(rt: &HostRuntime, state: &mut [u8]) {
+    begin(rt, 6);
+    told(
+        rt,
+        entries_protected::slavotuk_record(state, PORT, 0, USER, 1, 1, NO, 4),
+    );
+    record(rt, state, 1, 1, 5);
+    record(rt, state, 1, 2, 4);
+    end_line(rt);
 }
 
-fn step7(state: &mut [u8]) {
-    begin(7);
-    record(state, 1, 3, 3);
-    record(state, 1, 3, 31);
-    end_line();
+fn step7(rt: &HostRuntime, state: &mut [u8]) {
+    begin(rt, 7);
+    record(rt, state, 1, 3, 3);
+    record(rt, state, 1, 3, 31);
+    end_line(rt);
 }
 
-fn step8(state: &mut [u8]) {
-    begin(8);
-    kill(state, 0, 1, 4, &p());
-    kill(state, 0, 1, 5, &q());
-    end_line();
+fn step8(rt: &HostRuntime, state: &mut [u8]) {
+    begin(rt, 8);
+    kill(rt, state, 0, 1, 4, &p());
+    kill(rt, state, 0, 1, 5, &q());
+    end_line(rt);
 }
 
-fn step9(state: &mut [u8]) {
-    begin(9);
-    kill(state, 0, 0, 0, &r());
-    record(state, 1, 2, 4);
-    end_line();
+fn step9(rt: &HostRuntime, state: &mut [u8]) {
+    begin(rt, 9);
+    kill(rt, state, 0, 0, 0, &r());
+    record(rt, state, 1, 2, 4);
+    end_line(rt);
 }
 
-fn step10(state: &mut [u8]) {
-    begin(10);
+fn step10(rt: &HostRuntime, state: &mut [u8]) {
+    begin(rt, 10);
     let mut short = [0u8; 54];
-    list(state, 1, &mut short);
+    list(rt, state, 1, &mut short);
     let mut enough = [0u8; 55];
-    list(state, 2, &mut enough);
-    end_line();
+    list(rt, state, 2, &mut enough);
+    end_line(rt);
 }
 
 fn next_number(state: &[u8]) -> u64 {
@@ -198,15 +219,18 @@ fn standing(state: &[u8]) -> u64 {
 }
 
 // The numbers, and the next number of the one process.
-fn step11(state: &mut [u8]) {
-    begin(11);
-    told(entries_protected::slavotuk_end(state, PORT, 0, 0, 3, YES, KEPT));
-    open(state, 1);
-    select(state, 1, 0x10);
-    continue_saved(state, 1, 0, &q());
-    continue_saved(state, 1, 0, &p());
-    say(next_number(state));
-    end_line();
+fn step11(rt: &HostRuntime, state: &mut [u8]) {
+    begin(rt, 11);
+    told(
+        rt,
+        entries_protected::slavotuk_end(state, PORT, 0, 0, 3, YES, KEPT),
+    );
+    open(rt, state, 1);
+    select(rt, state, 1, 0x10);
+    continue_saved(rt, state, 1, 0, &q());
+    continue_saved(rt, state, 1, 0, &p());
+    say(rt, next_number(state));
+    end_line(rt);
 }
 
 // Eleven saved processes of credential 0 beside the active one: twelve stand.
@@ -219,18 +243,18 @@ fn fill(state: &mut [u8]) {
     }
 }
 
-fn step12(state: &mut [u8]) {
-    begin(12);
+fn step12(rt: &HostRuntime, state: &mut [u8]) {
+    begin(rt, 12);
     fill(state);
-    say(standing(state));
-    start(state, 0, 1, &r());
-    kill(state, 1, 0, 4, &name(0x33, 5));
-    start(state, 0, 1, &r());
-    end_line();
+    say(rt, standing(state));
+    start(rt, state, 0, 1, &r());
+    kill(rt, state, 1, 0, 4, &name(0x33, 5));
+    start(rt, state, 0, 1, &r());
+    end_line(rt);
 }
 
 // Numbers 0 to 65,534 of credential 1, each in turn, with that class: how many get that number.
-fn spend(state: &mut [u8], class: u32, number: u32) {
+fn spend(rt: &HostRuntime, state: &mut [u8], class: u32, number: u32) {
     let mut got: u64 = 0;
     let mut i: u16 = 0;
     while i < 65535 {
@@ -239,11 +263,11 @@ fn spend(state: &mut [u8], class: u32, number: u32) {
         }
         i += 1;
     }
-    say(got);
+    say(rt, got);
 }
 
 // Then every number: how many get 13.
-fn spent(state: &mut [u8]) {
+fn spent(rt: &HostRuntime, state: &mut [u8]) {
     let mut refused: u64 = 0;
     let mut i: u16 = 0;
     loop {
@@ -255,54 +279,54 @@ fn spent(state: &mut [u8]) {
         }
         i += 1;
     }
-    say(refused);
+    say(rt, refused);
 }
 
-fn step13(state: &mut [u8], class: u32, number: u8) {
-    begin(13);
-    spend(state, class, number as u32);
-    spent(state);
-    end_line();
+fn step13(rt: &HostRuntime, state: &mut [u8], class: u32, number: u8) {
+    begin(rt, 13);
+    spend(rt, state, class, number as u32);
+    spent(rt, state);
+    end_line(rt);
 }
 
 // A kill that has got 6 is sent again, once the named process has started.
-fn relay(state: &mut [u8]) {
-    io::write_all(STDOUT_FILENO, b"relay:");
-    open(state, 0);
-    select(state, 0, 0x10);
-    start(state, 0, 0, &p());
-    kill(state, 0, 0, 0, &q());
-    start(state, 0, 1, &q());
-    kill(state, 0, 0, 0, &q());
-    end_line();
+fn relay(rt: &HostRuntime, state: &mut [u8]) {
+    let _ = print!(rt; "relay:");
+    open(rt, state, 0);
+    select(rt, state, 0, 0x10);
+    start(rt, state, 0, 0, &p());
+    kill(rt, state, 0, 0, 0, &q());
+    start(rt, state, 0, 1, &q());
+    kill(rt, state, 0, 0, 0, &q());
+    end_line(rt);
 }
 
-fn steps1_to_6(state: &mut [u8]) {
-    step1(state);
-    step2(state);
-    step3(state);
-    step4(state);
-    step5(state);
-    step6(state);
+fn steps1_to_6(rt: &HostRuntime, state: &mut [u8]) {
+    step1(rt, state);
+    step2(rt, state);
+    step3(rt, state);
+    step4(rt, state);
+    step5(rt, state);
+    step6(rt, state);
 }
 
-fn steps7_to_12(state: &mut [u8]) {
-    step7(state);
-    step8(state);
-    step9(state);
-    step10(state);
-    step11(state);
-    step12(state);
+fn steps7_to_12(rt: &HostRuntime, state: &mut [u8]) {
+    step7(rt, state);
+    step8(rt, state);
+    step9(rt, state);
+    step10(rt, state);
+    step11(rt, state);
+    step12(rt, state);
 }
 
-fn main() {
+fn main(rt: HostRuntime) {
     let mut state = [0u8; STATE_LENGTH];
     fresh(&mut state);
-    steps1_to_6(&mut state);
-    steps7_to_12(&mut state);
+    steps1_to_6(&rt, &mut state);
+    steps7_to_12(&rt, &mut state);
     let mut refused = state;
-    step13(&mut state, 4, DONE);
-    step13(&mut refused, 5, NOT_GRANTED);
+    step13(&rt, &mut state, 4, DONE);
+    step13(&rt, &mut refused, 5, NOT_GRANTED);
     fresh(&mut state);
-    relay(&mut state);
+    relay(&rt, &mut state);
 }

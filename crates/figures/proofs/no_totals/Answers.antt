@@ -1,0 +1,5 @@
+use Rattle.figures.proofs.Rules.{rules}
+use Rattle.figures.proofs.no_totals.Goals as goal
+
+pub returns : goal.returns
+returns c = search rules

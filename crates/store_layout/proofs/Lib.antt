@@ -1,0 +1,5 @@
+pub mod Parts
+pub mod Written
+pub mod Laws
+pub mod InPlace
+pub mod Examples
