@@ -38,6 +38,9 @@ const UNREAD: [&str; 6] = [
     "cannot continue",
 ];
 
+/// Words of a check over a library that was built of other files than those that lie there.
+const STALE: &str = "Run the lower steps again";
+
 /// What the prover said of a copy.
 pub struct Check {
     /// none where it was ended from outside
@@ -54,6 +57,9 @@ pub fn judged(edit: &Edit, check: &Check) -> Outcome {
     let has_line = |head| check.log.lines().any(|line| line.starts_with(head));
     match check.status {
         Some(0) => return Err("NOT REFUSED: the crate is still proved with this edit".to_string()),
+        _ if check.log.contains(STALE) => {
+            return Err("a library below is of other files: `rt check` builds it".to_string())
+        }
         Some(1) if has_line("logic=not-proved") || has_line("only=") => {}
         _ => {
             let words = ["error", "no verdict"];
@@ -198,17 +204,19 @@ pub fn log_path(root: &Path, shelf: Shelf, crate_name: &str, name: &str) -> Path
 }
 
 impl Check {
-    /// What was kept of a check of the same files.
+    /// What was kept of a check of the same files, if it said whether these are proved.
     fn kept(path: &Path, sum: u64) -> Option<Check> {
         let text = fs::read_to_string(path).ok()?;
         let (head, log) = text.split_once('\n')?;
         let mut words = head.split(' ');
         words.next().filter(|of| *of == format!("{sum:016x}"))?;
+        let status = words.next().filter(|status| ["0", "1"].contains(status))?;
         Some(Check {
-            status: Some(words.next()?.parse().ok()?),
+            status: status.parse().ok(),
             seconds: words.next()?.parse().ok()?,
             log: log.to_string(),
         })
+        .filter(|_| !log.contains(STALE))
     }
 
     fn keep(&self, path: &Path, sum: u64) -> io::Result<()> {
@@ -637,5 +645,13 @@ mod tests {
                 .unwrap_err()
                 .starts_with("did not reach the prover"));
         }
+    }
+
+    #[test]
+    fn a_library_of_other_files_is_found() {
+        let log = "./proofs/same/Answers.antt:9:13: error: `returns`: module `Rattle-rows-specs` .. Run the lower steps again";
+        assert!(refused("same returns", log)
+            .unwrap_err()
+            .starts_with("a library below is of other files"));
     }
 }
