@@ -72,11 +72,11 @@ own: tools $(call lib-files,$(OWN),yes)
 build/lib-%/libslavotuk.a: $(SOURCES) arch/archive arch/kit
 	@arch/archive $* $@
 
-# all of the archive, with the entries alone to be seen from outside
+# all of the archive, with the entries alone to be seen from outside. Its other names are no symbolic links, which `rt all check` refuses below the repository
 build/lib-%/$(SHARED): build/lib-%/libslavotuk.a include/slavotuk.map
 	$(CC) -shared -o $@ -Wl,-soname,$(SONAME) -Wl,--version-script=include/slavotuk.map -Wl,--whole-archive $< -Wl,--no-whole-archive
-	ln -sf $(SHARED) $(@D)/$(SONAME)
-	ln -sf $(SONAME) $(@D)/libslavotuk.so
+	ln -f $(@D)/$(SHARED) $(@D)/$(SONAME)
+	ln -f $(@D)/$(SHARED) $(@D)/libslavotuk.so
 
 build/lib-%/slavotuk.h: include/slavotuk.h
 	@mkdir -p $(@D)
