@@ -311,7 +311,7 @@ fn edits(folder: &Path, crate_name: &str, shelf: Shelf) -> io::Result<Vec<Edit>>
         .collect()
 }
 
-/// The lines of the proofs that belong to one function each: proofs/FUNCTION/Proof.antt.
+/// The lines of the proofs that belong to one function each: the files of proofs/FUNCTION/.
 fn proof_lines(folder: &Path) -> io::Result<usize> {
     let mut lines = 0;
     if folder.is_dir() {
