@@ -244,6 +244,13 @@ fn files_are_named(tree: &Tree, map: &Map) -> Verdict {
     }
 }
 
+/// Whether a statement is that word of a contract, at once or, of a generic function, for each of its types.
+fn says(statement: &str, word: &str) -> bool {
+    [": ", "→ "]
+        .iter()
+        .any(|before| statement.contains(&format!("{before}{word} ")))
+}
+
 /// The theorems of proofs/Unique.antt that no second answer, or no second content of what was lent, meets a function's contract.
 pub fn one_answer(tree: &Tree, function: Id) -> Vec<Id> {
     let Some(file) = tree.find_file(&tree.file(function).crate_name, Folder::Proofs, "Unique")
@@ -254,9 +261,9 @@ pub fn one_answer(tree: &Tree, function: Id) -> Vec<Id> {
     let speaks = |at: &usize| {
         let theorem = &tree.files[file].content.declarations[*at];
         let statement = theorem.statement.join(" ");
-        let is_one = ["OneAnswer", "OneContent"]
+        let is_one = ["OneAnswer", "OneView", "OneContent"]
             .iter()
-            .any(|word| statement.contains(&format!(": {word} ")));
+            .any(|word| says(&statement, word));
         let posts = statement
             .split([' ', '(', ')'])
             .filter(|word| word.ends_with(".Post"));
@@ -295,13 +302,19 @@ fn answers_are_one(tree: &Tree) -> Verdict {
         let of = |word: &str| {
             let statements = theorems.iter().map(|theorem| tree.declaration(*theorem));
             statements
-                .filter(|theorem| theorem.statement.join(" ").contains(&format!(": {word} ")))
+                .filter(|theorem| says(&theorem.statement.join(" "), word))
                 .count()
         };
         let answers = usize::from(signature.contains("-> "));
         let lent = signature.matches("&mut ").count();
         verdict.looked_at += answers + lent;
-        for (wanted, word) in [(answers, "OneAnswer"), (lent, "OneContent")] {
+        // of an answer that is lent, what lies there
+        let answer = if signature.contains("-> &") {
+            "OneView"
+        } else {
+            "OneAnswer"
+        };
+        for (wanted, word) in [(answers, answer), (lent, "OneContent")] {
             let found = of(word);
             for _ in found..wanted {
                 verdict.wrong.push(format!(

@@ -46,6 +46,13 @@ fn used(text: &str) -> Option<Use> {
 }
 
 fn begun(text: &str, number: usize) -> Option<Declaration> {
+    // what a trait gives a type: by no name of its own, and for no one to cite
+    if let Some(header) = text.strip_prefix("impl ") {
+        let words = header.split(|c: char| !c.is_alphanumeric());
+        let words: Vec<&str> = words.filter(|word| !word.is_empty()).collect();
+        let name = format!("impl_{}", words.join("_"));
+        return Some(Declaration::new(&name, Kind::Constant, false, number));
+    }
     let public = text.starts_with("pub ");
     let rest = text.strip_prefix("pub ").unwrap_or(text);
     let rest = rest.strip_prefix("extern \"C\" ").unwrap_or(rest);
@@ -94,12 +101,15 @@ fn fill(declaration: &mut Declaration, lines: &[&str]) {
                 .collect();
         }
         _ => {
+            let is_block = lines[0].starts_with("impl ");
             let last = lines
                 .iter()
-                .position(|line| *line == "}" || line.ends_with(';'))
+                .position(|line| *line == "}" || !is_block && line.ends_with(';'))
                 .unwrap_or(lines.len() - 1);
             declaration.statement = own(last + 1);
-            declaration.members = members(declaration, lines[0]);
+            if !is_block {
+                declaration.members = members(declaration, lines[0]);
+            }
         }
     }
 }
@@ -176,6 +186,19 @@ mod tests {
         let name = &read(FILE).declarations[4];
         assert_eq!(name.statement, ["fn name(most: u8) -> Name {"]);
         assert_eq!(name.body.len(), 2);
+    }
+
+    #[test]
+    fn what_a_trait_gives_a_type_is_read_to_its_end() {
+        let file = "// Its number.\nimpl From<Kind> for u8 {\n    ghost from_gives = { λ k n. n ≡ number k };\n\n    fn from(kind: Kind) -> u8 {\n        kind as u8\n    }\n}\n\nconst ONE: u8 = 1;\n";
+        let content = read(file);
+        let given = &content.declarations[0];
+        assert_eq!(
+            (given.name.as_str(), given.public),
+            ("impl_From_Kind_for_u8", false)
+        );
+        assert_eq!((given.line, given.statement.len()), (2, 7));
+        assert_eq!(content.declarations[1].name, "ONE");
     }
 
     #[test]

@@ -1,14 +1,15 @@
 -- The laws that close the needs of the calls' functions, in the crates above this one, by `search rules`.
 -- Assumes nothing.
+use Rattle.std.specs.Prelude.{Option, Some, None, Result, Ok, Err}
 use Prim.Native.Nat.{ℕ, ◌+◌, ◌*◌, ◌<◌, ◌≤◌}
 use mathlib.Core.Path.{◌≡◌, refl, sym, ap, ◌∙◌}
-use mathlib.Core.Bool.{Bool, true, false, not}
+use mathlib.Core.Bool.{Bool, true, false}
 use mathlib.Core.List.{List, []}
 use native.Mathlib.Omega.{arith}
-use lib.Dec.{T, eqb, ltb, leb}
+use lib.Dec.{eqb, leb}
 use lib.ListN.{length, get_or, set, length-map}
 use lib.Seq.{set_out}
-use borrow.Author.Tests.{eqb-false, ne_eqb, le-leb, lt-leb, lt-ltb, le-ltb, not-true, not-false}
+use borrow.Author.Tests.{eqb-false}
 use mir.Val.{Fits}
 use mir.Syntax.{w16, w64}
 use Rattle.lists.proofs.Loops.{Mapped, mapped-none, mapped-more, mapped-all}
@@ -20,37 +21,33 @@ use Rattle.table.specs.Table.{places, standing, size, table_of, process_at, is_a
 use Rattle.table.specs.declared.Active.{Active}
 use Rattle.table.specs.declared.Active.TheVariants.{UserOf, ElevationIn}
 use Rattle.table.specs.declared.Among.{Among}
-use Rattle.table.specs.declared.Among.TheVariants.{All, Of, SavedOf}
-use Rattle.table.specs.declared.Found.{Found}
-use Rattle.table.specs.declared.Found.TheVariants.{At, Nothing}
+use Rattle.table.specs.declared.Among.TheVariants.{SavedOf}
 use Rattle.table.specs.declared.Process.{Process}
 use Rattle.table.specs.declared.Table.{Table}
 use Rattle.table.proofs.Laws.{count-few}
-use Rattle.table.proofs.Searched.{found_at, found_none}
-use Rattle.module_state.specs.Numbers.{◌when◌, ◌unless◌, ◌▸◌}
-use Rattle.module_state.specs.Module.{session_count, credential_count, is_credential, granted, unprovisioned, words_of, closed_module, has_active, active_place, active_process, taken}
-use Rattle.module_state.specs.Claim.{is_spent, sought, placed, checked, grant_number}
-use Rattle.module_state.specs.declared.Checked.{Checked}
+use Rattle.table.proofs.Searched.{found_at, found_none, count-chosen}
+use Rattle.module_state.specs.Numbers.{◌▸◌}
+use Rattle.module_state.specs.Module.{session_count, credential_count, granted, unprovisioned, words_of, closed_module, has_active, active_place, active_process, taken}
+use Rattle.module_state.specs.Claim.{is_spent, sought, placed, checked}
+use Rattle.module_state.specs.Refusals.{Checked, Placed, number_of, placed_in}
 use Rattle.module_state.specs.declared.Claim.{Claim}
 use Rattle.module_state.specs.declared.Claim.TheVariants.{Elevated, ByUser}
 use Rattle.module_state.specs.declared.Class.{Class}
 use Rattle.module_state.specs.declared.Grants.{Grants}
 use Rattle.module_state.specs.declared.Phase.{Phase}
 use Rattle.module_state.specs.declared.Phase.TheVariants.{Closed, Opened, Chosen}
-use Rattle.module_state.specs.declared.Placed.{Placed}
+use Rattle.module_state.specs.declared.Refusal.{Refusal}
 use Rattle.module_state.specs.declared.State.{State}
 use Rattle.module_state.specs.declared.UserClaim.{UserClaim}
 use Rattle.module_state.specs.declared.Words.{Words}
-use Rattle.module_state.proofs.Laws.{clear_first, clear-rest, stop, pass, rows, when_true, when_false, unless-true, unless-false, passed-user, checked-number, checked-place}
+use Rattle.module_state.proofs.Laws.{clear_first, clear-rest, stop, pass, rows, passed-user, checked-number, checked-place}
 use Rattle.module_state.proofs.Rules.{rules as claim-rules, nonzero}
 use Rattle.calls.specs.declared.Answer.TheVariants.{Done, Refused}
 use Rattle.calls.specs.declared.Listed.{Listed}
-use Rattle.calls.specs.declared.Measured.{Measured}
 use Rattle.calls.specs.declared.Outcome.{Outcome}
 use Rattle.calls.specs.declared.Wanted.{Wanted}
-use Rattle.calls.specs.declared.Wanted.TheVariants.{Every, Only}
 use Rattle.calls.specs.Listing.{head_length, among_of, rows_of, message_length}
-use Rattle.calls.specs.Calls.{Call, Open, Close, Select, Start, Continue, Elevate, Drop, End, Record, ListProcesses, Kill, SetWord, kill_others, is_device, is_version, is_wanted, is_full, has_named, named_place, is_own, is_short, reach, Protection, Free, protection, Tests, end_tests, record_tests, list_tests, kill_tests, set_word_tests, tests, asked, number, with_table, with_phase, with_grants, user_process, elevation, activated, saved, one_more, counted, ended, effect, left, refusal, outcome, measured, listed, fresh}
+use Rattle.calls.specs.Calls.{Call, Open, Close, Select, Start, Continue, Elevate, Drop, End, Record, ListProcesses, Kill, SetWord, is_version, is_full, has_named, named_place, reach, Protection, Free, protection, Tests, end_tests, record_tests, list_tests, kill_tests, set_word_tests, tests, asked, number, with_table, with_phase, with_grants, user_process, elevation, activated, saved, one_more, counted, ended, effect, left, refusal, outcome, Measured, length_in, measured_in, measured, listed, fresh}
 use Rattle.calls.proofs.Cut.{left-free}
 use Rattle.calls.proofs.Laws.{outcome-done, outcome-refused, number_by}
 
@@ -93,38 +90,31 @@ pub grants-outside : (st : State) (c : Credential) (grants : Grants) → length 
 grants-outside st c grants h k = rw (set_out st.credentials c.0 grants (omega arith))
 
 -- ---- what the tests ask of the table
-module _ (st : State) (which : Active) {f : Found} (e : f ≡ first_place (is_active which) (standing st.table)) where
-  pub active-none : f ≡ Nothing → false ≡ has_active st which
+module _ (st : State) (which : Active) {f : Option ℕ} (e : f ≡ first_place (is_active which) (standing st.table)) where
+  pub active-none : f ≡ None → false ≡ has_active st which
   unfolding has_active
   active-none q = sym (found_none (is_active which) (standing st.table) (sym e ∙ q)).none
 
-  pub active-some : {k : ℕ} → f ≡ At k → true ≡ has_active st which
+  pub active-some : {k : ℕ} → f ≡ Some k → true ≡ has_active st which
   unfolding has_active
   active-some q = sym (found_at (is_active which) (standing st.table) (sym e ∙ q)).some
 
-module _ (st : State) (name : Name) (among : Among) {f : Found} (e : f ≡ first_place (is_named name among) (standing st.table)) where
-  pub named_none : f ≡ Nothing → false ≡ has_named st name among
+module _ (st : State) (name : Name) (among : Among) {f : Option ℕ} (e : f ≡ first_place (is_named name among) (standing st.table)) where
+  pub named_none : f ≡ None → false ≡ has_named st name among
   unfolding has_named
   named_none q = sym (found_none (is_named name among) (standing st.table) (sym e ∙ q)).none
 
-  pub named_some : {k : ℕ} → f ≡ At k → true ≡ has_named st name among
+  pub named_some : {k : ℕ} → f ≡ Some k → true ≡ has_named st name among
   unfolding has_named
   named_some q = sym (found_at (is_named name among) (standing st.table) (sym e ∙ q)).some
 
-module _ (st : State) (name : Name) (by : Checked) {among : Among} {f : Found} (a : among ≡ reach by) (e : f ≡ first_place (is_named name among) (standing st.table)) where
-  pub kill-none : (n : ℕ) → f ≡ Nothing → n ≡ n unless has_named st name (reach by)
-  kill-none n q = sym (unless-false n (rw (← a) (sym (named_none st name among e q))))
-
-  pub kill-found : (n : ℕ) {k : ℕ} → f ≡ At k → 0 ≡ n unless has_named st name (reach by)
-  kill-found n q = sym (unless-true n (rw (← a) (sym (named_some st name among e q))))
-
-  pub kill-place : {k : ℕ} → f ≡ At k → k ≡ named_place st name (reach by)
-  unfolding named_place
-  kill-place q = (found_at (is_named name among) (standing st.table) (sym e ∙ q)).is ∙ rw a
-
-pub kill-at : (st : State) (name : Name) (by : Checked) {p : Placed} → p ≡ placed (asked (kill_tests st name) by) (named_place st name (reach by)) → p.number ≡ 0 → p.place ≡ named_place st name (reach by)
+-- the place that tests answer
+pub place-is : (r : Result ℕ Refusal) (m at : ℕ) {k : ℕ} → placed_in r ≡ placed m at → r ≡ Ok k → k ≡ at
 unfolding placed
-kill-at st name by e z = let n : asked (kill_tests st name) by ≡ 0 = sym (ap (λ (p : Placed). p.number) e) ∙ z in rw (e, n)
+place-is r m at {k} e q =
+    let p : ◌≡◌ {A = Placed} (record { number = 0; place = k }) (placed m at) = sym (ap placed_in q) ∙ e in
+    let z : 0 ≡ m = ap (λ (p : Placed). p.number) p in
+    ap (λ (p : Placed). p.place) p ∙ rw (← z)
 
 pub full_is : (st : State) {n : ℕ} → n ≡ size st.table → leb places n ≡ is_full st
 unfolding is_full
@@ -135,61 +125,10 @@ pub version-is : (byte : ℕ) → eqb byte 0x10 ≡ is_version byte
 unfolding is_version
 version-is byte = refl
 
-module _ (class : Class) where
-  pub device-high : 4 ≤ class.0 → leb class.0 31 ≡ is_device class
-  unfolding is_device
-  device-high h = rw (le-leb 4 class.0 h)
-
-  pub device-low : class.0 < 4 → leb 4 class.0 ≡ is_device class
-  unfolding is_device
-  device-low h = rw (lt-leb 4 class.0 h)
-
--- a test that is asked for on a condition
-module _ (m : ℕ) (b : Bool) where
-  pub asked-when : {n : ℕ} → not b ≡ false → n ≡ m → n ≡ m when b
-  unfolding ◌when◌
-  asked-when h e = rw (not-false b h) e
-
-  pub not-asked : not b ≡ true → 0 ≡ m when b
-  unfolding ◌when◌
-  not-asked h = rw (not-true b h)
-
-  pub asked-unless : {n : ℕ} {a : Bool} → a ≡ b → a ≡ false → n ≡ m → n ≡ m unless b
-  unfolding ◌unless◌
-  asked-unless q h e = rw (← q, h) e
-
-  pub own-unless : {a : Bool} → a ≡ b → a ≡ true → 0 ≡ m unless b
-  unfolding ◌unless◌
-  own-unless q h = rw (← q, h)
-
 -- no test ahead of the claim's
 pub none_ahead : (m : ℕ) {r : ℕ} → r ≡ m → r ≡ 0 ▸ m
 unfolding ◌▸◌
 none_ahead m e = e
-
-module _ {wanted : Wanted} where
-  pub wanted-every : wanted ≡ Every → true ≡ is_wanted wanted
-  unfolding is_wanted
-  wanted-every e = rw e
-
-  pub wanted-only : {c : Credential} {b : Bool} → wanted ≡ Only c → b ≡ is_credential c → b ≡ is_wanted wanted
-  unfolding is_wanted
-  wanted-only e q = q ∙ rw e
-
-  pub among-every : wanted ≡ Every → All ≡ among_of wanted
-  among-every e = rw e
-
-  pub among-only : {c : Credential} → wanted ≡ Only c → Of c ≡ among_of wanted
-  among-only e = rw e
-
-  module _ (c : Credential) where
-    pub own-every : wanted ≡ Every → false ≡ is_own c wanted
-    unfolding is_own
-    own-every e = rw e
-
-    pub own-only : {one : Credential} → wanted ≡ Only one → eqb one.0 c.0 ≡ is_own c wanted
-    unfolding is_own
-    own-only e = rw e
 
 -- ---- the listing's length
 module _ (st : State) (wanted : Wanted) {among : Among} {n : ℕ} (a : among ≡ among_of wanted) (e : n ≡ count_among st.table among) where
@@ -203,41 +142,8 @@ module _ (st : State) (wanted : Wanted) {among : Among} {n : ℕ} (a : among ≡
   length_whole k small h = omega (arith, few h)
 
   pub length-is : head_length + row_length * n ≡ message_length (length (rows_of st wanted))
-  unfolding message_length rows_of count_among
-  length-is = rw (length-map, ← a, e)
-
-module _ (st : State) (wanted : Wanted) (room k : ℕ) {n : ℕ} (e : n ≡ message_length (length (rows_of st wanted))) where
-  pub short-room : room < n → k ≡ k when is_short st wanted room
-  unfolding is_short
-  short-room h = sym (when_true k (rw (← e) (lt-ltb room n h)))
-
-  pub enough-room : n ≤ room → 0 ≡ k when is_short st wanted room
-  unfolding is_short
-  enough-room h = sym (when_false k (rw (← e) (le-ltb room n h)))
-
--- a listing that is refused, and one that has its length
-module _ (m long : ℕ) where
-  pub measured-done : {k : ℕ} → 0 ≡ m → k ≡ long → ◌≡◌ {A = Measured} (record { number = 0; length = k }) (measured m long)
-  unfolding measured
-  measured-done e q = rw (← e, q)
-
-  module _ {r : Measured} {n : ℕ} (q : r ≡ record { number = n; length = 0 }) where
-    pub refused-measured : (n ≡ 0 → ⊥) → n ≡ m → r ≡ measured m long
-    unfolding measured
-    refused-measured h e = q ∙ rw (← e, ne_eqb n 0 h)
-
-    pub number-measured : T (ltb 0 n) → n ≡ m → r ≡ measured m long
-    number-measured some e = refused-measured (nonzero some) e
-
--- ---- whom a kill reaches, and what its search says
-module _ (by : Checked) {n : ℕ} (e : n ≡ grant_number by kill_others) where
-  pub reach-all : n ≡ 0 → All ≡ reach by
-  unfolding reach
-  reach-all h = rw (← e, h)
-
-  pub reach-own : (n ≡ 0 → ⊥) → Of by.credential ≡ reach by
-  unfolding reach
-  reach-own h = rw (← e, ne_eqb n 0 h)
+  unfolding message_length rows_of
+  length-is = rw (length-map, ← a, ← count-chosen st.table among, e)
 
 -- ---- the claim counted
 module _ (st : State) (s : Session) where
@@ -355,44 +261,50 @@ module _ (st : State) (s : Session) (claim : Claim) {by : Checked} (e : by ≡ c
   unfolding tests protection
   set-word-number c words q = number_by st (SetWord s claim c words) refl e q
 
-  pub kill-number : {p : Placed} (name : Name) → p ≡ placed (asked (kill_tests st name) by) (named_place st name (reach by)) → p.number ≡ number st (Kill s claim name)
+  pub kill-number : (r : Result ℕ Refusal) (name : Name) → placed_in r ≡ placed (asked (kill_tests st name) by) (named_place st name (reach by)) → number_of r ≡ number st (Kill s claim name)
   unfolding tests protection placed
-  kill-number name q = rw q (number_by st (Kill s claim name) refl e refl)
+  kill-number r name q = ap (λ (p : Placed). p.number) q ∙ number_by st (Kill s claim name) refl e refl
 
-  pub list-number : {m : Measured} (wanted : Wanted) (room : ℕ) → m ≡ measured (asked (list_tests st wanted room) by) (message_length (length (rows_of st wanted)))
-      → m.number ≡ number st (ListProcesses s claim wanted room)
+  pub list-number : (r : Result ℕ Refusal) (wanted : Wanted) (room : ℕ) → measured_in r ≡ measured (asked (list_tests st wanted room) by) (message_length (length (rows_of st wanted)))
+      → number_of r ≡ number st (ListProcesses s claim wanted room)
   unfolding tests protection measured
-  list-number wanted room q = rw q (number_by st (ListProcesses s claim wanted room) refl e refl)
+  list-number r wanted room q = ap (λ (m : Measured). m.number) q ∙ number_by st (ListProcesses s claim wanted room) refl e refl
 
-pub end-number : (st : State) (s : Session) (u : UserClaim) {by : Checked} → by ≡ checked st s (ByUser u) → {n : ℕ} (keep : Bool)
-    → n ≡ asked (end_tests keep) by → n ≡ number st (End s u keep)
-unfolding tests protection
-end-number st s u e keep q = number_by st (End s u keep) refl e q
+pub end-number : (st : State) (s : Session) (u : UserClaim) {by : Checked} → by ≡ checked st s (ByUser u) → (r : Result ℕ Refusal) (keep : Bool) (at : ℕ)
+    → placed_in r ≡ placed (asked (end_tests keep) by) at → number_of r ≡ number st (End s u keep)
+unfolding tests protection placed
+end-number st s u e r keep at q = ap (λ (p : Placed). p.number) q ∙ number_by st (End s u keep) refl e refl
 
 module _ (by : Checked) (t : Tests) where
   pub asked-clear : {n : ℕ} → n ≡ asked t by → n ≡ 0 → by.number ≡ 0
   unfolding asked
   asked-clear e z = clear_first _ _ (clear-rest _ _ (sym e ∙ z))
 
-  pub placed-clear : {p : Placed} (at : ℕ) → p ≡ placed (asked t by) at → p.number ≡ 0 → by.number ≡ 0
+  pub placed-clear : (r : Result ℕ Refusal) (at : ℕ) → placed_in r ≡ placed (asked t by) at → number_of r ≡ 0 → by.number ≡ 0
   unfolding placed
-  placed-clear at e z = asked-clear (ap (λ (p : Placed). p.number) e) z
+  placed-clear r at e z = asked-clear (ap (λ (p : Placed). p.number) e) z
 
-  pub measured-clear : {m : Measured} (long : ℕ) → m ≡ measured (asked t by) long → m.number ≡ 0 → by.number ≡ 0
+  pub measured-clear : (r : Result ℕ Refusal) (long : ℕ) → measured_in r ≡ measured (asked t by) long → number_of r ≡ 0 → by.number ≡ 0
   unfolding measured
-  measured-clear long e z = asked-clear (ap (λ (m : Measured). m.number) e) z
+  measured-clear r long e z = asked-clear (ap (λ (m : Measured). m.number) e) z
 
 -- ---- the outcome of a list call, by what its tests came to
-pub list-is : (st : State) (s : Session) (claim : Claim) (wanted : Wanted) (room : ℕ) {by : Checked} {m : Measured} {o : Outcome} → by ≡ checked st s claim
-    → m ≡ measured (asked (list_tests st wanted room) by) (message_length (length (rows_of st wanted))) → o ≡ outcome st (ListProcesses s claim wanted room)
-    → ◌≡◌ {A = Listed} (record { outcome = o; length = m.length }) (listed st s claim wanted room)
-unfolding listed
-list-is st s claim wanted room {by} a e q =
-    let n : asked (list_tests st wanted room) by ≡ number st (ListProcesses s claim wanted room) = unfold tests protection in number_by st (ListProcesses s claim wanted room) refl a refl in
-    rw (q, e, n)
+module _ (st : State) (s : Session) (claim : Claim) (wanted : Wanted) (room : ℕ) (r : Result ℕ Refusal) {by : Checked} {o : Outcome} (a : by ≡ checked st s claim)
+    (e : measured_in r ≡ measured (asked (list_tests st wanted room) by) (message_length (length (rows_of st wanted)))) (q : o ≡ outcome st (ListProcesses s claim wanted room)) where
+  list-is : ◌≡◌ {A = Listed} (record { outcome = o; length = length_in r }) (listed st s claim wanted room)
+  unfolding listed
+  list-is =
+      let n : asked (list_tests st wanted room) by ≡ number st (ListProcesses s claim wanted room) = unfold tests protection in number_by st (ListProcesses s claim wanted room) refl a refl in
+      rw (q, ← n, ap (λ (m : Measured). m.length) e)
+
+  pub list-done : {long : ℕ} → r ≡ Ok long → ◌≡◌ {A = Listed} (record { outcome = o; length = long }) (listed st s claim wanted room)
+  list-done d = rw (sym (ap length_in d)) list-is
+
+  pub list-refused : {why : Refusal} → r ≡ Err why → ◌≡◌ {A = Listed} (record { outcome = o; length = 0 }) (listed st s claim wanted room)
+  list-refused d = rw (sym (ap length_in d)) list-is
 
 pub effect-list : (st : State) {x : State} (s : Session) (claim : Claim) (wanted : Wanted) (room : ℕ) → x ≡ counted st s claim → x ≡ effect st (ListProcesses s claim wanted room)
 unfolding effect
 effect-list st s claim wanted room e = e
 
-pub ruleset rules = (claim-rules, by-refusal, by-effect, both-stop, both-pass, known-stop, known-pass, phase-outside, grants-outside, active-none, active-some, named_none, named_some, full_is, version-is, device-high, device-low, asked-when, not-asked, asked-unless, own-unless, none_ahead, wanted-every, wanted-only, among-every, among-only, own-every, own-only, length-fits, length_whole, length-is, short-room, enough-room, measured-done, refused-measured, number-measured, reach-all, reach-own, kill-none, kill-found, kill-place, kill-at, next_fits, counted_is, counted-elevated, checked-user, ended-kept, ended-removed, taken_is, mapped-none, take_on, fresh-is, effect-open, effect-select, effect-close, effect-start, effect-elevate, effect-continue, effect-drop, effect-end, effect-kill, effect-set-word, effect-record, effect-list, record-number, list-number, kill-number, set-word-number, end-number, asked-clear, placed-clear, measured-clear, list-is)
+pub ruleset rules = (claim-rules, by-refusal, by-effect, both-stop, both-pass, known-stop, known-pass, phase-outside, grants-outside, active-none, active-some, named_none, named_some, full_is, version-is, none_ahead, length-fits, length_whole, length-is, place-is, next_fits, counted_is, counted-elevated, checked-user, ended-kept, ended-removed, taken_is, mapped-none, take_on, fresh-is, effect-open, effect-select, effect-close, effect-start, effect-elevate, effect-continue, effect-drop, effect-end, effect-kill, effect-set-word, effect-record, effect-list, record-number, list-number, kill-number, set-word-number, end-number, asked-clear, placed-clear, measured-clear, list-done, list-refused)

@@ -1,5 +1,5 @@
 -- "Calls, with the order of their checks": of each call the tests in their order, each with its number, and what it does where none holds
-use Rattle.std.specs.Prelude.{ℕ, ◌+◌, Bool, true, false, cond, not, ◌&&◌, List, [], map, eqb, ltb, leb, length, set}
+use Rattle.std.specs.Prelude.{ℕ, ◌+◌, Bool, true, false, cond, not, ◌&&◌, List, [], map, eqb, ltb, leb, length, set, Result, Ok, Err}
 use Rattle.lists.specs.Lists.{any, first_index}
 use Rattle.names.specs.declared.Credential.{Credential}
 use Rattle.names.specs.declared.Kind.TheVariants.{User, Elevation, Saved}
@@ -15,20 +15,20 @@ use Rattle.module_state.specs.Numbers as No
 use Rattle.module_state.specs.Numbers.{◌when◌, ◌unless◌, ◌▸◌}
 use Rattle.module_state.specs.Module.{is_session, phase_of, is_closed, is_credential, provisioned, taken, granted, closed_module, has_active, active_place, active_process}
 use Rattle.module_state.specs.Claim.{entered, checked, admitted, grant_number}
-use Rattle.module_state.specs.declared.Checked.{Checked}
+use Rattle.module_state.specs.Refusals.{Checked, number_of}
 use Rattle.module_state.specs.declared.Claim.{Claim}
 use Rattle.module_state.specs.declared.Claim.TheVariants.{Elevated, ByUser}
 use Rattle.module_state.specs.declared.Class.{Class}
 use Rattle.module_state.specs.declared.Grants.{Grants}
 use Rattle.module_state.specs.declared.Phase.{Phase}
 use Rattle.module_state.specs.declared.Phase.TheVariants.{Closed, Opened, Chosen}
+use Rattle.module_state.specs.declared.Refusal.{Refusal}
 use Rattle.module_state.specs.declared.State.{State}
 use Rattle.module_state.specs.declared.UserClaim.{UserClaim}
 use Rattle.module_state.specs.declared.Words.{Words}
 use Rattle.calls.specs.declared.Answer.{Answer}
 use Rattle.calls.specs.declared.Answer.TheVariants.{Done, Refused, RefusedClaim}
 use Rattle.calls.specs.declared.Listed.{Listed}
-use Rattle.calls.specs.declared.Measured.{Measured}
 use Rattle.calls.specs.declared.Outcome.{Outcome}
 use Rattle.calls.specs.declared.Wanted.{Wanted}
 use Rattle.calls.specs.declared.Wanted.TheVariants.{Every, Only}
@@ -333,8 +333,20 @@ outcome st call =
     (record { state = left st call; answer = refusal (protection call) (number st call) })
 
 -- "Returns the message's length; 0 on a refusal."
+pub record Measured : Type 0 where
+  pub number : ℕ
+  pub length : ℕ
+
 unfoldable pub measured : ℕ → ℕ → Measured
 measured n length = record { number = n; length = cond (eqb n No.done) length 0 }
+
+-- and as the code's tests answer it: the length, or why the call is refused
+abbrev pub length_in : Result ℕ Refusal → ℕ
+length_in (Ok length) = length
+length_in (Err refusal) = 0
+
+abbrev pub measured_in : Result ℕ Refusal → Measured
+measured_in answer = record { number = number_of answer; length = length_in answer }
 
 unfoldable pub listed : State → Session → Claim → Wanted → ℕ → Listed
 unfolding measured

@@ -13,7 +13,7 @@ pub const HEAD_NUMBER_AT: usize = 2;
 pub const HEAD_LENGTH: usize = HEAD_NUMBER_AT + 2;
 
 // Whose processes a listing is to have.
-#[derive(Clone, Copy)]
+#[derive(Clone, Copy, PartialEq, Eq)]
 pub enum Wanted {
     Every,
     Only(Credential),
@@ -34,13 +34,6 @@ pub struct Outcome {
     pub answer: Answer,
 }
 
-// What the tests of a list call come to: their number, and the length of its message where that is 0.
-#[derive(Clone, Copy)]
-pub struct Measured {
-    pub number: u8,
-    pub length: usize,
-}
-
 // The outcome of a list call, and the length of its message.
 #[derive(Clone, Copy)]
 pub struct Listed {
@@ -54,7 +47,6 @@ pub fn answer_number(answer: Answer) -> u8
 {
     match answer {
         Answer::Done => DONE,
-        Answer::Refused(n) => n,
-        Answer::RefusedClaim(n, _) => n,
+        Answer::Refused(n) | Answer::RefusedClaim(n, _) => n,
     }
 }

@@ -1,5 +1,6 @@
 -- The laws that close the needs of this crate's functions, and of those that count an admitted claim, by `search rules`.
 -- Assumes nothing.
+use Rattle.std.specs.Prelude.{Option, Some, None, Result, Err}
 use Prim.Native.Nat.{ℕ, ◌+◌, ◌<◌}
 use mathlib.Core.Path.{◌≡◌, refl, sym, ap, ◌∙◌}
 use mathlib.Core.Bool.{Bool, true, false, not}
@@ -13,12 +14,14 @@ use Rattle.table.specs.Table.{process_at, replaced, standing, free_place, is_act
 use Rattle.table.specs.declared.Process.{Process}
 use Rattle.table.specs.declared.Table.{Table}
 use Rattle.module_state.specs.Claim.{is_spent, checked, check_of, passed_by, sought, speaks_for, process_found, claim_view}
-use Rattle.module_state.specs.declared.Checked.{Checked}
+use Rattle.module_state.specs.Refusals.{Checked, refusal_number, number_of}
 use Rattle.module_state.specs.declared.Claim.{Claim}
 use Rattle.module_state.specs.declared.Claim.TheVariants.{Elevated, ByUser}
+use Rattle.module_state.specs.declared.Refusal.{Refusal}
 use Rattle.module_state.specs.declared.State.{State}
 use Rattle.module_state.specs.declared.UserClaim.{UserClaim}
 use Rattle.module_state.proofs.Laws.{passed-admitted, view_of, checked-is}
+use Rattle.module_state.proofs.Refusals.{refusal-some}
 use Rattle.calls.specs.Calls.{Call, Under, protection, number, with_table, one_more, counted, passes, charged, left, refusal, outcome}
 use Rattle.calls.specs.declared.Answer.TheVariants.{RefusedClaim}
 use Rattle.calls.specs.declared.Outcome.{Outcome}
@@ -31,21 +34,19 @@ use Rattle.module_state.specs.declared.Grants.{Grants}
 use Rattle.module_state.specs.declared.Phase.{Phase}
 use Rattle.names.specs.declared.Credential.{Credential}
 use Rattle.table.specs.declared.Active.{Active}
-use Rattle.table.specs.declared.Found.{Found}
-use Rattle.table.specs.declared.Found.TheVariants.{At, Nothing}
 use Rattle.module_state.specs.Module.{phase_of, grants_of}
 
 -- ---- the process of a claim
-module _ (t : Table) {f : Found} {p : Process} where
-  pub process-found-at : {k : ℕ} → f ≡ At k → p ≡ process_at t k → p ≡ process_found t f
+module _ (t : Table) {f : Option ℕ} {p : Process} where
+  pub process-found-at : {k : ℕ} → f ≡ Some k → p ≡ process_at t k → p ≡ process_found t f
   unfolding process_found
   process-found-at e q = q ∙ rw e
 
-  pub process-found-none : f ≡ Nothing → p ≡ free_place → p ≡ process_found t f
+  pub process-found-none : f ≡ None → p ≡ free_place → p ≡ process_found t f
   unfolding process_found
   process-found-none e q = q ∙ rw e
 
-pub view-is : (st : State) (s : Session) (claim : Claim) {a : Active} {f : Found} {p : Process} {c : Credential} {phase : Phase} {g : Grants}
+pub view-is : (st : State) (s : Session) (claim : Claim) {a : Active} {f : Option ℕ} {p : Process} {c : Credential} {phase : Phase} {g : Grants}
     → a ≡ sought s claim → f ≡ first_place (is_active a) (standing st.table) → p ≡ process_found st.table f → c ≡ speaks_for claim p.credential
     → phase ≡ phase_of st s → g ≡ grants_of st c
     → ◌≡◌ {A = ClaimView} (record { phase = phase; found = f; next = p.next; credential = c; grants = g }) (claim_view st s claim)
@@ -127,10 +128,14 @@ module _ (st : State) (call : Call) {s : Session} {claim : Claim} (w : protectio
       q ∙ rw (p, y, by-claim st s claim e a, left_passed st call y z, w))
       (λ y. q ∙ rw (p, y) (sym (left-stopped st call y)))
 
--- so of a call that answers its number with the claim
-pub by-refused-claim : (st : State) {claim : Claim} {n : ℕ} {x : State} {o : Outcome} → o ≡ record { state = x; answer = RefusedClaim n claim } → {by : Checked} → x ≡ charged_by st by n
-    → (call : Call) {s : Session} → by ≡ checked st s claim → n ≡ number st call → (n ≡ 0 → ⊥) → protection call ≡ Under s claim → o ≡ outcome st call
+-- so of a call that answers why its tests refuse it, with the claim
+pub by-refused-claim : (st : State) {claim : Claim} {why : Refusal} {x : State} {o : Outcome} → o ≡ record { state = x; answer = RefusedClaim (refusal_number why) claim }
+    → {by : Checked} {T : Type 0} {tested : Result T Refusal} → x ≡ charged_by st by (number_of tested) → tested ≡ Err why
+    → (call : Call) {s : Session} → by ≡ checked st s claim → number_of tested ≡ number st call → protection call ≡ Under s claim → o ≡ outcome st call
 unfolding refusal
-by-refused-claim st w q call e m h p = refused_as st call m h p (charged-left st call p e m h q) w
+by-refused-claim st {why = why} w {by} {T} q t call e m p =
+    let told : number_of {T = T} (Err why) ≡ number st call = rw t at m in
+    let some : refusal_number why ≡ 0 → ⊥ = refusal-some why in
+    refused_as st call told some p (charged-left st call p e told some (q ∙ ap (λ (r : Result T Refusal). charged_by st by (number_of r)) t)) w
 
 pub ruleset rules = (call-rules, count-spent, count_fits, count-more, count-elevated, count-user, charged-done, charge-stopped, charge-passed, by-refused-claim, length-mapped, process-found-at, process-found-none, view-is, checked-is)

@@ -1,45 +1,41 @@
 // The claim of a protected call, on a state by value: its check, and a claim that passed it counted.
-#![tactic(auto)]
+#![tactic(auto, using(crate::proofs::Rules::rules), unfolding(module_state::specs::Claim::is_spent, module_state::specs::Claim::passed_by, crate::specs::Count::counted_at, crate::specs::Count::counted_by, crate::specs::Count::charged_by))]
 
 ghost use Rattle.std.specs.Prelude.{◌≡◌};
 ghost use Rattle.module_state.specs.Claim.{process_found, claim_view, checked};
+ghost use Rattle.module_state.specs.Refusals.{number_of, checked_in};
 ghost use Rattle.calls_claim.specs.Count.{counted_at, counted_by, charged_by};
 
-use module_state::{Checked, Claim, ClaimView, State};
+use module_state::{Claim, ClaimCheck, ClaimView, Refusal, State};
 use names::Session;
-use table::{Found, Process, Table};
+use table::{Process, Table};
 
 // ---- the check
 
 // The process that a search found; a free place where it found none.
-fn process_found(t: Table, found: Found) -> Process
+fn process_found(t: Table, found: Option<usize>) -> Process
     ensures { result ≡ process_found t found }
 {
-    match found {
-        Found::At(at) => table::process_at(t, at),
-        Found::Nothing => table::free_place(),
-    }
+    found.map_or(table::free_place(), |at| table::process_at(t, at))
 }
 
 fn claim_view(st: State, s: Session, claim: Claim) -> ClaimView
     ensures { result ≡ claim_view st s claim }
 {
-    let t = st.table;
-    let found = table_search::find_active(t, claim_check::sought(s, claim));
-    let p = process_found(t, found);
-    let owner = p.credential;
-    let c = claim_check::speaks_for(claim, owner);
+    let found = table_search::find_active(st.table, claim_check::sought(s, claim));
+    let process = process_found(st.table, found);
+    let credential = claim_check::speaks_for(claim, process.credential);
     ClaimView {
         phase: module_state::phase_of(st, s),
-        found: found,
-        next: p.next,
-        credential: c,
-        grants: module_state::grants_of(st, c),
+        found,
+        next: process.next,
+        credential,
+        grants: module_state::grants_of(st, credential),
     }
 }
 
-pub fn check(st: State, s: Session, claim: Claim) -> Checked
-    ensures { result ≡ checked st s claim }
+pub fn check(st: State, s: Session, claim: Claim) -> ClaimCheck
+    ensures { checked_in result ≡ checked st s claim }
 {
     claim_check::check_claim(s, claim, claim_view(st, s, claim))
 }
@@ -50,13 +46,15 @@ pub fn check(st: State, s: Session, claim: Claim) -> Checked
 fn counted_at(st: State, at: usize) -> State
     ensures { result ≡ counted_at st at }
 {
-    let t = st.table;
-    let mut p = table::process_at(t, at);
+    let p = table::process_at(st.table, at);
     if claim_check::is_spent(p.next) {
         return st;
     }
-    p.next = p.next + 1;
-    calls_effects::with_table(st, table_change::replaced(t, at, p))
+    let counted = Process {
+        next: p.next + 1,
+        ..p
+    };
+    calls_effects::with_table(st, table_change::replaced(st.table, at, counted))
 }
 
 fn counted_by(st: State, claim: Claim, at: usize) -> State
@@ -68,13 +66,12 @@ fn counted_by(st: State, claim: Claim, at: usize) -> State
     }
 }
 
-// The state that a protected call goes on with, or leaves where it is refused with `n`: the claim is counted where it passed its check.
-pub fn charged_by(st: State, by: Checked, n: u8) -> State
-    ensures { result ≡ charged_by st by n }
+// The state that a protected call goes on with, or leaves where it is refused: the claim is counted where it passed its check.
+pub fn charged_by<T: Copy>(st: State, by: ClaimCheck, answer: Result<T, Refusal>) -> State
+    ensures { result ≡ charged_by st (checked_in by) (number_of answer) }
 {
-    if !claim_check::passed_by(by, n) {
-        return st;
+    match by.place {
+        Ok(place) if claim_check::passed_by(by, answer) => counted_by(st, by.claim, place),
+        _ => st,
     }
-    let claim = by.claim;
-    counted_by(st, claim, by.place)
 }

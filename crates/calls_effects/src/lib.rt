@@ -1,12 +1,13 @@
 // What the calls make: outcomes, states with one part changed, processes; and a fresh module.
-#![tactic(auto)]
+#![tactic(auto, using(crate::proofs::Rules::rules), unfolding(calls::specs::Calls::ended, calls::specs::Calls::fresh, module_state::specs::Module::taken))]
 
 ghost use Rattle.std.specs.Prelude.{◌≡◌};
 ghost use Rattle.calls.specs.Calls.{with_table, with_phase, with_grants, user_process, elevation, activated, saved, ended, fresh};
 ghost use Rattle.module_state.specs.Module.{taken};
+ghost use Rattle.module_state.specs.Refusals.{refusal_number};
 
 use calls::{Answer, Outcome};
-use module_state::{CREDENTIALS, Claim, Grants, Phase, SESSIONS, SessionState, State};
+use module_state::{CREDENTIALS, Claim, Grants, Phase, Refusal, SESSIONS, SessionState, State};
 use names::{Credential, Kind, Name, Session};
 use table::{Process, Table};
 
@@ -21,21 +22,21 @@ pub fn accepted(st: State) -> Outcome
     }
 }
 
-pub fn refused(st: State, n: u8) -> Outcome
-    ensures { result ≡ record { state = st; answer = Answer.Refused n } }
+pub fn refused(st: State, refusal: Refusal) -> Outcome
+    ensures { result ≡ record { state = st; answer = Answer.Refused (refusal_number refusal) } }
 {
     Outcome {
         state: st,
-        answer: Answer::Refused(n),
+        answer: Answer::Refused(refusal as u8),
     }
 }
 
-pub fn refused_claim(st: State, n: u8, claim: Claim) -> Outcome
-    ensures { result ≡ record { state = st; answer = Answer.RefusedClaim n claim } }
+pub fn refused_claim(st: State, refusal: Refusal, claim: Claim) -> Outcome
+    ensures { result ≡ record { state = st; answer = Answer.RefusedClaim (refusal_number refusal) claim } }
 {
     Outcome {
         state: st,
-        answer: Answer::RefusedClaim(n, claim),
+        answer: Answer::RefusedClaim(refusal as u8, claim),
     }
 }
 
@@ -44,102 +45,75 @@ pub fn refused_claim(st: State, n: u8, claim: Claim) -> Outcome
 pub fn with_table(st: State, t: Table) -> State
     ensures { result ≡ with_table st t }
 {
-    let sessions = st.sessions;
-    let credentials = st.credentials;
-    State {
-        sessions: sessions,
-        credentials: credentials,
-        table: t,
-    }
+    State { table: t, ..st }
 }
 
 pub fn with_phase(st: State, s: Session, phase: Phase) -> State
     ensures { result ≡ with_phase st s phase }
 {
     let at = s.0 as usize;
-    if SESSIONS <= at {
-        return st;
+    let mut changed = st;
+    if at < SESSIONS {
+        changed.sessions[at] = SessionState { phase };
     }
-    let mut sessions = st.sessions;
-    sessions[at] = SessionState { phase: phase };
-    let credentials = st.credentials;
-    let t = st.table;
-    State {
-        sessions: sessions,
-        credentials: credentials,
-        table: t,
-    }
+    changed
 }
 
 pub fn with_grants(st: State, c: Credential, grants: Grants) -> State
     ensures { result ≡ with_grants st c grants }
 {
     let at = c.0 as usize;
-    if CREDENTIALS <= at {
-        return st;
+    let mut changed = st;
+    if at < CREDENTIALS {
+        changed.credentials[at] = grants;
     }
-    let mut credentials = st.credentials;
-    credentials[at] = grants;
-    let sessions = st.sessions;
-    let t = st.table;
-    State {
-        sessions: sessions,
-        credentials: credentials,
-        table: t,
-    }
+    changed
 }
 
 // ---- the processes that calls make of processes
 
-pub fn user_process(s: Session, c: Credential, name: Name) -> Process
-    ensures { result ≡ user_process s c name }
+// A process new in a session: its next number is 0.
+fn begun(kind: Kind, s: Session, c: Credential, name: Name) -> Process
+    ensures { result ≡ record { credential = c; kind = kind; session = s; next = 0; name = name } }
 {
     Process {
         credential: c,
-        kind: Kind::User,
+        kind,
         session: s,
         next: 0,
-        name: name,
+        name,
     }
+}
+
+pub fn user_process(s: Session, c: Credential, name: Name) -> Process
+    ensures { result ≡ user_process s c name }
+{
+    begun(Kind::User, s, c, name)
 }
 
 pub fn elevation(s: Session, c: Credential, name: Name) -> Process
     ensures { result ≡ elevation s c name }
 {
-    Process {
-        credential: c,
-        kind: Kind::Elevation,
-        session: s,
-        next: 0,
-        name: name,
-    }
+    begun(Kind::Elevation, s, c, name)
 }
 
 pub fn activated(old: Process, s: Session) -> Process
     ensures { result ≡ activated s old }
 {
-    let c = old.credential;
-    let name = old.name;
     Process {
-        credential: c,
         kind: Kind::User,
         session: s,
-        next: old.next,
-        name: name,
+        ..old
     }
 }
 
 fn saved(p: Process) -> Process
     ensures { result ≡ saved p }
 {
-    let c = p.credential;
-    let name = p.name;
     Process {
-        credential: c,
         kind: Kind::Saved,
         session: Session(0),
-        next: p.next,
-        name: name,
+        ..p
     }
 }
 
@@ -151,8 +125,10 @@ pub fn ended(st: State, at: usize, keep: bool) -> State
 {
     let t = st.table;
     if keep {
-        let p = table::process_at(t, at);
-        with_table(st, table_change::replaced(t, at, saved(p)))
+        with_table(
+            st,
+            table_change::replaced(t, at, saved(table::process_at(t, at))),
+        )
     } else {
         with_table(st, table_removal::removed(t, at))
     }
@@ -163,10 +139,9 @@ pub fn ended(st: State, at: usize, keep: bool) -> State
 fn taken(pair: Grants) -> Grants
     ensures { result ≡ taken pair }
 {
-    let words = module_state::words_of(pair);
     Grants {
-        provisioned: pair.provisioned,
-        words: words,
+        words: module_state::words_of(pair),
+        ..pair
     }
 }
 
@@ -175,11 +150,8 @@ pub fn fresh(pairs: [Grants; CREDENTIALS]) -> State
     ensures { result ≡ fresh pairs }
 {
     let mut credentials = pairs;
-    let mut i: usize = 0;
-    while i < CREDENTIALS {
-        let pair = credentials[i];
-        credentials[i] = taken(pair);
-        i += 1;
+    for i in 0..CREDENTIALS {
+        credentials[i] = taken(credentials[i]);
     }
     module_state::closed_module(credentials, table::empty())
 }

@@ -1,11 +1,11 @@
-// The protected calls that end a process: state in by value, answer and state out by value. Each asks its tests for the number, counts the claim where it passed, and does what it does where the number is 0.
-#![tactic(auto)]
+// The protected calls that end a process: state in by value, answer and state out by value. Each asks its tests, counts the claim where it passed, and does what it does where no test refuses it.
+#![tactic(auto, using(calls_claim::proofs::Rules::rules))]
 
 ghost use Rattle.std.specs.Prelude.{◌≡◌};
 ghost use Rattle.calls.specs.Calls.{End, Kill, outcome};
 
 use calls::Outcome;
-use module_state::{Claim, DONE, State, UserClaim};
+use module_state::{Claim, State, UserClaim};
 use names::{Name, Session};
 
 // ---- end
@@ -15,12 +15,12 @@ pub fn end(st: State, s: Session, u: UserClaim, keep: bool) -> Outcome
 {
     let claim = Claim::ByUser(u);
     let by = calls_claim::check(st, s, claim);
-    let n = calls_protected_tests::end_number(by, keep);
-    let counted = calls_claim::charged_by(st, by, n);
-    if n != DONE {
-        return calls_effects::refused_claim(counted, n, claim);
+    let tested = calls_protected_tests::end_number(by, keep);
+    let counted = calls_claim::charged_by(st, by, tested);
+    match tested {
+        Ok(place) => calls_effects::accepted(calls_effects::ended(counted, place, keep)),
+        Err(refusal) => calls_effects::refused_claim(counted, refusal, claim),
     }
-    calls_effects::accepted(calls_effects::ended(counted, by.place, keep))
 }
 
 // ---- kill
@@ -30,14 +30,12 @@ pub fn kill(st: State, s: Session, claim: Claim, name: Name) -> Outcome
 {
     let by = calls_claim::check(st, s, claim);
     let tested = calls_protected_tests::kill_number(st, by, name);
-    let n = tested.number;
-    let next = calls_claim::charged_by(st, by, n);
-    if n != DONE {
-        return calls_effects::refused_claim(next, n, claim);
+    let counted = calls_claim::charged_by(st, by, tested);
+    match tested {
+        Ok(place) => calls_effects::accepted(calls_effects::with_table(
+            counted,
+            table_removal::removed(counted.table, place),
+        )),
+        Err(refusal) => calls_effects::refused_claim(counted, refusal, claim),
     }
-    let t = next.table;
-    calls_effects::accepted(calls_effects::with_table(
-        next,
-        table_removal::removed(t, tested.place),
-    ))
 }

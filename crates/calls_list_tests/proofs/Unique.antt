@@ -2,6 +2,7 @@
 -- Assumes nothing.
 use mathlib.Core.Path.{sym, ◌∙◌}
 use Rattle.lists.proofs.Once.{OneAnswer}
+use Rattle.calls.proofs.Laws.{measured-once}
 use Rattle.calls_list_tests.proofs.among_of.Kinds as among-of-kinds
 use Rattle.calls_list_tests.proofs.among_of.Reads as among_of
 use Rattle.calls_list_tests.proofs.list_number.Kinds as list-number-kinds
@@ -11,4 +12,4 @@ pub among-of-once : OneAnswer 0 among-of-kinds.ps among-of-kinds.r among_of.Post
 among-of-once κs a x y s t p q = p ∙ sym q
 
 pub list-number-once : OneAnswer 0 list-number-kinds.ps list-number-kinds.r list-number.Post
-list-number-once κs a x y s t p q = p ∙ sym q
+list-number-once κs a x y s t p q = measured-once x y (p ∙ sym q)

@@ -1,14 +1,15 @@
-// What the list call asks, ahead of the check of its claim and after it, the number that it answers, and the length of its message.
-#![tactic(auto)]
+// What the list call asks, ahead of the check of its claim and after it: the length of its message, or why it is refused.
+#![tactic(auto, using(calls::proofs::Rules::rules), unfolding(calls::specs::Calls::is_wanted, calls::specs::Calls::is_own, calls::specs::Calls::is_short, calls::specs::Calls::list_tests, calls::specs::Calls::asked, calls::specs::Calls::measured))]
 
 ghost use Rattle.std.specs.Prelude.{◌≡◌, length};
 ghost use Rattle.module_state.specs.Claim.{grant_number};
 ghost use Rattle.module_state.specs.Numbers.{◌unless◌, ◌▸◌};
+ghost use Rattle.module_state.specs.Refusals.{number_of, checked_in};
 ghost use Rattle.calls.specs.Listing.{among_of, rows_of, message_length};
-ghost use Rattle.calls.specs.Calls.{list_others, is_wanted, is_own, list_tests, asked, measured};
+ghost use Rattle.calls.specs.Calls.{list_others, is_wanted, is_own, list_tests, asked, measured, measured_in};
 
-use calls::{HEAD_LENGTH, Measured, Wanted};
-use module_state::{ARGUMENT, Checked, Class, DONE, LIST_OTHERS, ROOM, State};
+use calls::{HEAD_LENGTH, Wanted};
+use module_state::{ClaimCheck, LIST_OTHERS, Refusal, State};
 use names::{Credential, ROW_LENGTH};
 use table::Among;
 
@@ -34,59 +35,38 @@ pub fn among_of(wanted: Wanted) -> Among
 fn is_own(c: Credential, wanted: Wanted) -> bool
     ensures { result ≡ is_own c wanted }
 {
-    match wanted {
-        Wanted::Every => false,
-        Wanted::Only(one) => one.0 == c.0,
-    }
+    wanted == Wanted::Only(c)
 }
 
 // The tests of the claim and of the grant, which one's own need not.
-fn others_number(by: Checked, wanted: Wanted) -> u8
-    ensures { result ≡ by.number ▸ grant_number by list_others unless is_own by.credential wanted }
+fn others_number(by: ClaimCheck, wanted: Wanted) -> Result<(), Refusal>
+    ensures { number_of result ≡ (checked_in by).number ▸ grant_number (checked_in by) list_others unless is_own by.credential wanted }
 {
-    if by.number != DONE {
-        return by.number;
+    by.place?;
+    if is_own(by.credential, wanted) {
+        return Ok(());
     }
-    let c = by.credential;
-    if is_own(c, wanted) {
-        return DONE;
-    }
-    module_state::grant_number(by, Class(LIST_OTHERS))
+    module_state::grant_number(by, LIST_OTHERS)
 }
 
+#[tactic(auto, using(calls::proofs::Rules::rules))]
 fn message_length(st: State, wanted: Wanted) -> usize
     ensures { result ≡ message_length (length (rows_of st wanted)) }
 {
-    let t = st.table;
-    HEAD_LENGTH + ROW_LENGTH * table_search::count_among(t, among_of(wanted))
+    HEAD_LENGTH + ROW_LENGTH * table_search::count_among(st.table, among_of(wanted))
 }
 
-fn refused(n: u8) -> Measured
-    ensures { result ≡ record { number = n; length = 0 } }
-{
-    Measured {
-        number: n,
-        length: 0,
-    }
-}
-
-// The number, and the length of the message.
-pub fn list_number(st: State, by: Checked, wanted: Wanted, room: usize) -> Measured
-    ensures { result ≡ measured (asked (list_tests st wanted room) by) (message_length (length (rows_of st wanted))) }
+// The length of the message.
+pub fn list_number(st: State, by: ClaimCheck, wanted: Wanted, room: usize) -> Result<usize, Refusal>
+    ensures { measured_in result ≡ measured (asked (list_tests st wanted room) (checked_in by)) (message_length (length (rows_of st wanted))) }
 {
     if !is_wanted(wanted) {
-        return refused(ARGUMENT);
+        return Err(Refusal::Argument);
     }
-    let others = others_number(by, wanted);
-    if others != DONE {
-        return refused(others);
+    others_number(by, wanted)?;
+    let length = message_length(st, wanted);
+    if room < length {
+        return Err(Refusal::Room);
     }
-    let long = message_length(st, wanted);
-    if room < long {
-        return refused(ROOM);
-    }
-    Measured {
-        number: DONE,
-        length: long,
-    }
+    Ok(length)
 }

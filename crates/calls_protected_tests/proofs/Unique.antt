@@ -2,6 +2,7 @@
 -- Assumes nothing.
 use mathlib.Core.Path.{sym, ◌∙◌}
 use Rattle.lists.proofs.Once.{OneAnswer}
+use Rattle.module_state.proofs.Refusals.{number-once, placed-once}
 use Rattle.calls_protected_tests.proofs.end_number.Kinds as end-number-kinds
 use Rattle.calls_protected_tests.proofs.end_number.Reads as end-number
 use Rattle.calls_protected_tests.proofs.is_device.Kinds as is-device-kinds
@@ -14,16 +15,16 @@ use Rattle.calls_protected_tests.proofs.set_word_number.Kinds as set-word-number
 use Rattle.calls_protected_tests.proofs.set_word_number.Reads as set-word-number
 
 pub end-number-once : OneAnswer 0 end-number-kinds.ps end-number-kinds.r end-number.Post
-end-number-once κs a x y s t p q = p ∙ sym q
+end-number-once κs a x y s t p q = placed-once x y (p ∙ sym q)
 
 pub is-device-once : OneAnswer 0 is-device-kinds.ps is-device-kinds.r is-device.Post
 is-device-once κs a x y s t p q = p ∙ sym q
 
 pub record-number-once : OneAnswer 0 record-number-kinds.ps record-number-kinds.r record-number.Post
-record-number-once κs a x y s t p q = p ∙ sym q
+record-number-once κs a x y s t p q = number-once x y (p ∙ sym q)
 
 pub kill-number-once : OneAnswer 0 kill-number-kinds.ps kill-number-kinds.r kill-number.Post
-kill-number-once κs a x y s t p q = p ∙ sym q
+kill-number-once κs a x y s t p q = placed-once x y (p ∙ sym q)
 
 pub set-word-number-once : OneAnswer 0 set-word-number-kinds.ps set-word-number-kinds.r set-word-number.Post
-set-word-number-once κs a x y s t p q = p ∙ sym q
+set-word-number-once κs a x y s t p q = number-once x y (p ∙ sym q)

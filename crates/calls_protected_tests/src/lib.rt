@@ -1,30 +1,26 @@
-// What each protected call but list asks, ahead of the check of its claim and after it, and the number that it answers.
-#![tactic(auto)]
+// What each protected call but list asks, ahead of the check of its claim and after it: done, or why it is refused.
+#![tactic(auto, using(crate::proofs::Rules::rules), unfolding(module_state::specs::Claim::placed, module_state::specs::Module::provisioned, calls::specs::Calls::is_device, calls::specs::Calls::reach, calls::specs::Calls::has_named, calls::specs::Calls::named_place, calls::specs::Calls::end_tests, calls::specs::Calls::record_tests, calls::specs::Calls::kill_tests, calls::specs::Calls::set_word_tests, calls::specs::Calls::asked))]
 
 ghost use Rattle.std.specs.Prelude.{◌≡◌};
 ghost use Rattle.module_state.specs.Claim.{placed};
+ghost use Rattle.module_state.specs.Refusals.{number_of, place_in, placed_in, checked_in};
 ghost use Rattle.calls.specs.Calls.{is_device, named_place, reach, end_tests, record_tests, kill_tests, set_word_tests, asked};
 
-use module_state::{
-    ARGUMENT, CREDENTIAL, Checked, Class, DONE, KILL_OTHERS, NO_PROCESS, Placed, SAVE_OWN,
-    SET_WORDS, State,
-};
+use module_state::{ClaimCheck, Class, KILL_OTHERS, Refusal, SAVE_OWN, SET_WORDS, State};
 use names::{Credential, Name};
-use table::{Among, Found};
+use table::Among;
 
 // ---- end
 
-// Of a protected call: its tests go on where the check of its claim ended.
-pub fn end_number(by: Checked, keep: bool) -> u8
-    ensures { result ≡ asked (end_tests keep) by }
+// Of a protected call: its tests go on where the check of its claim ended. The place is that of the claim's process.
+pub fn end_number(by: ClaimCheck, keep: bool) -> Result<usize, Refusal>
+    ensures { placed_in result ≡ placed (asked (end_tests keep) (checked_in by)) (place_in by.place) }
 {
-    if by.number != DONE {
-        return by.number;
+    let place = by.place?;
+    if keep {
+        module_state::grant_number(by, SAVE_OWN)?;
     }
-    if !keep {
-        return DONE;
-    }
-    module_state::grant_number(by, Class(SAVE_OWN))
+    Ok(place)
 }
 
 // ---- record
@@ -33,78 +29,55 @@ pub fn end_number(by: Checked, keep: bool) -> u8
 pub fn is_device(class: Class) -> bool
     ensures { result ≡ is_device class }
 {
-    4 <= class.0 && class.0 <= 31
+    matches!(class.0, 4..=31)
 }
 
-pub fn record_number(by: Checked, class: Class) -> u8
-    ensures { result ≡ asked (record_tests class) by }
+pub fn record_number(by: ClaimCheck, class: Class) -> Result<(), Refusal>
+    ensures { number_of result ≡ asked (record_tests class) (checked_in by) }
 {
     if !is_device(class) {
-        return ARGUMENT;
+        return Err(Refusal::Argument);
     }
-    if by.number != DONE {
-        return by.number;
-    }
+    by.place?;
     module_state::grant_number(by, class)
 }
 
 // ---- kill
 
 // Which processes a claim may kill.
-fn reach(by: Checked) -> Among
-    ensures { result ≡ reach by }
+fn reach(by: ClaimCheck) -> Among
+    ensures { result ≡ reach (checked_in by) }
 {
-    let others = module_state::grant_number(by, Class(KILL_OTHERS));
-    if others == DONE {
-        return Among::All;
+    match module_state::grant_number(by, KILL_OTHERS) {
+        Ok(()) => Among::All,
+        Err(_) => Among::Of(by.credential),
     }
-    let c = by.credential;
-    Among::Of(c)
 }
 
-// The number, and the place of the process that is killed.
-pub fn kill_number(st: State, by: Checked, name: Name) -> Placed
-    ensures { result ≡ placed (asked (kill_tests st name) by) (named_place st name (reach by)) }
+// The place of the process that is killed.
+#[tactic(auto, using(crate::proofs::Rules::rules))]
+pub fn kill_number(st: State, by: ClaimCheck, name: Name) -> Result<usize, Refusal>
+    ensures { placed_in result ≡ placed (asked (kill_tests st name) (checked_in by)) (named_place st name (reach (checked_in by))) }
 {
-    if by.number != DONE {
-        return module_state::refused(by.number);
-    }
-    let t = st.table;
-    let among = reach(by);
-    let found = table_search::find_named(t, name, among);
-    let Found::At(place) = found else {
-        return module_state::refused(NO_PROCESS); // to a stranger's name too, so that nobody learns that it exists
+    by.place?;
+    let Some(place) = table_search::find_named(st.table, name, reach(by)) else {
+        return Err(Refusal::NoProcess); // to a stranger's name too, so that nobody learns that it exists
     };
-    Placed {
-        number: DONE,
-        place: place,
-    }
+    Ok(place)
 }
 
 // ---- set word
 
-fn set_word_after(st: State, by: Checked, target: Credential) -> u8
-    ensures { result ≡ (set_word_tests st target).after by }
-{
-    let grant = module_state::grant_number(by, Class(SET_WORDS));
-    if grant != DONE {
-        return grant;
-    }
-    let grants = module_state::grants_of(st, target);
-    if !grants.provisioned {
-        return CREDENTIAL;
-    }
-    DONE
-}
-
-pub fn set_word_number(st: State, by: Checked, target: Credential) -> u8
-    ensures { result ≡ asked (set_word_tests st target) by }
+pub fn set_word_number(st: State, by: ClaimCheck, target: Credential) -> Result<(), Refusal>
+    ensures { number_of result ≡ asked (set_word_tests st target) (checked_in by) }
 {
     if !module_state::is_credential(target) {
-        return ARGUMENT;
+        return Err(Refusal::Argument);
     }
-    if by.number != DONE {
-        return by.number;
+    by.place?;
+    module_state::grant_number(by, SET_WORDS)?;
+    if !module_state::grants_of(st, target).provisioned {
+        return Err(Refusal::Credential);
     }
-    set_word_after(st, by, target)
+    Ok(())
 }

@@ -1,60 +1,59 @@
-// Open, close and select: state in by value, answer and state out by value. Each asks its tests, in their order, for the number, and does what it does where that is 0.
-#![tactic(auto)]
+// Open, close and select: state in by value, answer and state out by value. Each asks its tests, in their order, for a refusal, and does what it does where there is none.
+#![tactic(auto, using(crate::proofs::Rules::rules), unfolding(calls::specs::Calls::number, calls::specs::Calls::protection, calls::specs::Calls::is_version))]
 
 ghost use Rattle.std.specs.Prelude.{◌≡◌};
 ghost use Rattle.calls.specs.Calls.{Open, Close, Select, is_version, number, outcome};
+ghost use Rattle.module_state.specs.Refusals.{number_of};
 
 use calls::Outcome;
-use module_state::{ARGUMENT, DONE, Phase, SESSION, State, VERSION};
+use module_state::{Phase, Refusal, State};
 use names::Session;
 
 // ---- open
 
-fn open_number(st: State, s: Session) -> u8
-    ensures { result ≡ number st (Open s) }
+fn open_number(st: State, s: Session) -> Result<(), Refusal>
+    ensures { number_of result ≡ number st (Open s) }
 {
     if !module_state::is_session(s) {
-        return ARGUMENT;
+        return Err(Refusal::Argument);
     }
     if !module_state::is_closed(st, s) {
-        return SESSION;
+        return Err(Refusal::Session);
     }
-    DONE
+    Ok(())
 }
 
 pub fn open_session(st: State, s: Session) -> Outcome
     ensures { result ≡ outcome st (Open s) }
 {
-    let n = open_number(st, s);
-    if n != DONE {
-        return calls_effects::refused(st, n);
+    if let Err(refusal) = open_number(st, s) {
+        return calls_effects::refused(st, refusal);
     }
     calls_effects::accepted(calls_effects::with_phase(st, s, Phase::Opened))
 }
 
 // ---- close
 
-fn close_number(st: State, s: Session) -> u8
-    ensures { result ≡ number st (Close s) }
+// The tests of close, with which those of select begin.
+fn close_number(st: State, s: Session) -> Result<(), Refusal>
+    ensures { number_of result ≡ number st (Close s) }
 {
     if !module_state::is_session(s) {
-        return ARGUMENT;
+        return Err(Refusal::Argument);
     }
     if module_state::is_closed(st, s) {
-        return SESSION;
+        return Err(Refusal::Session);
     }
-    DONE
+    Ok(())
 }
 
 pub fn close_session(st: State, s: Session) -> Outcome
     ensures { result ≡ outcome st (Close s) }
 {
-    let n = close_number(st, s);
-    if n != DONE {
-        return calls_effects::refused(st, n);
+    if let Err(refusal) = close_number(st, s) {
+        return calls_effects::refused(st, refusal);
     }
-    let t = st.table;
-    let left = calls_effects::with_table(st, table_removal::without_session(t, s));
+    let left = calls_effects::with_table(st, table_removal::without_session(st.table, s));
     calls_effects::accepted(calls_effects::with_phase(left, s, Phase::Closed))
 }
 
@@ -66,28 +65,22 @@ fn is_version(byte: u8) -> bool
     byte == 0x10
 }
 
-fn select_number(st: State, s: Session, byte: u8) -> u8
-    ensures { result ≡ number st (Select s byte) }
+fn select_number(st: State, s: Session, byte: u8) -> Result<(), Refusal>
+    ensures { number_of result ≡ number st (Select s byte) }
 {
-    if !module_state::is_session(s) {
-        return ARGUMENT;
-    }
-    if module_state::is_closed(st, s) {
-        return SESSION;
-    }
+    close_number(st, s)?;
     if !is_version(byte) {
-        return VERSION;
+        return Err(Refusal::Version);
     }
-    DONE
+    Ok(())
 }
 
 // Choosing 0x10 a second time is done, and changes nothing.
 pub fn select_version(st: State, s: Session, byte: u8) -> Outcome
     ensures { result ≡ outcome st (Select s byte) }
 {
-    let n = select_number(st, s, byte);
-    if n != DONE {
-        return calls_effects::refused(st, n);
+    if let Err(refusal) = select_number(st, s, byte) {
+        return calls_effects::refused(st, refusal);
     }
     calls_effects::accepted(calls_effects::with_phase(st, s, Phase::Chosen))
 }

@@ -1,7 +1,12 @@
 -- No second answer meets the contract of any public function of this crate.
 -- Assumes nothing.
 use mathlib.Core.Path.{sym, ◌∙◌}
+use denote.Param.Laws.{Laws, IsCopy}
+use denote.RattleType.{RattleType}
+use mir.Syntax.{Dict}
+use Rattle.std.specs.declared.clone.Clone as clone
 use Rattle.lists.proofs.Once.{OneAnswer}
+use Rattle.module_state.proofs.Refusals.{number-once, checked-once}
 use Rattle.claim_check.proofs.is_in_range.Kinds as is-in-range-kinds
 use Rattle.claim_check.proofs.is_in_range.Reads as is_in_range
 use Rattle.claim_check.proofs.is_spent.Kinds as is-spent-kinds
@@ -24,7 +29,7 @@ pub is-spent-once : OneAnswer 0 is-spent-kinds.ps is-spent-kinds.r is-spent.Post
 is-spent-once κs a x y s t p q = p ∙ sym q
 
 pub turn-number-once : OneAnswer 0 turn-number-kinds.ps turn-number-kinds.r turn-number.Post
-turn-number-once κs a x y s t p q = p ∙ sym q
+turn-number-once κs a x y s t p q = number-once x y (p ∙ sym q)
 
 pub sought-once : OneAnswer 0 sought-kinds.ps sought-kinds.r sought.Post
 sought-once κs a x y s t p q = p ∙ sym q
@@ -33,7 +38,8 @@ pub speaks-for-once : OneAnswer 0 speaks-for-kinds.ps speaks-for-kinds.r speaks-
 speaks-for-once κs a x y s t p q = p ∙ sym q
 
 pub check-claim-once : OneAnswer 0 check-claim-kinds.ps check-claim-kinds.r check-claim.Post
-check-claim-once κs a x y s t p q = p ∙ sym q
+check-claim-once κs a x y s t p q = checked-once x y (p ∙ sym q)
 
-pub passed-by-once : OneAnswer 0 passed-by-kinds.ps passed-by-kinds.r passed-by.Post
-passed-by-once κs a x y s t p q = p ∙ sym q
+pub passed-by-once : (T : RattleType) (laws : Laws T) (copied : IsCopy T) (ghosts : clone.Ghosts T.Denot) (dict : Dict)
+    → OneAnswer 1 (passed-by-kinds.ps T laws copied) (passed-by-kinds.r T laws copied) (passed-by.Post T laws copied ghosts dict)
+passed-by-once T laws copied ghosts dict κs a x y s t p q = p ∙ sym q

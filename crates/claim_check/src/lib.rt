@@ -1,16 +1,14 @@
 // The check of a claim, on what a state tells of it: once for all protected calls, wherever the state lies.
-#![tactic(auto)]
+#![tactic(auto, using(crate::proofs::Rules::rules), unfolding(module_state::specs::Claim::sought, module_state::specs::Claim::is_in_range, module_state::specs::Claim::is_spent, module_state::specs::Claim::turn_number, module_state::specs::Claim::claim_number, module_state::specs::Claim::check_number, module_state::specs::Claim::placed, module_state::specs::Claim::check_of, module_state::specs::Claim::passed_by))]
 
 ghost use Rattle.std.specs.Prelude.{◌≡◌};
 ghost use Rattle.table.specs.Table.{found_place};
 ghost use Rattle.module_state.specs.Claim.{sought, speaks_for, is_in_range, is_spent, turn_number, claim_number, check_number, placed, check_of, passed_by};
+ghost use Rattle.module_state.specs.Refusals.{number_of, placed_in, checked_in};
 
-use module_state::{
-    ARGUMENT, CREDENTIAL, Checked, Claim, ClaimView, DONE, NO_PROCESS, OUT_OF_TURN, Placed, SPENT,
-    UserClaim, VERDICT,
-};
+use module_state::{Claim, ClaimCheck, ClaimView, Refusal, UserClaim};
 use names::{Credential, Session};
-use table::{Active, Found};
+use table::Active;
 
 // Whether a claim's credential, where it has one, is in its range.
 pub fn is_in_range(claim: Claim) -> bool
@@ -26,24 +24,23 @@ pub fn is_in_range(claim: Claim) -> bool
 pub fn is_spent(next: u16) -> bool
     ensures { result ≡ is_spent next }
 {
-    next == 65535
+    next == u16::MAX
 }
 
 // The tests that ask for the turn, of a process with that next number.
-pub fn turn_number(next: u16, u: UserClaim) -> u8
-    ensures { result ≡ turn_number next u }
+pub fn turn_number(next: u16, u: UserClaim) -> Result<(), Refusal>
+    ensures { number_of result ≡ turn_number next u }
 {
     if is_spent(next) {
-        return SPENT;
+        return Err(Refusal::Spent);
     }
-    let in_turn = u.number == next;
-    if !in_turn {
-        return OUT_OF_TURN;
+    if u.number != next {
+        return Err(Refusal::OutOfTurn);
     }
     if !u.verdict {
-        return VERDICT;
+        return Err(Refusal::Verdict);
     }
-    DONE
+    Ok(())
 }
 
 // The active process under which a claim is made.
@@ -52,10 +49,7 @@ pub fn sought(s: Session, claim: Claim) -> Active
 {
     match claim {
         Claim::Elevated => Active::ElevationIn(s),
-        Claim::ByUser(u) => {
-            let c = u.credential;
-            Active::UserOf(s, c)
-        }
+        Claim::ByUser(u) => Active::UserOf(s, u.credential),
     }
 }
 
@@ -69,41 +63,30 @@ pub fn speaks_for(claim: Claim, owner: Credential) -> Credential
     }
 }
 
-fn elevated_number(view: ClaimView) -> Placed
-    ensures { result ≡ placed (claim_number Claim.Elevated view) (found_place 0 view.found) }
-{
-    let found = view.found;
-    let Found::At(place) = found else {
-        return module_state::refused(NO_PROCESS);
-    };
-    Placed {
-        number: DONE,
-        place: place,
-    }
-}
-
-fn user_number(u: UserClaim, view: ClaimView) -> Placed
-    ensures { result ≡ placed (claim_number (Claim.ByUser u) view) (found_place 0 view.found) }
+fn user_number(u: UserClaim, view: ClaimView) -> Result<usize, Refusal>
+    ensures { placed_in result ≡ placed (claim_number (Claim.ByUser u) view) (found_place 0 view.found) }
 {
     if !view.grants.provisioned {
-        return module_state::refused(CREDENTIAL);
+        return Err(Refusal::Credential);
     }
-    let found = view.found;
-    let Found::At(place) = found else {
-        return module_state::refused(NO_PROCESS);
+    let Some(place) = view.found else {
+        return Err(Refusal::NoProcess);
     };
-    let turn = turn_number(view.next, u);
-    if turn != DONE {
-        return module_state::refused(turn);
-    }
-    Placed {
-        number: DONE,
-        place: place,
-    }
+    turn_number(view.next, u)?;
+    Ok(place)
 }
 
-fn claim_number(claim: Claim, view: ClaimView) -> Placed
-    ensures { result ≡ placed (claim_number claim view) (found_place 0 view.found) }
+fn elevated_number(view: ClaimView) -> Result<usize, Refusal>
+    ensures { placed_in result ≡ placed (claim_number Claim.Elevated view) (found_place 0 view.found) }
+{
+    let Some(place) = view.found else {
+        return Err(Refusal::NoProcess);
+    };
+    Ok(place)
+}
+
+fn claim_number(claim: Claim, view: ClaimView) -> Result<usize, Refusal>
+    ensures { placed_in result ≡ placed (claim_number claim view) (found_place 0 view.found) }
 {
     match claim {
         Claim::Elevated => elevated_number(view),
@@ -111,40 +94,32 @@ fn claim_number(claim: Claim, view: ClaimView) -> Placed
     }
 }
 
-fn check_number(s: Session, claim: Claim, view: ClaimView) -> Placed
-    ensures { result ≡ placed (check_number s claim view) (found_place 0 view.found) }
+fn check_number(s: Session, claim: Claim, view: ClaimView) -> Result<usize, Refusal>
+    ensures { placed_in result ≡ placed (check_number s claim view) (found_place 0 view.found) }
 {
     if !is_in_range(claim) {
-        return module_state::refused(ARGUMENT);
+        return Err(Refusal::Argument);
     }
-    let phase = view.phase;
-    let entry = module_state::phase_number(s, phase);
-    if entry != DONE {
-        return module_state::refused(entry);
-    }
+    module_state::phase_number(s, view.phase)?;
     claim_number(claim, view)
 }
 
 // The tests that all protected calls begin with, the claim's check the last of them, wherever the state lies that the view is of.
-pub fn check_claim(s: Session, claim: Claim, view: ClaimView) -> Checked
-    ensures { result ≡ check_of s claim view }
+pub fn check_claim(s: Session, claim: Claim, view: ClaimView) -> ClaimCheck
+    ensures { checked_in result ≡ check_of s claim view }
 {
-    let tested = check_number(s, claim, view);
-    let c = view.credential;
-    let grants = view.grants;
-    Checked {
-        claim: claim,
-        number: tested.number,
-        place: tested.place,
+    ClaimCheck {
+        claim,
+        place: check_number(s, claim, view),
         next: view.next,
-        credential: c,
-        grants: grants,
+        credential: view.credential,
+        grants: view.grants,
     }
 }
 
-// Whether a claim passed its check, by what that came to and the number of its call: ahead of a claim a call is refused with 1 alone, and after it never.
-pub fn passed_by(by: Checked, n: u8) -> bool
-    ensures { result ≡ passed_by by n }
+// Whether a claim passed its check, by what that came to and what its call answers: ahead of a claim a call is refused with 1 alone, and after it never.
+pub fn passed_by<T: Copy>(by: ClaimCheck, answer: Result<T, Refusal>) -> bool
+    ensures { result ≡ passed_by (checked_in by) (number_of answer) }
 {
-    by.number == DONE && n != ARGUMENT
+    by.place.is_ok() && !matches!(answer, Err(Refusal::Argument))
 }

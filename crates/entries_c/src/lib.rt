@@ -1,9 +1,9 @@
 // The entries as programs in C and Rust link them: the export of each calls the entry of its name, and promises what that promises.
 #![tactic(auto)]
 
-ghost use Rattle.std.specs.Prelude.{◌≡◌, true, ◌&&◌};
+ghost use Rattle.std.specs.Prelude.{◌≡◌, true, ◌&&◌, is_some, unwrap_or};
 ghost use Rattle.rows.specs.Bytes.{byte_of};
-ghost use Rattle.names.specs.Names.{read_name};
+ghost use Rattle.names.specs.Names.{read_name, zero_name};
 ghost use Rattle.calls.specs.Calls.{Open, Close, Select, Start, Continue, Elevate, Drop, End, Record, Kill, SetWord};
 ghost use Rattle.entries_call.specs.CallEntry.{holds_number, CallEntry};
 ghost use Rattle.entries_arguments.specs.Arguments.{session_of, credential_of, is_flag, flag_of, handed, class_of, wanted_of, user_claim_of, claim_of, are_claim_flags};
@@ -55,7 +55,7 @@ pub extern "C" fn slavotuk_start(
     credential: u32,
     name: &[u8],
 ) -> u32
-    ensures { CallEntry (read_name name.now).fits state.old (Start (session_of port session) (credential_of credential) (read_name name.now).name) result state.new }
+    ensures { CallEntry (is_some (read_name name.now)) state.old (Start (session_of port session) (credential_of credential) (unwrap_or (read_name name.now) zero_name)) result state.new }
 {
     entries_unprotected::slavotuk_start(state, port, session, credential, name)
 }
@@ -68,7 +68,7 @@ pub extern "C" fn slavotuk_continue(
     credential: u32,
     name: &[u8],
 ) -> u32
-    ensures { CallEntry (read_name name.now).fits state.old (Continue (session_of port session) (credential_of credential) (read_name name.now).name) result state.new }
+    ensures { CallEntry (is_some (read_name name.now)) state.old (Continue (session_of port session) (credential_of credential) (unwrap_or (read_name name.now) zero_name)) result state.new }
 {
     entries_unprotected::slavotuk_continue(state, port, session, credential, name)
 }
@@ -82,7 +82,7 @@ pub extern "C" fn slavotuk_elevate(
     name: &[u8],
     verdict: u32,
 ) -> u32
-    ensures { CallEntry ((read_name name.now).fits && is_flag verdict) state.old (Elevate (session_of port session) (credential_of credential) (read_name name.now).name (flag_of verdict)) result state.new }
+    ensures { CallEntry (is_some (read_name name.now) && is_flag verdict) state.old (Elevate (session_of port session) (credential_of credential) (unwrap_or (read_name name.now) zero_name) (flag_of verdict)) result state.new }
 {
     entries_unprotected::slavotuk_elevate(state, port, session, credential, name, verdict)
 }
@@ -186,7 +186,7 @@ pub extern "C" fn slavotuk_kill(
     verdict: u32,
     name: &[u8],
 ) -> u32
-    ensures { CallEntry ((read_name name.now).fits && are_claim_flags kind verdict) state.old (Kill (session_of port session) (claim_of kind credential number verdict) (read_name name.now).name) result state.new }
+    ensures { CallEntry (is_some (read_name name.now) && are_claim_flags kind verdict) state.old (Kill (session_of port session) (claim_of kind credential number verdict) (unwrap_or (read_name name.now) zero_name)) result state.new }
 {
     entries_protected::slavotuk_kill(
         state, port, session, kind, credential, number, verdict, name,

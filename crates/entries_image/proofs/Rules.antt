@@ -1,7 +1,8 @@
 -- The laws that close the needs of this crate's functions by `search rules`: each premise is as a place's record has it.
 -- Assumes nothing.
+use Rattle.std.specs.Prelude.{Option, Some, None, unwrap_or, Ok, Err}
 use Prim.Native.Nat.{ℕ}
-use mathlib.Core.Path.{◌≡◌, sym, ◌∙◌}
+use mathlib.Core.Path.{◌≡◌, refl, sym, ap, ◌∙◌}
 use mathlib.Core.Bool.{Bool, true, false, not}
 use mathlib.Core.List.{List}
 use native.Mathlib.Omega.{arith}
@@ -13,12 +14,14 @@ use Rattle.lists.proofs.Tests.{split}
 use Rattle.rows.specs.Rows.{over}
 use Rattle.rows.proofs.Over.{over-short}
 use Rattle.module_state.specs.Numbers.{◌when◌, ◌unless◌, ◌▸◌}
+use Rattle.module_state.specs.Refusals.{refusal_number}
+use Rattle.module_state.specs.declared.Refusal.{Refusal}
 use Rattle.module_state.specs.declared.State.{State}
+use Rattle.module_state.proofs.Refusals.{refusal-some}
 use Rattle.state_layout.specs.Layout.{state_length, state_of, state_written, holds_state}
 use Rattle.state_layout.proofs.Laws.{state-written}
-use Rattle.image.specs.declared.ImageRead.{ImageRead}
-use Rattle.image_damaged.specs.declared.Rescued.{Rescued}
-use Rattle.image_damaged.specs.Rescue.{rescue_number, rescue_answer, RescueWritten}
+use Rattle.image_damaged.specs.declared.Report.{Report}
+use Rattle.image_damaged.specs.Rescue.{Rescued, rescue_number, rescue_answer, rescued_in, RescueWritten}
 use Rattle.image.specs.Image.{image_long, state_image, image_room, lacks_room, is_image, restored, read_image, ImageWritten}
 use Rattle.entries_image.specs.Entries.{image_number, restore_number, ImageEntry, RestoreEntry, RescueEntry}
 
@@ -50,12 +53,12 @@ module _ (state old : List ℕ) {h : Bool} (e : h ≡ holds_state state) where
         (λ t. record { number_is = rw (holds, t); image-is = written.bytes-are ∙ rw (holds, t) (short-kept (state_of state) old t); length-is = z ∙ rw (holds, t) })
         (λ t. absurd (room-some (state_of state) (sym (written.length-is ∙ rw t) ∙ z)))
 
-    pub image-done : (long ≡ 0 → ⊥) → ImageEntry state old 0 new long
+    pub image-done : (long ≡ 0 → ⊥) → {done : ℕ} → done ≡ 0 → ImageEntry state old done new long
     unfolding image_number ◌unless◌ ◌when◌ ◌▸◌
-    image-done z =
+    image-done z d =
         split (lacks_room (state_of state) (length old))
         (λ t. absurd (z (written.length-is ∙ rw t)))
-        (λ t. record { number_is = rw (holds, t); image-is = written.bytes-are ∙ rw (holds, t); length-is = written.length-is ∙ rw (holds, t) })
+        (λ t. record { number_is = d ∙ rw (holds, t); image-is = written.bytes-are ∙ rw (holds, t); length-is = written.length-is ∙ rw (holds, t) })
 
 -- ---- the restorer
 module _ (before image : List ℕ) where
@@ -63,23 +66,26 @@ module _ (before image : List ℕ) where
   unfolding restore_number ◌unless◌ ◌▸◌
   restore-long h = let z = ne_eqb (length before) state_length h in record { number_is = rw z; bytes-are = rw z }
 
-  module _ (k : length before ≡ state_length) {r : ImageRead} (e : r ≡ read_image image) where
-    fits-is : r.fits ≡ is_image image
-    unfolding read_image
-    fits-is = rw e (split (is_image image) (λ t. rw t) (λ t. rw t))
-
-    pub restore-refused : not r.fits ≡ true → RestoreEntry before image 14 before
-    unfolding restore_number ◌unless◌ ◌▸◌
+  module _ (k : length before ≡ state_length) {r : Option State} (e : r ≡ read_image image) where
+    pub restore-refused : r ≡ None → RestoreEntry before image 14 before
+    unfolding restore_number ◌unless◌ ◌▸◌ read_image
     restore-refused n =
-        let z : is_image image ≡ false = sym fits-is ∙ not-true r.fits n in
+        let z : is_image image ≡ false = split (is_image image)
+        (λ t. let some : ◌≡◌ {A = Option State} (Some (restored image)) None = (rw t at (sym e)) ∙ n in absurd cc)
+        (λ t. t)
+        in
         record { number_is = rw (eq-eqb (length before) state_length k, z); bytes-are = rw (eq-eqb (length before) state_length k, z) }
 
-    pub restore-done : not r.fits ≡ false → {after : List ℕ} → after ≡ state_written before r.state → RestoreEntry before image 0 after
+    pub restore-done : {next : State} → r ≡ Some next → {after : List ℕ} → after ≡ state_written before next → {done : ℕ} → done ≡ 0 → RestoreEntry before image done after
     unfolding restore_number ◌unless◌ ◌▸◌ read_image
-    restore-done n w =
-        let z : is_image image ≡ true = sym fits-is ∙ not-false r.fits n in
-        let s : r.state ≡ restored image = rw (e, z) in
-        record { number_is = rw (eq-eqb (length before) state_length k, z); bytes-are = w ∙ rw (state-written before _ k, s, eq-eqb (length before) state_length k, z) }
+    restore-done {next} n w d =
+        let z : is_image image ≡ true = split (is_image image)
+        (λ t. t)
+        (λ t. let none : ◌≡◌ {A = Option State} None (Some next) = (rw t at (sym e)) ∙ n in absurd cc)
+        in
+        let some : ◌≡◌ {A = Option State} (Some (restored image)) (Some next) = (rw z at (sym e)) ∙ n in
+        let s : next ≡ restored image = sym (ap (λ (x : Option State). unwrap_or x next) some) in
+        record { number_is = d ∙ rw (eq-eqb (length before) state_length k, z); bytes-are = w ∙ rw (state-written before _ k, s, eq-eqb (length before) state_length k, z) }
 
 -- ---- rescue
 module _ (bytes old : List ℕ) {answer : Rescued} {new : List ℕ} (w : RescueWritten bytes old answer new) (cleared kept dropped : ℕ) where
@@ -90,9 +96,9 @@ module _ (bytes old : List ℕ) {answer : Rescued} {new : List ℕ} (w : RescueW
   unfolding rescue_answer
   answered = rw w.answer-is (split (eqb number 0) (λ z. rw z (sym (eqb-true number 0 z))) (λ z. rw z))
 
-  pub rescue-refused : (answer.number ≡ 0 → ⊥) → RescueEntry bytes old cleared kept dropped answer.number new answer.length cleared kept dropped
+  refused-rescue : (answer.number ≡ 0 → ⊥) → RescueEntry bytes old cleared kept dropped answer.number new answer.length cleared kept dropped
   unfolding rescue_answer
-  rescue-refused n =
+  refused-rescue n =
       let z : eqb number 0 ≡ false = ne_eqb number 0 (λ e. n (answered ∙ e)) in
       record {
         number_is = answered;
@@ -103,9 +109,9 @@ module _ (bytes old : List ℕ) {answer : Rescued} {new : List ℕ} (w : RescueW
         dropped-is = rw z;
       }
 
-  pub rescue-done : answer.number ≡ 0 → RescueEntry bytes old cleared kept dropped 0 new answer.length answer.cleared answer.kept answer.dropped
+  done-rescue : answer.number ≡ 0 → RescueEntry bytes old cleared kept dropped 0 new answer.length answer.cleared answer.kept answer.dropped
   unfolding rescue_answer
-  rescue-done e =
+  done-rescue e =
       let z : eqb number 0 ≡ true = eq-eqb number 0 (sym answered ∙ e) in
       record {
         number_is = sym e ∙ answered;
@@ -116,4 +122,13 @@ module _ (bytes old : List ℕ) {answer : Rescued} {new : List ℕ} (w : RescueW
         dropped-is = rw (w.answer-is, z);
       }
 
-pub ruleset rules = (std_rules, image-none, image-short, image-done, restore-long, restore-refused, restore-done, rescue-refused, rescue-done)
+module _ (bytes old : List ℕ) {new : List ℕ} (cleared kept dropped : ℕ) where
+  pub rescue-refused : (refusal : Refusal) → RescueWritten bytes old (rescued_in (Err refusal)) new → {byte number : ℕ} → byte ≡ refusal_number refusal → number ≡ byte
+      → RescueEntry bytes old cleared kept dropped number new 0 cleared kept dropped
+  rescue-refused refusal w e q = rw (q, e) (refused-rescue bytes old w cleared kept dropped (refusal-some refusal))
+
+  pub rescue-done : {report : Report} → RescueWritten bytes old (rescued_in (Ok report)) new → {number : ℕ} → number ≡ 0
+      → RescueEntry bytes old cleared kept dropped number new report.length report.cleared report.kept report.dropped
+  rescue-done w e = rw e (done-rescue bytes old w cleared kept dropped refl)
+
+pub ruleset rules = (std_rules, image-none, image-short, image-done, restore-long, restore-refused, restore-done)

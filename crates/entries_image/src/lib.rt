@@ -1,10 +1,10 @@
 // The image of a module as programs in C and Rust write it, restore a module from it and rescue a damaged one: byte slices that they lend.
-#![tactic(auto)]
+#![tactic(auto, using(crate::proofs::Rules::rules))]
 
 ghost use Rattle.std.specs.Prelude.{◌≡◌};
 ghost use Rattle.entries_image.specs.Entries.{ImageEntry, RestoreEntry, RescueEntry};
 
-use module_state::{ARGUMENT, DONE, MESSAGE, ROOM};
+use module_state::{DONE, Refusal};
 use state_layout::STATE_LENGTH;
 
 #[unsafe(no_mangle)]
@@ -13,15 +13,14 @@ pub extern "C" fn slavotuk_image(state: &[u8], image: &mut [u8], long: &mut usiz
 {
     if !state_test::holds(state) {
         *long = 0;
-        return ARGUMENT as u32;
+        return Refusal::Argument as u32;
     }
-    let st = state_read::read(state);
-    let written = image_write::write_image(image, st);
+    let written = image_write::write_image(image, state_read::read(state));
     *long = written;
     if written == 0 {
-        return ROOM as u32;
+        return Refusal::Room as u32;
     }
-    DONE as u32
+    u32::from(DONE)
 }
 
 #[unsafe(no_mangle)]
@@ -29,15 +28,13 @@ pub extern "C" fn slavotuk_restore(state: &mut [u8], image: &[u8]) -> u32
     ensures { RestoreEntry state.old image.now result state.new }
 {
     if state.len() != STATE_LENGTH {
-        return ARGUMENT as u32;
+        return Refusal::Argument as u32;
     }
-    let read = image_read::read_image(image);
-    if !read.fits {
-        return MESSAGE as u32;
-    }
-    let next = read.state;
+    let Some(next) = image_read::read_image(image) else {
+        return Refusal::Message as u32;
+    };
     state_write::write(state, next);
-    DONE as u32
+    u32::from(DONE)
 }
 
 #[unsafe(no_mangle)]
@@ -51,13 +48,17 @@ pub extern "C" fn slavotuk_rescue(
 ) -> u32
     ensures { RescueEntry bytes.now image.old cleared.old kept.old dropped.old result image.new long.new cleared.new kept.new dropped.new }
 {
-    let answer = image_rescue::rescue(bytes, image);
-    *long = answer.length;
-    if answer.number != DONE {
-        return answer.number as u32;
+    match image_rescue::rescue(bytes, image) {
+        Ok(report) => {
+            *long = report.length;
+            *cleared = report.cleared;
+            *kept = report.kept;
+            *dropped = report.dropped;
+            u32::from(DONE)
+        }
+        Err(refusal) => {
+            *long = 0;
+            u32::from(u8::from(refusal))
+        }
     }
-    *cleared = answer.cleared;
-    *kept = answer.kept;
-    *dropped = answer.dropped;
-    DONE as u32
 }

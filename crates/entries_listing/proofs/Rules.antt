@@ -1,7 +1,7 @@
 -- The laws that close the needs of this crate's functions by `search rules`: each premise is as a place's record has it.
 -- Assumes nothing.
 use Prim.Native.Nat.{ℕ}
-use mathlib.Core.Path.{◌≡◌, sym, ◌∙◌}
+use mathlib.Core.Path.{◌≡◌, refl, sym, ◌∙◌}
 use mathlib.Core.Bool.{true, false}
 use mathlib.Core.List.{List}
 use native.Mathlib.Omega.{arith}
@@ -13,32 +13,37 @@ use Rattle.names.specs.Names.{type_number, name_in, name_length}
 use Rattle.names.proofs.Laws.{name-in}
 use Rattle.module_state.specs.Numbers.{◌unless◌, ◌▸◌}
 use Rattle.module_state.proofs.Laws.{stop, pass, unless-true, unless-false}
-use Rattle.listing_messages.specs.Wire.{read_row_at}
-use Rattle.listing_messages.specs.declared.CountRead.{CountRead}
-use Rattle.listing_messages.specs.declared.RequestRead.{RequestRead}
-use Rattle.listing_messages.specs.declared.RowAnswer.{RowAnswer}
+use Rattle.std.specs.Prelude.{Result, Ok, Err}
+use Rattle.names.specs.Names.{zero_row}
+use Rattle.names.specs.declared.Row.{Row}
+use Rattle.module_state.specs.Refusals.{refusal_number, number_of, place_in}
+use Rattle.module_state.specs.declared.Refusal.{Refusal}
+use Rattle.module_state.proofs.Refusals.{refusal-some}
+use Rattle.listing_messages.specs.Wire.{read_row_at, RequestRead, CountRead, RowAnswer, request_in, count_in}
 use Rattle.entries_listing.specs.Messages.{Given, row_entry_number, RowEntry}
 
 -- ---- a value handed out
-pub given-refused : {a n : ℕ} (value before : ℕ) → a ≡ n → (a ≡ 0 → ⊥) → Given n value before a before
-given-refused {a} value before e h = record { number_is = e; value-is = rw (← e, ne_eqb a 0 h) }
+pub given-refused : (r : Refusal) (before : ℕ) {n : ℕ} → n ≡ refusal_number r → Given (refusal_number r) 0 before n before
+given-refused r before e =
+    let z : eqb (refusal_number r) 0 ≡ false = ne_eqb (refusal_number r) 0 (refusal-some r) in
+    record { number_is = e; value-is = rw z }
 
-pub given-done : {a n x value : ℕ} (before : ℕ) → a ≡ n → a ≡ 0 → x ≡ value → Given n value before 0 x
-given-done before e z q = record { number_is = sym z ∙ e; value-is = q ∙ rw (← e, z) }
+pub given-done : (value before : ℕ) {n : ℕ} → n ≡ 0 → Given 0 value before n value
+given-done value before e = record { number_is = e; value-is = refl }
 
-module _ {read other : RequestRead} (e : read ≡ other) where
-  pub request-number : read.number ≡ other.number
-  request-number = rw e
+request-parts : (read : Result ℕ Refusal) → (number_of read ≡ (request_in read).number) × (place_in read ≡ (request_in read).credential)
+request-parts (Ok x) = (refl, refl)
+request-parts (Err r) = (refl, refl)
 
-  pub request-credential : read.credential ≡ other.credential
-  request-credential = rw e
+count-parts : (read : Result ℕ Refusal) → (number_of read ≡ (count_in read).number) × (place_in read ≡ (count_in read).count)
+count-parts (Ok x) = (refl, refl)
+count-parts (Err r) = (refl, refl)
 
-module _ {read other : CountRead} (e : read ≡ other) where
-  pub count-number : read.number ≡ other.number
-  count-number = rw e
+pub request-given : (read : Result ℕ Refusal) {before after n : ℕ} {other : RequestRead} → request_in read ≡ other → Given (number_of read) (place_in read) before n after → Given other.number other.credential before n after
+request-given read e g = rw (← e, ← (request-parts read).0, ← (request-parts read).1) g
 
-  pub count-count : read.count ≡ other.count
-  count-count = rw e
+pub count-given : (read : Result ℕ Refusal) {before after n : ℕ} {other : CountRead} → count_in read ≡ other → Given (number_of read) (place_in read) before n after → Given other.number other.count before n after
+count-given read e g = rw (← e, ← (count-parts read).0, ← (count-parts read).1) g
 
 -- ---- a row handed out
 module _ (message : List ℕ) (at credential kind : ℕ) (name : List ℕ) {read : RowAnswer} (e : read ≡ read_row_at message at) where
@@ -51,18 +56,18 @@ module _ (message : List ℕ) (at credential kind : ℕ) (name : List ℕ) {read
       let z : eqb (row_entry_number message at name) 0 ≡ false = rw (← q) (ne_eqb n 0 h) in
       record { number_is = q; credential-is = rw z; kind-is = rw z; name-is = rw z }
 
-  pub row-refused : (read.number ≡ 0 → ⊥) → RowEntry message at credential kind name read.number credential kind name
-  row-refused h = row_kept (row-number (sym (stop (1 unless eqb (length name) name_length) h))) h
+  row-stays : (read.number ≡ 0 → ⊥) → RowEntry message at credential kind name read.number credential kind name
+  row-stays h = row_kept (row-number (sym (stop (1 unless eqb (length name) name_length) h))) h
 
   module _ (z : read.number ≡ 0) where
-    pub row-nowhere : (length name ≡ name_length → ⊥) → RowEntry message at credential kind name 1 credential kind name
-    row-nowhere h =
+    nowhere : (length name ≡ name_length → ⊥) → RowEntry message at credential kind name 1 credential kind name
+    nowhere h =
         let q : 1 ≡ read.number ▸ 1 unless eqb (length name) name_length = sym (pass (1 unless eqb (length name) name_length) z ∙ unless-false 1 (ne_eqb (length name) name_length h)) in
         row_kept (row-number q) (λ (w : 1 ≡ 0). absurd (omega arith))
 
-    pub row_done : {k : ℕ} {name₁ : List ℕ} → length name ≡ name_length → k ≡ type_number read.row.kind → name₁ ≡ name_in name read.row.name
+    done : {k : ℕ} {name₁ : List ℕ} → length name ≡ name_length → k ≡ type_number read.row.kind → name₁ ≡ name_in name read.row.name
         → RowEntry message at credential kind name 0 read.row.credential.0 k name₁
-    row_done h a b =
+    done h a b =
         let q : 0 ≡ row_entry_number message at name = row-number (sym (pass (1 unless eqb (length name) name_length) z ∙ unless-true 1 (eq-eqb (length name) name_length h))) in
         let g : eqb (row_entry_number message at name) 0 ≡ true = rw (← q) in
         record {
@@ -72,4 +77,16 @@ module _ (message : List ℕ) (at credential kind : ℕ) (name : List ℕ) {read
           name-is = b ∙ rw (g, ← e) (name-in name read.row.name h);
         }
 
-pub ruleset rules = (std_rules, given-refused, given-done, request-number, request-credential, count-number, count-count, row-refused, row-nowhere, row_done)
+module _ (message : List ℕ) (at credential kind : ℕ) (name : List ℕ) where
+  pub row-refused : (r : Refusal) {n : ℕ} → ◌≡◌ {A = RowAnswer} (record { number = refusal_number r; row = zero_row }) (read_row_at message at) → n ≡ refusal_number r → RowEntry message at credential kind name n credential kind name
+  row-refused r e q = rw q (row-stays message at credential kind name e (refusal-some r))
+
+  module _ {row : Row} (e : ◌≡◌ {A = RowAnswer} (record { number = 0; row = row }) (read_row_at message at)) where
+    pub row-nowhere : {n : ℕ} → (length name ≡ name_length → ⊥) → n ≡ 1 → RowEntry message at credential kind name n credential kind name
+    row-nowhere h q = rw q (nowhere message at credential kind name e refl h)
+
+    pub row_done : {n k : ℕ} {name₁ : List ℕ} → length name ≡ name_length → k ≡ type_number row.kind → name₁ ≡ name_in name row.name → n ≡ 0
+        → RowEntry message at credential kind name n row.credential.0 k name₁
+    row_done h a b q = rw q (done message at credential kind name e refl h a b)
+
+pub ruleset rules = (std_rules, given-refused, given-done, request-given, count-given)

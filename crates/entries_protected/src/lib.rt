@@ -1,15 +1,16 @@
 // The protected calls as programs in C and Rust call them: numbers and byte slices, the state in a slice that they lend.
 #![tactic(auto)]
 
-ghost use Rattle.std.specs.Prelude.{◌&&◌};
-ghost use Rattle.names.specs.Names.{read_name};
+ghost use Rattle.std.specs.Prelude.{◌≡◌, ◌&&◌, is_some, unwrap_or};
+ghost use Rattle.names.specs.Names.{read_name, zero_name};
 ghost use Rattle.module_state.specs.Module.{both_words};
+ghost use Rattle.module_state.specs.Refusals.{number_of};
 ghost use Rattle.calls.specs.Calls.{End, Record, Kill, SetWord};
 ghost use Rattle.entries_call.specs.CallEntry.{CallEntry};
 ghost use Rattle.entries_arguments.specs.Arguments.{session_of, class_of, credential_of, wanted_of, is_flag, flag_of, user_claim_of, claim_of, are_claim_flags};
 ghost use Rattle.entries_protected.specs.Listing.{ListEntry};
 
-use module_state::{ARGUMENT, Words};
+use module_state::{Refusal, Words};
 
 #[unsafe(no_mangle)]
 pub extern "C" fn slavotuk_end(
@@ -24,7 +25,7 @@ pub extern "C" fn slavotuk_end(
     ensures { CallEntry (is_flag verdict && is_flag keep) state.old (End (session_of port session) (user_claim_of credential number verdict) (flag_of keep)) result state.new }
 {
     if !entries_call::is_ready(entries_arguments::are_flags(verdict, keep), state) {
-        return ARGUMENT as u32;
+        return Refusal::Argument as u32;
     }
     let st = state_read::read(state);
     entries_call::put_back(
@@ -36,6 +37,16 @@ pub extern "C" fn slavotuk_end(
             keep == 1,
         ),
     )
+}
+
+// The number of what a record answers.
+fn told(answer: Result<(), Refusal>) -> u32
+    ensures { result ≡ number_of answer }
+{
+    match answer {
+        Ok(()) => 0,
+        Err(refusal) => refusal as u32,
+    }
 }
 
 #[unsafe(no_mangle)]
@@ -52,14 +63,14 @@ pub extern "C" fn slavotuk_record(
     ensures { CallEntry (are_claim_flags kind verdict) state.old (Record (session_of port session) (claim_of kind credential number verdict) (class_of class)) result state.new }
 {
     if !entries_arguments::are_claim_flags(kind, verdict) {
-        return ARGUMENT as u32;
+        return Refusal::Argument as u32;
     }
-    entries_record::record(
+    told(entries_record::record(
         state,
         entries_arguments::session_of(port, session),
         entries_arguments::claim_of(kind, credential, number, verdict),
         entries_arguments::class_of(class),
-    ) as u32
+    ))
 }
 
 #[unsafe(no_mangle)]
@@ -79,7 +90,7 @@ pub extern "C" fn slavotuk_list(
 {
     if !entries_call::is_ready(entries_arguments::are_claim_flags(kind, verdict), state) {
         *long = 0;
-        return ARGUMENT as u32;
+        return Refusal::Argument as u32;
     }
     let st = state_read::read(state);
     let listed = listing_call::list(
@@ -89,9 +100,8 @@ pub extern "C" fn slavotuk_list(
         entries_arguments::wanted_of(wanted),
         response,
     );
-    let outcome = listed.outcome;
     *long = listed.length;
-    entries_call::put_back(state, outcome)
+    entries_call::put_back(state, listed.outcome)
 }
 
 #[unsafe(no_mangle)]
@@ -105,14 +115,13 @@ pub extern "C" fn slavotuk_kill(
     verdict: u32,
     name: &[u8],
 ) -> u32
-    ensures { CallEntry ((read_name name.now).fits && are_claim_flags kind verdict) state.old (Kill (session_of port session) (claim_of kind credential number verdict) (read_name name.now).name) result state.new }
+    ensures { CallEntry (is_some (read_name name.now) && are_claim_flags kind verdict) state.old (Kill (session_of port session) (claim_of kind credential number verdict) (unwrap_or (read_name name.now) zero_name)) result state.new }
 {
-    let read = names::read_name(name);
-    if !entries_call::is_ready(
-        entries_arguments::both(read.fits, entries_arguments::are_claim_flags(kind, verdict)),
-        state,
-    ) {
-        return ARGUMENT as u32;
+    let Some(name) = names::read_name(name) else {
+        return Refusal::Argument as u32;
+    };
+    if !entries_call::is_ready(entries_arguments::are_claim_flags(kind, verdict), state) {
+        return Refusal::Argument as u32;
     }
     let st = state_read::read(state);
     entries_call::put_back(
@@ -121,7 +130,7 @@ pub extern "C" fn slavotuk_kill(
             st,
             entries_arguments::session_of(port, session),
             entries_arguments::claim_of(kind, credential, number, verdict),
-            read.name,
+            name,
         ),
     )
 }
@@ -142,11 +151,11 @@ pub extern "C" fn slavotuk_set_word(
     ensures { CallEntry (are_claim_flags kind verdict) state.old (SetWord (session_of port session) (claim_of kind credential number verdict) (credential_of target) (both_words word second)) result state.new }
 {
     if !entries_call::is_ready(entries_arguments::are_claim_flags(kind, verdict), state) {
-        return ARGUMENT as u32;
+        return Refusal::Argument as u32;
     }
     let words = Words {
         grant: word,
-        second: second,
+        second,
     };
     let st = state_read::read(state);
     entries_call::put_back(

@@ -7,6 +7,7 @@ use mathlib.Core.Bool.{Bool, true, false, ◌&&◌, ◌||◌}
 use mathlib.Core.List.{List, [], ◌∷◌, ◌++◌, map}
 use lib.Dec.{eqb}
 use lib.ListN.{length, get_or, take, drop, set, replicate}
+use Rattle.std.specs.Prelude.{Option, Some, is_some}
 use Rattle.lists.specs.Lists.{any, padded}
 use Rattle.rows.specs.Bytes.{bytes_of, number_of}
 use Rattle.message_formats.specs.Formats.{form_of, meant, is_allowed, fields_of, rest_of}
@@ -15,23 +16,22 @@ use Rattle.message_fields.specs.Fields.{fields, long_of, values_in, are_allowed,
 use Rattle.message_pieces.specs.declared.Piece.{Piece}
 use Rattle.message_pieces.specs.Pieces.{rest_long, piece_long, is_piece, piece_in, first, second, behind, is_part, part_long, are_parts, fits_rest}
 use Rattle.message_codes.specs.Codes.{find, operations, errors, requests, responses, shape_of}
-use Rattle.message_read.specs.declared.MessageRead.{MessageRead}
 use Rattle.message_fields_write.specs.Bodies.{body_bytes}
 use Rattle.message_write.specs.Written.{shape_for, message_bytes, carries, carries_piece}
-use Rattle.message_read.specs.Messages.{shape_in, head_of, message_values, is_message, read_message}
+use Rattle.message_read.specs.Messages.{shape_in, head_of, message_values, is_message, MessageAnswer, read_message}
 
 -- ---- the message of a line, and what reading it has to answer
 abbrev pub bytes : Line → List ℕ
 bytes l = message_bytes l.code l.values l.follows
 
-abbrev pub answer : Line → MessageRead
+abbrev pub answer : Line → MessageAnswer
 answer l = record { number = 0; values = l.values; rest = l.rest_begins }
 
 -- ---- the same with another value in one of its fields: whether it is written, and whether it is read
 abbrev pub written_with : Line → ℕ → ℕ → Bool
 written_with l at value = carries l.code (set l.values at value) l.follows
 
-abbrev pub read_as : MessageRead → ℕ → ℕ → Bool
+abbrev pub read_as : MessageAnswer → ℕ → ℕ → Bool
 read_as read at value = eqb read.number 0 && eqb (get_or read.values at 0) value
 
 abbrev pub read_with : Line → ℕ → ℕ → Bool
@@ -46,8 +46,8 @@ any_refused taken at (h ∷ hs) = any (taken at) h.refused || any_refused taken 
 abbrev pub piece_bytes_of : Line → List ℕ
 piece_bytes_of l = body_bytes l.shape l.values l.follows
 
-abbrev pub piece_answer : Line → Piece
-piece_answer l = record { fits = true; values = l.values; rest = l.rest_begins; long = l.long }
+abbrev pub piece_answer : Line → Option Piece
+piece_answer l = Some (record { values = l.values; rest = l.rest_begins; long = l.long })
 
 abbrev pub piece_written_with : Line → ℕ → ℕ → Bool
 piece_written_with l at value = carries_piece l.shape (set l.values at value) l.follows
@@ -67,7 +67,7 @@ pub record ByName : Type 0 where
   -- the pieces
   pub piece-carried : map (λ (l : Line). carries_piece l.shape l.values l.follows) piece_lines ≡ replicate 5 true
   pub piece-read-back : map (λ (l : Line). piece_in l.shape (piece_bytes_of l)) piece_lines ≡ map piece_answer piece_lines
-  pub piece-shorter-refused : map (λ (l : Line). (piece_in l.shape (take (l.long - 1) (piece_bytes_of l))).fits) piece_lines ≡ replicate 5 false
+  pub piece-shorter-refused : map (λ (l : Line). is_some (piece_in l.shape (take (l.long - 1) (piece_bytes_of l)))) piece_lines ≡ replicate 5 false
   pub piece-beside-not-written : map (λ (l : Line). any_refused (piece_written_with l) 0 l.fields) piece_lines ≡ replicate 5 false
 
 pub by_name : ByName

@@ -7,6 +7,8 @@ use mathlib.Core.List.{List}
 use lib.Dec.{ltb}
 use lib.ListN.{length, take, drop}
 use borrow.Author.Tests.{eq-eqb, eqb-true}
+use Rattle.std.specs.Prelude.{Some, is_some}
+use Rattle.std.proofs.lemmas.Option.{same_Some}
 use Rattle.rows.specs.Bytes.{byte_of}
 use Rattle.module_state.specs.Numbers as No
 use Rattle.module_state.specs.Numbers.{◌unless◌, ◌▸◌}
@@ -103,9 +105,9 @@ module _ (kind : ℕ) (values rest old : List ℕ) {before answer written : ℕ}
   piece-reads = rw piece-buffer-is (piece-buffer-is-read (piece_of kind) values rest old put-accepted seven-values)
 
   stands : is_piece (piece_of kind) new ≡ true
-  stands = sym (piece-fits (piece_of kind) new) ∙ ap (λ (p : Piece). p.fits) piece-reads.answer
+  stands = sym (piece-fits (piece_of kind) new) ∙ ap is_some piece-reads.answer
 
-  piece-told : piece_in (piece_of kind) new ≡ record { fits = true; values = values_of (piece_of kind) new; rest = head_long (piece_of kind); long = piece_long (piece_of kind) new }
+  piece-told : piece_in (piece_of kind) new ≡ Some (record { values = values_of (piece_of kind) new; rest = head_long (piece_of kind); long = piece_long (piece_of kind) new })
   piece-told = piece-taken (piece_of kind) new stands
 
   module _ (lent : List ℕ) {begin next answer₁ begin₁ next₁ : ℕ} {lent₁ : List ℕ} (h : length lent ≡ 7)
@@ -120,7 +122,7 @@ module _ (kind : ℕ) (values rest old : List ℕ) {before answer written : ℕ}
     pub piece-same-values : lent₁ ≡ values
     piece-same-values =
         r.values-are ∙ given-done (values_of (piece_of kind) new) lent piece-read-done
-        ∙ ap (λ (p : Piece). p.values) (sym piece-told ∙ piece-reads.answer)
+        ∙ ap (λ (p : Piece). p.values) (same_Some _ _ (sym piece-told ∙ piece-reads.answer))
 
     pub piece-same-rest : take (length rest) (drop begin₁ new) ≡ rest
     piece-same-rest =
@@ -131,5 +133,5 @@ module _ (kind : ℕ) (values rest old : List ℕ) {before answer written : ℕ}
     unfolding body_long
     piece-same-end =
         r.next-is ∙ given-done (piece_long (piece_of kind) new) next piece-read-done
-        ∙ ap (λ (p : Piece). p.long) (sym piece-told ∙ piece-reads.answer)
+        ∙ ap (λ (p : Piece). p.long) (same_Some _ _ (sym piece-told ∙ piece-reads.answer))
         ∙ sym (w.written_is ∙ given-done (body_long (piece_of kind) rest) before put-done)

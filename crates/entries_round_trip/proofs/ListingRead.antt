@@ -22,7 +22,7 @@ use Rattle.module_state.specs.Numbers.{◌unless◌, ◌▸◌}
 use Rattle.module_state.proofs.Laws.{clear-unless}
 use Rattle.calls.specs.Listing.{message_length}
 use Rattle.listing_messages.specs.Wire.{is_headed, head_number, request_number, read_request, is_listing, count_number, read_count, row_part, row_number, read_row_at}
-use Rattle.listing_messages.specs.declared.CountRead.{CountRead}
+use Rattle.listing_messages.specs.Wire.{CountRead}
 use Rattle.message_formats.specs.declared.Field.{Field}
 use Rattle.message_formats.specs.declared.Shape.{Shape}
 use Rattle.message_formats.specs.declared.Shape.TheVariants.{OneCredential, ProcessList}

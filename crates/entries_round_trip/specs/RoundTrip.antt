@@ -1,5 +1,5 @@
 -- What was written is read: what that says of a message, of a piece, and of a buffer that a writer was lent.
-use Rattle.std.specs.Prelude.{ℕ, ◌+◌, ◌≡◌, true, List, map, length, get_or, take, drop}
+use Rattle.std.specs.Prelude.{ℕ, ◌+◌, ◌≡◌, List, map, length, get_or, take, drop, Some}
 use Rattle.lists.specs.Lists.{join}
 use Rattle.module_state.specs.Numbers as No
 use Rattle.message_formats.specs.declared.Shape.{Shape}
@@ -24,7 +24,7 @@ pub record ListReadsAs (code : ℕ) (values : List ℕ) (part : Part) (at : ℕ)
 
 -- a piece at the front of bytes is read with these values, and behind its fields stand these bytes
 pub record PieceReadsAs (shape : Shape) (values rest b : List ℕ) : Type 0 where
-  pub answer : piece_in shape b ≡ record { fits = true; values = values; rest = head_long shape; long = head_long shape + length rest }
+  pub answer : piece_in shape b ≡ Some (record { values = values; rest = head_long shape; long = head_long shape + length rest })
   pub behind : take (length rest) (drop (head_long shape) b) ≡ rest
 
 -- ---- what a writer leaves in the buffer that it was lent: of a message, and of a piece

@@ -12,19 +12,21 @@ use borrow.Author.Tests.{not-true, not-false, eqb-true, eq-eqb, ne_eqb}
 use Rattle.lists.proofs.Loops.{Copied, copied_none, copied_more, copied_all}
 use Rattle.lists.proofs.Tests.{and_right, and_left}
 use Rattle.names.specs.declared.Credential.{Credential}
-use Rattle.names.specs.declared.NameRead.{NameRead}
+use Rattle.std.specs.Prelude.{Option, Some, None, is_some, unwrap_or}
+use mathlib.Core.Bool.{◌&&◌}
+use Rattle.names.specs.Names.{zero_name}
+use Rattle.names.specs.declared.Name.{Name}
 use Rattle.names.specs.declared.Session.{Session}
 use Rattle.module_state.specs.Module.{both_words, unprovisioned, credential_count}
 use Rattle.module_state.specs.Numbers.{◌unless◌}
 use Rattle.module_state.specs.declared.Grants.{Grants}
 use Rattle.module_state.specs.declared.State.{State}
-use Rattle.calls.specs.Calls.{Open, Close, Select, Start, Continue, Elevate, Drop, fresh}
+use Rattle.calls.specs.Calls.{Call, Open, Close, Select, Start, Continue, Elevate, Drop, fresh}
 use Rattle.state_layout.specs.Layout.{state_length, state_written, holds_state}
 use Rattle.state_layout.proofs.Laws.{state-written}
-use Rattle.entries_call.specs.CallEntry.{holds_number}
-use Rattle.entries_call.proofs.Laws.{call_none, call-made}
+use Rattle.entries_call.specs.CallEntry.{is_made, holds_number, CallEntry}
+use Rattle.entries_call.proofs.Laws.{entry-none, call_none, call-made}
 use Rattle.entries_arguments.specs.Arguments.{Handed, handed, pairs_from, pairs_of, are_pairs}
-use Rattle.entries_arguments.proofs.Rules.{fine-fits, fine-both}
 use Rattle.entries_unprotected.specs.Fresh.{can_fresh, FreshEntry}
 
 -- ---- calls with equal arguments
@@ -41,15 +43,33 @@ module _ {s t : Session} (e : s ≡ t) where
   pub same_drop : Drop s ≡ Drop t
   same_drop = rw e
 
-  module _ {a b : Credential} (f : a ≡ b) {read other : NameRead} (g : read ≡ other) where
-    pub same_start : Start s a read.name ≡ Start t b other.name
-    same_start = rw (e, f, g)
+  module _ {a b : Credential} (f : a ≡ b) {got read : Option Name} (r : got ≡ read) {name : Name} (g : got ≡ Some name) where
+    pub same_start : Start s a name ≡ Start t b (unwrap_or read zero_name)
+    same_start = rw (e, f, ← r, g)
 
-    pub same-continue : Continue s a read.name ≡ Continue t b other.name
-    same-continue = rw (e, f, g)
+    pub same-continue : Continue s a name ≡ Continue t b (unwrap_or read zero_name)
+    same-continue = rw (e, f, ← r, g)
 
-    pub same-elevate : (verdict : Bool) → Elevate s a read.name verdict ≡ Elevate t b other.name verdict
-    same-elevate verdict = rw (e, f, g)
+    pub same-elevate : (verdict : Bool) → Elevate s a name verdict ≡ Elevate t b (unwrap_or read zero_name) verdict
+    same-elevate verdict = rw (e, f, ← r, g)
+
+-- ---- a name that is read, or none: no call is made
+module _ {got read : Option Name} (r : got ≡ read) where
+  module _ {name : Name} (g : got ≡ Some name) where
+    pub some-name : true ≡ is_some read
+    some-name = rw (← r, g)
+
+    pub some-both : {a b : Bool} → a ≡ b → a ≡ is_some read && b
+    some-both f = rw (← r, g) f
+
+  module _ (before : List ℕ) (call : Call) (g : got ≡ None) where
+    pub none-name : CallEntry (is_some read) before call 1 before
+    unfolding is_made
+    none-name = entry-none (is_some read) before call (rw (← r, g))
+
+    pub none-both : (b : Bool) → CallEntry (is_some read && b) before call 1 before
+    unfolding is_made
+    none-both b = entry-none (is_some read && b) before call (rw (← r, g))
 
 -- ---- a fresh module
 pub record Eight (pairs : Handed) : Type 0 where
@@ -155,4 +175,4 @@ module _ (bytes : List ℕ) {h : Bool} (e : h ≡ holds_state bytes) where
   unfolding holds_number ◌unless◌
   holds-none t = rw (sym e ∙ t)
 
-pub ruleset rules = (std_rules, call_none, call-made, same-open, same-close, same_select, same_drop, same_start, same-continue, same-elevate, fine-fits, fine-both, flags-eight, words-eight, seconds-eight, pairs-begin, pairs-on, pairs-all, pairs-tested, fresh-long, fresh-refused, fresh-made, holds-done, holds-none)
+pub ruleset rules = (std_rules, call_none, call-made, same-open, same-close, same_select, same_drop, same_start, same-continue, same-elevate, some-name, some-both, none-name, none-both, flags-eight, words-eight, seconds-eight, pairs-begin, pairs-on, pairs-all, pairs-tested, fresh-long, fresh-refused, fresh-made, holds-done, holds-none)

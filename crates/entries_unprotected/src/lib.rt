@@ -2,16 +2,16 @@
 // whether a slice holds a state, and the library's version.
 #![tactic(auto)]
 
-ghost use Rattle.std.specs.Prelude.{◌≡◌, true, ◌&&◌};
+ghost use Rattle.std.specs.Prelude.{◌≡◌, true, ◌&&◌, is_some, unwrap_or};
 ghost use Rattle.rows.specs.Bytes.{byte_of};
-ghost use Rattle.names.specs.Names.{read_name};
+ghost use Rattle.names.specs.Names.{read_name, zero_name};
 ghost use Rattle.calls.specs.Calls.{Open, Close, Select, Start, Continue, Elevate, Drop};
 ghost use Rattle.entries_call.specs.CallEntry.{holds_number, CallEntry};
 ghost use Rattle.entries_arguments.specs.Arguments.{session_of, credential_of, is_flag, flag_of, handed, pairs_from, are_pairs};
 ghost use Rattle.entries_unprotected.specs.Fresh.{FreshEntry};
 ghost use Rattle.entries_unprotected.specs.Version.{library_version};
 
-use module_state::{ARGUMENT, CREDENTIALS, DONE, Grants, UNPROVISIONED, Words};
+use module_state::{CREDENTIALS, DONE, Grants, Refusal, UNPROVISIONED, Words};
 use state_layout::STATE_LENGTH;
 
 // ---- the calls
@@ -21,7 +21,7 @@ pub extern "C" fn slavotuk_open(state: &mut [u8], port: u32, session: u32) -> u3
     ensures { CallEntry true state.old (Open (session_of port session)) result state.new }
 {
     if !entries_call::is_ready(true, state) {
-        return ARGUMENT as u32;
+        return Refusal::Argument as u32;
     }
     let st = state_read::read(state);
     entries_call::put_back(
@@ -35,7 +35,7 @@ pub extern "C" fn slavotuk_close(state: &mut [u8], port: u32, session: u32) -> u
     ensures { CallEntry true state.old (Close (session_of port session)) result state.new }
 {
     if !entries_call::is_ready(true, state) {
-        return ARGUMENT as u32;
+        return Refusal::Argument as u32;
     }
     let st = state_read::read(state);
     entries_call::put_back(
@@ -49,7 +49,7 @@ pub extern "C" fn slavotuk_select(state: &mut [u8], port: u32, session: u32, ver
     ensures { CallEntry true state.old (Select (session_of port session) (byte_of version)) result state.new }
 {
     if !entries_call::is_ready(true, state) {
-        return ARGUMENT as u32;
+        return Refusal::Argument as u32;
     }
     let st = state_read::read(state);
     entries_call::put_back(
@@ -70,11 +70,13 @@ pub extern "C" fn slavotuk_start(
     credential: u32,
     name: &[u8],
 ) -> u32
-    ensures { CallEntry (read_name name.now).fits state.old (Start (session_of port session) (credential_of credential) (read_name name.now).name) result state.new }
+    ensures { CallEntry (is_some (read_name name.now)) state.old (Start (session_of port session) (credential_of credential) (unwrap_or (read_name name.now) zero_name)) result state.new }
 {
-    let read = names::read_name(name);
-    if !entries_call::is_ready(read.fits, state) {
-        return ARGUMENT as u32;
+    let Some(name) = names::read_name(name) else {
+        return Refusal::Argument as u32;
+    };
+    if !entries_call::is_ready(true, state) {
+        return Refusal::Argument as u32;
     }
     let st = state_read::read(state);
     entries_call::put_back(
@@ -83,7 +85,7 @@ pub extern "C" fn slavotuk_start(
             st,
             entries_arguments::session_of(port, session),
             entries_arguments::credential_of(credential),
-            read.name,
+            name,
         ),
     )
 }
@@ -96,11 +98,13 @@ pub extern "C" fn slavotuk_continue(
     credential: u32,
     name: &[u8],
 ) -> u32
-    ensures { CallEntry (read_name name.now).fits state.old (Continue (session_of port session) (credential_of credential) (read_name name.now).name) result state.new }
+    ensures { CallEntry (is_some (read_name name.now)) state.old (Continue (session_of port session) (credential_of credential) (unwrap_or (read_name name.now) zero_name)) result state.new }
 {
-    let read = names::read_name(name);
-    if !entries_call::is_ready(read.fits, state) {
-        return ARGUMENT as u32;
+    let Some(name) = names::read_name(name) else {
+        return Refusal::Argument as u32;
+    };
+    if !entries_call::is_ready(true, state) {
+        return Refusal::Argument as u32;
     }
     let st = state_read::read(state);
     entries_call::put_back(
@@ -109,7 +113,7 @@ pub extern "C" fn slavotuk_continue(
             st,
             entries_arguments::session_of(port, session),
             entries_arguments::credential_of(credential),
-            read.name,
+            name,
         ),
     )
 }
@@ -123,14 +127,13 @@ pub extern "C" fn slavotuk_elevate(
     name: &[u8],
     verdict: u32,
 ) -> u32
-    ensures { CallEntry ((read_name name.now).fits && is_flag verdict) state.old (Elevate (session_of port session) (credential_of credential) (read_name name.now).name (flag_of verdict)) result state.new }
+    ensures { CallEntry (is_some (read_name name.now) && is_flag verdict) state.old (Elevate (session_of port session) (credential_of credential) (unwrap_or (read_name name.now) zero_name) (flag_of verdict)) result state.new }
 {
-    let read = names::read_name(name);
-    if !entries_call::is_ready(
-        entries_arguments::both(read.fits, entries_arguments::is_flag(verdict)),
-        state,
-    ) {
-        return ARGUMENT as u32;
+    let Some(name) = names::read_name(name) else {
+        return Refusal::Argument as u32;
+    };
+    if !entries_call::is_ready(entries_arguments::is_flag(verdict), state) {
+        return Refusal::Argument as u32;
     }
     let st = state_read::read(state);
     entries_call::put_back(
@@ -139,7 +142,7 @@ pub extern "C" fn slavotuk_elevate(
             st,
             entries_arguments::session_of(port, session),
             entries_arguments::credential_of(credential),
-            read.name,
+            name,
             verdict == 1,
         ),
     )
@@ -150,7 +153,7 @@ pub extern "C" fn slavotuk_drop(state: &mut [u8], port: u32, session: u32) -> u3
     ensures { CallEntry true state.old (Drop (session_of port session)) result state.new }
 {
     if !entries_call::is_ready(true, state) {
-        return ARGUMENT as u32;
+        return Refusal::Argument as u32;
     }
     let st = state_read::read(state);
     entries_call::put_back(
@@ -166,8 +169,7 @@ fn pairs_of(provisioned: &[u8], words: &[u32], seconds: &[u32]) -> [Grants; CRED
     ensures { result ≡ pairs_from provisioned.now words.now seconds.now }
 {
     let mut pairs = [UNPROVISIONED; CREDENTIALS];
-    let mut i: usize = 0;
-    while i < CREDENTIALS {
+    for i in 0..CREDENTIALS {
         pairs[i] = Grants {
             provisioned: provisioned[i] == 1,
             words: Words {
@@ -175,7 +177,6 @@ fn pairs_of(provisioned: &[u8], words: &[u32], seconds: &[u32]) -> [Grants; CRED
                 second: seconds[i],
             },
         };
-        i += 1;
     }
     pairs
 }
@@ -190,10 +191,10 @@ pub extern "C" fn slavotuk_fresh(
     ensures { FreshEntry state.old (handed provisioned.now words.now seconds.now) result state.new }
 {
     if state.len() != STATE_LENGTH {
-        return ARGUMENT as u32;
+        return Refusal::Argument as u32;
     }
     if !entries_arguments::are_pairs(provisioned, words, seconds) {
-        return ARGUMENT as u32;
+        return Refusal::Argument as u32;
     }
     let next = calls_effects::fresh(pairs_of(provisioned, words, seconds));
     state_write::write(state, next);
@@ -209,7 +210,7 @@ pub extern "C" fn slavotuk_holds(state: &[u8]) -> u32
     if state_test::holds(state) {
         return DONE as u32;
     }
-    ARGUMENT as u32
+    Refusal::Argument as u32
 }
 
 // major * 65536 + minor * 256 + patch: include/slavotuk.h and host/Cargo.toml have the same version

@@ -9,17 +9,17 @@ use Rattle.rows.specs.Rows.{rows}
 use Rattle.module_state.specs.Module.{provisioned, has_bit}
 use Rattle.image.proofs.Examples.{computed as image-computed}
 use Rattle.image_figures.specs.Figures.{largest, classes_below, classes_held, classes_granted, largest_next, figures_in, is_said, size_said, is_good, line_of}
-use Rattle.image_figures.specs.declared.Line.TheVariants.{Bad, Good}
+use Rattle.std.specs.Prelude.{Some, None}
 use Rattle.figures.specs.Drawer.{first_sheet, after_sheet, first_sheets, lines_of, good_ones, totals_of, is_past, printed_of}
 use Rattle.figures.specs.Text.{digits_up_to, number_text, number_then, three_text, line_text, text_of}
 use Rattle.figures.specs.declared.Output.{Output}
 use Rattle.figures.specs.declared.Output.TheVariants.{Image, Total}
 
 abbrev good : ℕ → ℕ → ℕ → Output
-good rows classes largest = Image (Good (record { rows = rows; classes = classes; largest = largest }))
+good rows classes largest = Image (Some (record { rows = rows; classes = classes; largest = largest }))
 
 abbrev bad : Output
-bad = Image Bad
+bad = Image None
 
 abbrev total : ℕ → ℕ → ℕ → ℕ → Output
 total images good rows classes = Total (record { images = images; good = good; rows = rows; classes = classes })

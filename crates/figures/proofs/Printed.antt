@@ -10,7 +10,7 @@ use lib.Dec.{eqb, ltb}
 use lib.ListN.{length, take, length-append}
 use Rattle.lists.proofs.Tests.{split}
 use Rattle.image_figures.specs.Figures.{line_of}
-use Rattle.image_figures.specs.declared.Line.{Line}
+use Rattle.image_figures.specs.Figures.{Line}
 use Rattle.figures.specs.Drawer.{first_sheet, after_sheet, first_sheets, lines_of, totals_of, totals_with, most_images, is_past, printed_of, step_of, After, OfSheets}
 use Rattle.figures.specs.declared.Totals.{Totals}
 use Rattle.figures.specs.declared.Step.{Step}

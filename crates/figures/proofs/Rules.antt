@@ -21,12 +21,12 @@ use Rattle.table.specs.Table.{places}
 use Rattle.module_state.specs.Module.{credential_count}
 use Rattle.image_figures.specs.Figures.{class_count, line_of, size_said}
 use Rattle.image_figures.specs.declared.Figures.{Figures}
-use Rattle.image_figures.specs.declared.Line.{Line}
-use Rattle.image_figures.specs.declared.Line.TheVariants.{Bad, Good}
+use Rattle.image_figures.specs.Figures.{Line}
+use Rattle.std.specs.Prelude.{Some, None}
 use Rattle.image_figures.proofs.Laws.{Small, SmallLine, line_small}
 use Rattle.figures.specs.Drawer.{Sheet, lines_of, good_ones, totals_of, totals_with, most_images, step_of, After, OfSheets, OfSheet}
 use Rattle.figures.specs.Drawer.{stop_of, is_failure, FilledTo, Buffers, sheet_in, SheetIn, has_failed, is_printed, is_last, told_of, SaidAs, turn_of, Turned}
-use Rattle.figures.proofs.Texts.{spelled, text-begin, text-more, text-all, text-full, text-none, number-added, three-added, line-bad, line-good, text-image, text-total, text-past}
+use Rattle.figures.proofs.Texts.{spelled, text-put, text-none, number-added, three-added, line-bad, line-good, text-image, text-total, text-past}
 use Rattle.figures.specs.declared.Totals.{Totals}
 use Rattle.figures.specs.declared.Turn.{Turn}
 use Rattle.figures.specs.declared.Step.{Step}
@@ -48,20 +48,20 @@ sum_more g (y ∷ l) x = rw (sum_more g l x) (omega arith)
 good-append : (a b : List Line) → good_ones (a ++ b) ≡ good_ones a ++ good_ones b
 unfolding good_ones
 good-append [] b = refl
-good-append (Bad ∷ a) b = good-append a b
-good-append (Good f ∷ a) b = ap (λ (l : List Figures). f ∷ l) (good-append a b)
+good-append (None ∷ a) b = good-append a b
+good-append (Some f ∷ a) b = ap (λ (l : List Figures). f ∷ l) (good-append a b)
 
-totals-bad : (l : List Line) → ◌≡◌ {A = Totals} (record { images = (totals_of l).images + 1; good = (totals_of l).good; rows = (totals_of l).rows; classes = (totals_of l).classes }) (totals_of (l ++ (Bad ∷ [])))
+totals-bad : (l : List Line) → ◌≡◌ {A = Totals} (record { images = (totals_of l).images + 1; good = (totals_of l).good; rows = (totals_of l).rows; classes = (totals_of l).classes }) (totals_of (l ++ (None ∷ [])))
 unfolding totals_of good_ones
 totals-bad l =
-    let e : good_ones (l ++ (Bad ∷ [])) ≡ good_ones l = good-append l (Bad ∷ []) ∙ append-nil (good_ones l) in
-    rw (length-append l (Bad ∷ []), e)
+    let e : good_ones (l ++ (None ∷ [])) ≡ good_ones l = good-append l (None ∷ []) ∙ append-nil (good_ones l) in
+    rw (length-append l (None ∷ []), e)
 
-totals-good : (l : List Line) (f : Figures) → ◌≡◌ {A = Totals} (record { images = (totals_of l).images + 1; good = (totals_of l).good + 1; rows = (totals_of l).rows + f.rows; classes = (totals_of l).classes + f.classes }) (totals_of (l ++ (Good f ∷ [])))
+totals-good : (l : List Line) (f : Figures) → ◌≡◌ {A = Totals} (record { images = (totals_of l).images + 1; good = (totals_of l).good + 1; rows = (totals_of l).rows + f.rows; classes = (totals_of l).classes + f.classes }) (totals_of (l ++ (Some f ∷ [])))
 unfolding totals_of good_ones
 totals-good l f =
-    let e : good_ones (l ++ (Good f ∷ [])) ≡ good_ones l ++ (f ∷ []) = good-append l (Good f ∷ []) in
-    rw (length-append l (Good f ∷ []), e, length-append (good_ones l) (f ∷ []), sum_more (λ (f : Figures). f.rows) (good_ones l) f, sum_more (λ (f : Figures). f.classes) (good_ones l) f)
+    let e : good_ones (l ++ (Some f ∷ [])) ≡ good_ones l ++ (f ∷ []) = good-append l (Some f ∷ []) in
+    rw (length-append l (Some f ∷ []), e, length-append (good_ones l) (f ∷ []), sum_more (λ (f : Figures). f.rows) (good_ones l) f, sum_more (λ (f : Figures). f.classes) (good_ones l) f)
 
 images-of : (l : List Line) → (totals_of l).images ≡ length l
 unfolding totals_of
@@ -75,8 +75,8 @@ pub record Bounded (t : Totals) : Type 0 where
 
 bounded-more : (x : Line) (l : List Line) → SmallLine x → Bounded (totals_of l) → Bounded (totals_of (x ∷ l))
 unfolding totals_of good_ones sum
-bounded-more Bad l s v = record { good = omega (arith, v.good); rows = omega (arith, v.rows); classes = omega (arith, v.classes) }
-bounded-more (Good f) l s v = record { good = omega (arith, v.good); rows = omega (arith, s.rows_few, v.rows); classes = omega (arith, s.classes-few, v.classes) }
+bounded-more None l s v = record { good = omega (arith, v.good); rows = omega (arith, v.rows); classes = omega (arith, v.classes) }
+bounded-more (Some f) l s v = record { good = omega (arith, v.good); rows = omega (arith, s.rows_few, v.rows); classes = omega (arith, s.classes-few, v.classes) }
 
 bounded : (l : List Sheet) → Bounded (totals_of (lines_of l))
 unfolding lines_of totals_of good_ones sum
@@ -98,7 +98,7 @@ module _ {t : Totals} (v : OfSheets t) where
     pub good-fits : Fits w64 (t.good + 1)
     good-fits = omega (arith, bounds.good)
 
-    module _ {x : Line} (is : OfSheet x) {f : Figures} (e : x ≡ Good f) where
+    module _ {x : Line} (is : OfSheet x) {f : Figures} (e : x ≡ Some f) where
       small : Small f
       small = rw (sym is.is ∙ e) at (line_small is.sheet.said is.sheet.image)
 
@@ -110,11 +110,11 @@ module _ {t : Totals} (v : OfSheets t) where
 
 -- ---- the two steps
 module _ (t : Totals) {x : Line} where
-  pub counted-bad : x ≡ Bad → After t (totals_with x) (record { images = t.images + 1; good = t.good; rows = t.rows; classes = t.classes })
+  pub counted-bad : x ≡ None → After t (totals_with x) (record { images = t.images + 1; good = t.good; rows = t.rows; classes = t.classes })
   unfolding totals_with
   counted-bad e = record { is = λ l h. rw (h, e) (totals-bad l) }
 
-  pub counted-good : {f : Figures} → x ≡ Good f → After t (totals_with x) (record { images = t.images + 1; good = t.good + 1; rows = t.rows + f.rows; classes = t.classes + f.classes })
+  pub counted-good : {f : Figures} → x ≡ Some f → After t (totals_with x) (record { images = t.images + 1; good = t.good + 1; rows = t.rows + f.rows; classes = t.classes + f.classes })
   unfolding totals_with
   counted-good {f} e = record { is = λ l h. rw (h, e) (totals-good l f) }
 
@@ -343,4 +343,4 @@ turns-less {turn = turn} m v s =
     (λ e. rw e (omega (arith, one-image v s e, images-few (turned-sheets v s))))
     (λ e. rw e (omega arith)))
 
-pub ruleset rules = (std_rules, good-fits, rows_fit, classes-fit, counted-bad, counted-good, step-total, step_past, step-few, step_line, filling-begin, length-take_of_le, stop-failed, stop-ended, filled-short, filled-whole, buffers-kept, size-long, sheet-read, said-long, failed-either, of-sheet, spelled, text-begin, text-more, text-all, text-full, text-none, number-added, three-added, line-bad, line-good, text-image, text-total, text-past, tells-nothing, tells-it, turned-unread, turned-read, turned-sheets, turned-last, no_lines, report-begin, last-said, turns-less)
+pub ruleset rules = (std_rules, good-fits, rows_fit, classes-fit, counted-bad, counted-good, step-total, step_past, step-few, step_line, filling-begin, length-take_of_le, stop-failed, stop-ended, filled-short, filled-whole, buffers-kept, size-long, sheet-read, said-long, failed-either, of-sheet, spelled, text-put, text-none, number-added, three-added, line-bad, line-good, text-image, text-total, text-past, tells-nothing, tells-it, turned-unread, turned-read, turned-sheets, turned-last, no_lines, report-begin, last-said, turns-less)

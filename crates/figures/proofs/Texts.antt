@@ -10,15 +10,19 @@ use mir.Syntax.{w64}
 use mir.Val.{Fits}
 use borrow.Author.Tests.{lt-ltb, le-ltb, ltb-true, ltb-false}
 use lib.Dec.{ltb}
-use lib.ListN.{length, take, set, get_or, length-set, length-append}
-use lib.Seq.{take_all, take-suc, take-suc-set, take-append-add}
-use Rattle.lists.proofs.Tests.{split}
+use lib.ListN.{length, take, drop, length-append}
+use lib.Seq.{take_all, take_at, length-take-le, take-append-add}
+use borrow.Rule.Slice.PartMut.{put_mid}
+use Rattle.std.specs.Prelude.{min}
+use Rattle.rows.specs.Rows.{over}
+use Rattle.rows.proofs.Over.{over-part, over-room, over-length}
+use Rattle.lists.proofs.Tests.{split, below}
 use Rattle.io.specs.Counts.{IsPrefixLen}
 use Rattle.io.specs.Digits.{hex_digit_ascii, last_digits, IsDigitCount}
 use Rattle.io.proofs.Counting.{prefix_len_of_le}
 use Rattle.image_figures.specs.declared.Figures.{Figures}
-use Rattle.image_figures.specs.declared.Line.{Line}
-use Rattle.image_figures.specs.declared.Line.TheVariants.{Bad, Good}
+use Rattle.image_figures.specs.Figures.{Line}
+use Rattle.std.specs.Prelude.{Some, None}
 use Rattle.figures.specs.Text.{digits_up_to, most_digits, number_text, space, line_end, three_text, line_text, total_word, text_of, text_size, content_of, Holds, Added, Spells, number_then}
 use Rattle.figures.specs.declared.Totals.{Totals}
 use Rattle.figures.specs.declared.Output.{Output}
@@ -76,8 +80,8 @@ three-few one two three = simp length-append (omega (arith, number-few one, numb
 
 text-few : (output : Output) → length (text_of output) ≤ text_size
 unfolding text_of line_text
-text-few (Image Bad) = omega arith
-text-few (Image (Good f)) = omega (arith, three-few f.rows f.classes f.largest)
+text-few (Image None) = omega arith
+text-few (Image (Some f)) = omega (arith, three-few f.rows f.classes f.largest)
 text-few (Total t) = omega (arith, three-few t.good t.rows t.classes)
 text-few TooMany = omega arith
 
@@ -92,20 +96,6 @@ pub record Texting (old : List ℕ) (had : ℕ) (part bytes : List ℕ) (count i
   pub long : count ≡ length (take had old) + i
   pub is : take count bytes ≡ take had old ++ take i part
 
-pub text-begin : (bytes part : List ℕ) {count : ℕ} → length bytes ≡ text_size → IsPrefixLen count bytes → Texting bytes count part bytes count 0
-text-begin bytes part {count} h c = record { room = h; few = omega (arith, c.0); low = omega arith; long = omega (arith, c.1); is = sym (append-nil (take count bytes)) }
-
-module _ {old : List ℕ} {had : ℕ} {part bytes : List ℕ} {count i : ℕ} (v : Texting old had part bytes count i) where
-  pub text-more : i < length part → count < text_size → Texting old had part (set bytes count (get_or part i 0)) (count + 1) (i + 1)
-  text-more h k =
-      record {
-        room = length-set bytes count (get_or part i 0) ∙ v.room;
-        few = omega arith;
-        low = omega arith;
-        long = omega (arith, v.long);
-        is = rw (add-one count, add-one i, take-suc-set bytes count (get_or part i 0) (omega (arith, v.room)), take-suc part i 0 h, v.is, append_assoc (take had old) (take i part) (get_or part i 0 ∷ []));
-      }
-
 module _ (text : Text) {part bytes : List ℕ} {count i : ℕ} (v : Texting text.bytes text.length part bytes count i) where
   counts-now : IsPrefixLen count bytes
   counts-now = prefix_len_of_le count bytes (omega (arith, v.room, v.few))
@@ -113,17 +103,41 @@ module _ (text : Text) {part bytes : List ℕ} {count i : ℕ} (v : Texting text
   abbrev had : List ℕ
   had = take text.length text.bytes
 
-  pub text-all : length part ≤ i → Added text part (record { bytes = bytes; length = count })
+  text-all : length part ≤ i → Added text part (record { bytes = bytes; length = count })
   unfolding content_of
   text-all h =
       let room : length (had ++ part) ≤ text_size = rw length-append (omega (arith, v.long, v.few)) in
       record { holds = record { counts = counts-now; is = v.is ∙ rw (take_all i part h) (sym (take_all text_size (had ++ part) room)) } }
 
-  pub text-full : text_size ≤ count → Added text part (record { bytes = bytes; length = count })
+  text-full : text_size ≤ count → Added text part (record { bytes = bytes; length = count })
   unfolding content_of
   text-full h =
       let whole : length had + i ≡ text_size = omega (arith, v.long, v.few) in
       record { holds = record { counts = counts-now; is = v.is ∙ sym (rw whole at (take-append-add had part i)) } }
+
+-- as many of a part as there is room for
+pub text-put : (text : Text) (part : List ℕ) {n : ℕ} {x : List ℕ} → IsPrefixLen text.length text.bytes → length text.bytes ≡ text_size → n ≡ min (length part) (text_size - text.length) → x ≡ take n part
+    → Added text part (record { bytes = put_mid text.length (text.length + n - text.length) text.bytes x; length = text.length + n })
+text-put text part {n} {x} c r e q =
+    let front : List ℕ = take text.length text.bytes in
+    let rest : List ℕ = drop (text.length + n) text.bytes in
+    let many : text.length + n - text.length ≡ n = omega arith in
+    let long : length x ≡ n = rw q (length-take-le n part (omega (arith, e))) in
+    let room : text.length + n ≤ length text.bytes = omega (arith, e, c.0, r) in
+    let is_over : put_mid text.length n text.bytes x ≡ over text.length n x text.bytes = over-part text.length n x text.bytes room in
+    let put : put_mid text.length n text.bytes x ≡ (front ++ x) ++ rest = is_over ∙ over-room text.length n x text.bytes room ∙ sym (append_assoc front x rest) in
+    let both : length (front ++ x) ≡ text.length + n = rw length-append (omega (arith, long, c.1)) in
+    let v : Texting text.bytes text.length part (put_mid text.length n text.bytes x) (text.length + n) n = record {
+      room = ap length is_over ∙ over-length text.length n x text.bytes long ∙ r;
+      few = omega (arith, room, r);
+      low = omega (arith, e);
+      long = omega (arith, c.1);
+      is = ap (take (text.length + n)) put ∙ take_at (front ++ x) rest (text.length + n) both ∙ rw q;
+    }
+    in
+    rw many (below n (length part)
+    (λ k. text-full text v (omega (arith, e, k, c.0, r)))
+    (λ k. text-all text v k))
 
 -- ---- texts one after another
 pub text-none : (bytes : List ℕ) → Holds [] (record { bytes = bytes; length = 0 })
@@ -151,11 +165,11 @@ pub three-added : {text first second third : Text} (one two three : ℕ) → Add
 unfolding three_text
 three-added one two three u v w = added-on u (added-on v w)
 
-pub line-bad : {line : Line} {q r : Text} → line ≡ Bad → Holds [] q → Added q (98 ∷ 97 ∷ 100 ∷ line_end) r → Holds (line_text line) r
+pub line-bad : {line : Line} {q r : Text} → line ≡ None → Holds [] q → Added q (98 ∷ 97 ∷ 100 ∷ line_end) r → Holds (line_text line) r
 unfolding line_text
 line-bad e v w = rw e (on _ v w)
 
-pub line-good : {line : Line} {f : Figures} {q r : Text} → line ≡ Good f → Holds [] q → Added q (three_text f.rows f.classes f.largest) r → Holds (line_text line) r
+pub line-good : {line : Line} {f : Figures} {q r : Text} → line ≡ Some f → Holds [] q → Added q (three_text f.rows f.classes f.largest) r → Holds (line_text line) r
 unfolding line_text
 line-good e v w = rw e (on _ v w)
 

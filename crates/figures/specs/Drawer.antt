@@ -4,8 +4,8 @@ use Rattle.std.specs.declared.io.Error.{Error}
 use Rattle.lists.specs.Lists.{sum}
 use Rattle.image_figures.specs.Figures.{length_size, size_said, line_of}
 use Rattle.image_figures.specs.declared.Figures.{Figures}
-use Rattle.image_figures.specs.declared.Line.{Line}
-use Rattle.image_figures.specs.declared.Line.TheVariants.{Bad, Good}
+use Rattle.image_figures.specs.Figures.{Line}
+use Rattle.std.specs.Prelude.{Some, None}
 use Rattle.figures.specs.declared.Totals.{Totals}
 use Rattle.figures.specs.declared.Turn.{Turn}
 use Rattle.figures.specs.declared.Step.{Step}
@@ -47,8 +47,8 @@ lines_of l = map (λ (p : Sheet). line_of p.said p.image) l
 -- ---- "The last line is `total` with the good images, rows and granted classes."
 unfoldable pub good_ones : List Line → List Figures
 good_ones [] = []
-good_ones (Bad ∷ l) = good_ones l
-good_ones (Good figures ∷ l) = figures ∷ good_ones l
+good_ones (None ∷ l) = good_ones l
+good_ones (Some figures ∷ l) = figures ∷ good_ones l
 
 unfoldable pub totals_of : List Line → Totals
 totals_of l =

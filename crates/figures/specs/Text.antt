@@ -2,8 +2,8 @@
 use Rattle.std.specs.Prelude.{ℕ, zero, suc, ◌/◌, ◌%◌, ◌≡◌, cond, List, [], ◌∷◌, ◌++◌, ltb, take}
 use Rattle.io.specs.Counts.{IsPrefixLen}
 use Rattle.io.specs.Digits.{hex_digit_ascii}
-use Rattle.image_figures.specs.declared.Line.{Line}
-use Rattle.image_figures.specs.declared.Line.TheVariants.{Bad, Good}
+use Rattle.image_figures.specs.Figures.{Line}
+use Rattle.std.specs.Prelude.{Some, None}
 use Rattle.figures.specs.declared.Output.{Output}
 use Rattle.figures.specs.declared.Output.TheVariants.{Image, Total, TooMany}
 use Rattle.figures.specs.declared.Text.{Text}
@@ -34,8 +34,8 @@ unfoldable pub three_text : ℕ → ℕ → ℕ → List ℕ
 three_text one two three = number_then one space ++ (number_then two space ++ number_then three line_end)
 
 unfoldable pub line_text : Line → List ℕ
-line_text Bad = 98 ∷ 97 ∷ 100 ∷ line_end
-line_text (Good figures) = three_text figures.rows figures.classes figures.largest
+line_text None = 98 ∷ 97 ∷ 100 ∷ line_end
+line_text (Some figures) = three_text figures.rows figures.classes figures.largest
 
 abbrev pub total_word : List ℕ
 total_word = 116 ∷ 111 ∷ 116 ∷ 97 ∷ 108 ∷ space

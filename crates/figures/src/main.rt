@@ -9,7 +9,7 @@ ghost use Rattle.io.specs.Counts.{IsPrefixLen};
 ghost use Rattle.figures.specs.Drawer.{totals_of, totals_with, most_images, step_of, After, OfSheets, OfSheet, stop_of, FilledTo, Buffers, SheetIn, is_failure, has_failed, SaidAs, is_printed, is_last, Turned};
 ghost use Rattle.figures.specs.Text.{number_then, three_text, line_text, text_of, Holds, Added, Spells};
 
-use image_figures::{LENGTH_SIZE, Line};
+use image_figures::{Figures, LENGTH_SIZE};
 use std::env::{Env, FillError};
 use std::io::{Cursor, Error, Print, Read, Write};
 
@@ -25,10 +25,10 @@ struct Totals {
     classes: u64,
 }
 
-// What is printed: a line for each image, and the last one.
+// What is printed: a line for each image, with the figures of a good one, and the last line.
 #[derive(Clone, Copy)]
 enum Output {
-    Image(Line),
+    Image(Option<Figures>),
     Total(Totals),
     TooMany,
 }
@@ -40,7 +40,7 @@ struct Step {
     more: bool,
 }
 
-fn counted(totals: Totals, line: Line) -> Totals
+fn counted(totals: Totals, line: Option<Figures>) -> Totals
     requires of_sheets { OfSheets totals }
     requires images_lt_most_images { totals.images < most_images }
     requires of_sheet { OfSheet line }
@@ -48,14 +48,9 @@ fn counted(totals: Totals, line: Line) -> Totals
 {
     let images = totals.images + 1;
     match line {
-        Line::Bad => Totals {
-            images: images,
-            good: totals.good,
-            rows: totals.rows,
-            classes: totals.classes,
-        },
-        Line::Good(figures) => Totals {
-            images: images,
+        None => Totals { images, ..totals },
+        Some(figures) => Totals {
+            images,
             good: totals.good + 1,
             rows: totals.rows + figures.rows,
             classes: totals.classes + figures.classes,
@@ -70,14 +65,14 @@ fn next_step(totals: Totals, said: &[u8], image: &[u8]) -> Step
 {
     if said.len() == 0 {
         return Step {
-            totals: totals,
+            totals,
             output: Output::Total(totals),
             more: false,
         };
     }
     if totals.images == MOST_IMAGES {
         return Step {
-            totals: totals,
+            totals,
             output: Output::TooMany,
             more: false,
         };
@@ -127,14 +122,14 @@ fn fill(rt: &HostRuntime, part: &mut [u8]) -> Filled
         let more = got.unwrap_or(0);
         if more == 0 {
             return Filled {
-                count: count,
+                count,
                 stop: stop_of(got),
             };
         }
         count += more;
     }
     Filled {
-        count: count,
+        count,
         stop: Stop::Full,
     }
 }
@@ -163,20 +158,13 @@ fn read_sheet(rt: &HostRuntime, said: &mut [u8], image: &mut [u8]) -> SheetRead
 fn is_failed(filled: Filled) -> bool
     ensures { result ≡ is_failure filled.stop }
 {
-    let stop = filled.stop;
-    match stop {
-        Stop::Full => false,
-        Stop::Ended => false,
-        Stop::Failed(_) => true,
-    }
+    matches!(filled.stop, Stop::Failed(_))
 }
 
 fn has_failed(sheet: SheetRead) -> bool
     ensures { result ≡ has_failed sheet }
 {
-    let head = sheet.said;
-    let rest = sheet.image;
-    is_failed(head) | is_failed(rest)
+    is_failed(sheet.said) | is_failed(sheet.image)
 }
 
 // ---- printing: each line is made in full, and written at once
@@ -205,17 +193,10 @@ fn with(text: Text, part: &[u8]) -> Text
     ensures { Added text part.now result }
 {
     let mut bytes = text.bytes;
-    let mut length = text.length;
-    let mut i: usize = 0;
-    while i < part.len() && length < TEXT_SIZE {
-        bytes[length] = part[i];
-        length += 1;
-        i += 1;
-    }
-    Text {
-        bytes: bytes,
-        length: length,
-    }
+    let n = part.len().min(TEXT_SIZE - text.length);
+    let length = text.length + n;
+    bytes[text.length..length].copy_from_slice(&part[..n]);
+    Text { bytes, length }
 }
 
 fn with_number(text: Text, number: u64, end: &[u8]) -> Text
@@ -236,17 +217,12 @@ fn with_three(text: Text, one: u64, two: u64, three: u64) -> Text
     with_number(second, three, b"\n")
 }
 
-fn text_of_line(line: Line) -> Text
+fn text_of_line(line: Option<Figures>) -> Text
     ensures { Holds (line_text line) result }
 {
     match line {
-        Line::Bad => with(no_text(), b"bad\n"),
-        Line::Good(figures) => with_three(
-            no_text(),
-            figures.rows,
-            figures.classes,
-            figures.largest,
-        ),
+        None => with(no_text(), b"bad\n"),
+        Some(figures) => with_three(no_text(), figures.rows, figures.classes, figures.largest),
     }
 }
 
@@ -306,9 +282,7 @@ fn print(rt: &HostRuntime, output: Output) -> Told
     ensures { SaidAs output result }
 {
     let text = text_of(output);
-    let bytes = text.bytes;
-    let length = text.length;
-    if let Err(error) = Print::write_all(rt, &bytes[..length]) {
+    if let Err(error) = Print::write_all(rt, &text.bytes[..text.length]) {
         tell_failure(rt, "standard output", error);
         return Told::Unwritten;
     }
@@ -318,12 +292,7 @@ fn print(rt: &HostRuntime, output: Output) -> Told
 fn is_printed(told: Told) -> bool
     ensures { result ≡ is_printed told }
 {
-    match told {
-        Told::Nothing => false,
-        Told::Printed(output) => true,
-        Told::Unread => false,
-        Told::Unwritten => false,
-    }
+    matches!(told, Told::Printed(_))
 }
 
 // ---- the drawer
@@ -345,7 +314,7 @@ fn take_turn(rt: &HostRuntime, totals: Totals, sheet: SheetRead, said: &[u8], im
     if has_failed(sheet) {
         tell_unread(rt, sheet);
         return Turn {
-            totals: totals,
+            totals,
             told: Told::Unread,
             more: false,
         };
@@ -353,12 +322,10 @@ fn take_turn(rt: &HostRuntime, totals: Totals, sheet: SheetRead, said: &[u8], im
     let there = sheet.said.count;
     let long = sheet.image.count;
     let step = next_step(totals, &said[..there], &image[..long]);
-    let output = step.output;
-    let told = print(rt, output);
-    let counted = step.totals;
+    let told = print(rt, step.output);
     Turn {
-        totals: counted,
-        told: told,
+        totals: step.totals,
+        told,
         more: is_printed(told) & step.more,
     }
 }

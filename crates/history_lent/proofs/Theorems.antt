@@ -1,6 +1,7 @@
 -- A slice that only the entries have written holds a state: the one that the calls come to. No entry answers otherwise than they do, and demand 3 holds
 -- of what the entries answered.
 -- Assumes nothing.
+use Rattle.std.specs.Prelude.{unwrap_or}
 use Prim.Native.Nat.{ℕ, suc}
 use mathlib.Core.Path.{◌≡◌, refl, sym, ap, subst, ◌∙◌}
 use mathlib.Core.Bool.{Bool, true, false}
@@ -15,7 +16,7 @@ use Rattle.rows.proofs.Bytes.{bytes_take}
 use Rattle.lists.specs.Each.{Each, each_nil, each-cons}
 use Rattle.lists.proofs.Tests.{split, and_right}
 use Rattle.lists.proofs.Each.{each-imp}
-use Rattle.names.specs.Names.{read_name}
+use Rattle.names.specs.Names.{read_name, zero_name}
 use Rattle.names.specs.declared.Name.{Name}
 use Rattle.names.specs.declared.Row.{Row}
 use Rattle.names.specs.declared.Session.{Session}
@@ -169,7 +170,7 @@ module _ (w : Since) (b : Slices) (g : Goes w b) where
       }
 
 -- ---- the names that the entries hand on are whole, read or not
-pub name-whole : (part : List ℕ) → IsWhole (read_name part).name
+pub name-whole : (part : List ℕ) → IsWhole (unwrap_or (read_name part) zero_name)
 unfolding read_name
 name-whole part = split (eqb (length part) 48) (λ e. rw e (eqb-true (length part) 48 e)) (λ e. rw e)
 

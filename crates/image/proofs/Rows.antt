@@ -1,5 +1,6 @@
 -- The codecs of an image: a number of k bytes, a mask with words, a row.
 -- Assumes nothing.
+use Rattle.std.specs.Prelude.{Some}
 use Prim.Native.Nat.{ℕ, zero, suc, ◌+◌, ◌*◌, ◌/◌, ◌%◌, ◌^◌, ◌<◌, ◌≤◌}
 use mathlib.Core.Path.{◌≡◌, refl, sym, ap}
 use mathlib.Core.Bool.{Bool, true, false, not, ◌&&◌}
@@ -205,7 +206,7 @@ module _ (b : List ℕ) (n : length b ≡ saved_size) (h : Bytes b) where
       record { owner = number-low 2 saved_owner_at b h; next = number-low 2 saved_next_at b h; name = simp length-drop (omega arith) }
 
 -- the name in a row, as the code reads it
-pub saved-name : (row : List ℕ) → length row ≡ saved_size → (read_name (take name_length (drop saved_name_at row))).name ≡ (saved_from row).name
+pub saved-name : (row : List ℕ) → length row ≡ saved_size → read_name (take name_length (drop saved_name_at row)) ≡ Some (saved_from row).name
 unfolding saved_from
 saved-name row h = name-last row saved_name_at h
 

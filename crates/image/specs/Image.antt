@@ -1,10 +1,10 @@
 -- Document 02, order 2: "Write an image and make a fresh module from it, with its credentials and words." What an image holds, its bytes, which bytes are one,
 -- and the module that one makes. Order 7: "Images get the eight second words after the first .. The reader still takes the old layout". docs/IMAGE.md draws both.
-use Rattle.std.specs.Prelude.{ℕ, ◌+◌, ◌*◌, ◌/◌, ◌%◌, ◌≤◌, ◌≡◌, Bool, true, false, cond, not, ◌&&◌, ◌||◌, List, [], ◌∷◌, ◌++◌, map, eqb, leb, ltb, length, get_or, take, drop, replicate}
+use Rattle.std.specs.Prelude.{ℕ, ◌+◌, ◌*◌, ◌/◌, ◌%◌, ◌≤◌, ◌≡◌, Bool, true, cond, not, ◌&&◌, ◌||◌, List, [], ◌∷◌, ◌++◌, map, eqb, leb, ltb, length, get_or, take, drop, replicate, Option, Some, None, Result, Ok, Err}
 use Rattle.lists.specs.Lists.{join, select}
 use Rattle.rows.specs.Bytes.{bytes_of, number_of, number_at, bits_number}
 use Rattle.rows.specs.Rows.{rows, every, pairwise, over}
-use Rattle.names.specs.Names.{name_length, same_name, zero_name}
+use Rattle.names.specs.Names.{name_length, same_name}
 use Rattle.names.specs.declared.Credential.{Credential}
 use Rattle.names.specs.declared.Kind.TheVariants.{Saved}
 use Rattle.table.specs.Table.{standing, table_of, is_saved, places}
@@ -13,9 +13,7 @@ use Rattle.module_state.specs.Module.{both_words, unprovisioned, words_of, crede
 use Rattle.module_state.specs.declared.Grants.{Grants}
 use Rattle.module_state.specs.declared.State.{State}
 use Rattle.image.specs.declared.ImageHead.{ImageHead}
-use Rattle.image.specs.declared.ImageRead.{ImageRead}
-use Rattle.image.specs.declared.ImageTest.{ImageTest}
-use Rattle.image.specs.declared.SavedRead.{SavedRead}
+use Rattle.image.specs.declared.ImageParts.{ImageParts}
 use Rattle.image.specs.declared.SavedRow.{SavedRow}
 
 -- ---- where its numbers, its words and its rows lie. `src/lib.rt` has these names for the code
@@ -174,11 +172,8 @@ unfoldable pub is_whole : List ℕ → Bool
 is_whole part = eqb (length part) saved_size
 
 -- a part that is not whole says no row
-abbrev pub no_saved : SavedRow
-no_saved = record { owner = record { 0 = 0 }; next = 0; name = zero_name }
-
-unfoldable pub read_saved : List ℕ → SavedRead
-read_saved part = cond (is_whole part) (record { fits = true; row = saved_from part }) (record { fits = false; row = no_saved })
+unfoldable pub read_saved : List ℕ → Option SavedRow
+read_saved part = cond (is_whole part) (Some (saved_from part)) None
 
 -- and one after a row was written into it
 unfoldable pub saved_over : List ℕ → SavedRow → List ℕ
@@ -217,9 +212,12 @@ image_fits i = every words_fit i.grants && (every (is_keepable i.grants) i.saved
 unfoldable pub is_image : List ℕ → Bool
 is_image b = head_fits (head_in b) && (eqb (length b) (image_long (head_in b).offset (head_in b).rows) && image_fits (image_in b))
 
--- the test's answer, with what it read
-unfoldable pub image_test : List ℕ → ImageTest
-image_test b = record { fits = is_image b; head = head_in b; grants = grants_in b }
+-- the test's answer: what it read of an image
+unfoldable pub image_test : List ℕ → Result ImageParts ImageParts
+image_test b =
+    cond (is_image b)
+    (Ok (record { head = head_in b; grants = grants_in b }))
+    (Err (record { head = head_in b; grants = grants_in b }))
 
 -- ---- the module that an image makes: a fresh one with these credentials, in which these processes stand. "Restored processes are saved ones."
 unfoldable pub saved_process : SavedRow → Process
@@ -260,12 +258,9 @@ renewed b =
 unfoldable pub cycled : State → State
 cycled st = module_of (image_of st)
 
--- ---- the reader's answer. Bytes that are no image make a module without credentials, which nobody is given
-abbrev pub no_image : ImageRead
-no_image = record { fits = false; state = closed_module (replicate credential_count unprovisioned) (table_of []) }
-
-unfoldable pub read_image : List ℕ → ImageRead
-read_image b = cond (is_image b) (record { fits = true; state = restored b }) no_image
+-- ---- the reader's answer. Bytes that are no image make no module
+unfoldable pub read_image : List ℕ → Option State
+read_image b = cond (is_image b) (Some (restored b)) None
 
 -- ---- the writer's: how long the image of a state is, whether a buffer is too short for it, and the buffer afterwards
 unfoldable pub image_room : State → ℕ

@@ -2,7 +2,7 @@
 // are an image. Each part begins where the one before it ends, and so does each field.
 #![tactic(auto)]
 
-use module_state::{CREDENTIALS, Grants, State, WORD_SIZE};
+use module_state::{CREDENTIALS, Grants, WORD_SIZE};
 use names::{Credential, NAME_LENGTH, Name};
 
 // ---- the five numbers at its head
@@ -50,13 +50,6 @@ pub struct SavedRow {
 
 // ---- what was read of bytes
 
-// A row that a part of bytes says, where the part is a whole one.
-#[derive(Clone, Copy)]
-pub struct SavedRead {
-    pub fits: bool,
-    pub row: SavedRow,
-}
-
 // The five numbers that bytes say at their head: the mask, how many words there are and from where on, how many rows and from where on.
 #[derive(Clone, Copy)]
 pub struct ImageHead {
@@ -67,17 +60,9 @@ pub struct ImageHead {
     pub offset: usize,
 }
 
-// Whether bytes are an image; and, whether they are or not, the head and the credentials that they say.
+// What the test of an image reads of bytes, before their rows: the head and the credentials that they say.
 #[derive(Clone, Copy)]
-pub struct ImageTest {
-    pub fits: bool,
+pub struct ImageParts {
     pub head: ImageHead,
     pub grants: [Grants; CREDENTIALS],
-}
-
-// What bytes say when they are read as an image. Where they are none, the module has no credentials.
-#[derive(Clone, Copy)]
-pub struct ImageRead {
-    pub fits: bool,
-    pub state: State,
 }

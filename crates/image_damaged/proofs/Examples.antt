@@ -8,9 +8,8 @@ use Rattle.lists.specs.Lists.{sum}
 use Rattle.names.proofs.Examples.{P, Q, R}
 use Rattle.module_state.specs.Module.{taken}
 use Rattle.module_state.specs.Numbers.{◌when◌, ◌unless◌, ◌▸◌}
-use Rattle.image_damaged.specs.declared.Rescued.{Rescued}
 use Rattle.image.specs.Image.{mask_at, row_count_at, row_offset_at, old_saved_at, saved_owner_at, saved_next_at, saved_name_at, saved_size, is_whole}
-use Rattle.image_damaged.specs.Rescue.{is_usable, nonzero, words_cleared, cleared, stated, has_new_name, is_kept, kept_with, keep, rows_kept, are_dropped, rows_dropped, dropped, places_told, rescued_image, rescued, rescued_long, rescue_number, rescue_answer}
+use Rattle.image_damaged.specs.Rescue.{Rescued, is_usable, nonzero, words_cleared, cleared, stated, has_new_name, is_kept, kept_with, keep, rows_kept, are_dropped, rows_dropped, dropped, places_told, rescued_image, rescued, rescued_long, rescue_number, rescue_answer}
 use Rattle.image.proofs.Examples.{computed, head, grants, saved, old}
 
 -- the number, the length, the cleared words, the kept rows, and the place of each row dropped

@@ -1,14 +1,16 @@
 -- Document 02, order 8: "A rescue routine takes such bytes and writes a good image to a second buffer." What it needs, which rows it keeps, what it writes and what
 -- it reports. docs/IMAGE.md says what it can't know.
-use Rattle.std.specs.Prelude.{ℕ, zero, suc, ◌+◌, ◌/◌, ◌%◌, ◌≡◌, Bool, cond, not, ◌&&◌, List, [], ◌∷◌, ◌++◌, map, eqb, leb, ltb, length, drop}
+use Rattle.std.specs.Prelude.{ℕ, zero, suc, ◌+◌, ◌/◌, ◌%◌, ◌≡◌, Bool, cond, not, ◌&&◌, List, [], ◌∷◌, ◌++◌, map, eqb, leb, ltb, length, drop, Result, Ok, Err}
 use Rattle.lists.specs.Lists.{sum}
 use Rattle.rows.specs.Bytes.{bits_number}
 use Rattle.rows.specs.Rows.{rows, every, over}
 use Rattle.module_state.specs.Module.{taken}
 use Rattle.module_state.specs.Numbers as No
 use Rattle.module_state.specs.Numbers.{◌when◌, ◌unless◌, ◌▸◌}
+use Rattle.module_state.specs.Refusals.{refusal_number}
 use Rattle.module_state.specs.declared.Grants.{Grants}
-use Rattle.image_damaged.specs.declared.Rescued.{Rescued}
+use Rattle.module_state.specs.declared.Refusal.{Refusal}
+use Rattle.image_damaged.specs.declared.Report.{Report}
 use Rattle.image.specs.declared.SavedRow.{SavedRow}
 use Rattle.image.specs.Image.{words_at, saved_size, image_long, Image, image_bytes, head_in, grants_in, saved_from, is_whole, is_keepable, differ, head_fits}
 
@@ -87,7 +89,14 @@ rescue_number b room =
     No.message unless is_usable b
     ▸ No.room when ltb room (rescued_long b)
 
--- the answer, with its report; a refusal has none, and nobody is given its zeros
+-- the answer: its number, and beside it the report; a refusal has none, and nobody is given its zeros
+pub record Rescued : Type 0 where
+  pub number : ℕ
+  pub length : ℕ
+  pub cleared : ℕ
+  pub kept : ℕ
+  pub dropped : ℕ
+
 abbrev pub refused_by : ℕ → Rescued
 refused_by number = record { number = number; length = 0; cleared = 0; kept = 0; dropped = 0 }
 
@@ -96,6 +105,12 @@ rescue_answer b room =
     cond (eqb (rescue_number b room) No.done)
     (record { number = No.done; length = rescued_long b; cleared = cleared b; kept = length (rows_kept b); dropped = dropped b })
     (refused_by (rescue_number b room))
+
+-- as the code answers it
+abbrev pub rescued_in : Result Report Refusal → Rescued
+rescued_in (Ok report) =
+    record { number = No.done; length = report.length; cleared = report.cleared; kept = report.kept; dropped = report.dropped }
+rescued_in (Err refusal) = refused_by (refusal_number refusal)
 
 pub record RescueWritten (b old : List ℕ) (answer : Rescued) (new : List ℕ) : Type 0 where
   pub answer-is : answer ≡ rescue_answer b (length old)

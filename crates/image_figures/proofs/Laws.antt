@@ -1,5 +1,6 @@
 -- How large the figures of a line can be; and of a good image's words those of provisioned credentials alone count.
 -- Assumes nothing.
+use Rattle.std.specs.Prelude.{Some, None}
 use Prim.Native.Nat.{ℕ, ◌+◌, ◌*◌, ◌≤◌}
 use mathlib.Core.Path.{◌≡◌, refl, ap}
 use mathlib.Core.Bool.{Bool, true, ◌&&◌}
@@ -16,10 +17,8 @@ use Rattle.module_state.specs.Module.{has_bit, credential_count}
 use Rattle.module_state.specs.declared.Grants.{Grants}
 use Rattle.image.specs.Image.{grants_in, image_in, words_fit, is_image}
 use Rattle.image.proofs.Laws.{sound, image, grants-eight}
-use Rattle.image_figures.specs.Figures.{class_count, classes_below, classes_held, classes_granted, figures_in, is_good, line_of}
+use Rattle.image_figures.specs.Figures.{class_count, classes_below, classes_held, classes_granted, figures_in, is_good, Line, line_of}
 use Rattle.image_figures.specs.declared.Figures.{Figures}
-use Rattle.image_figures.specs.declared.Line.{Line}
-use Rattle.image_figures.specs.declared.Line.TheVariants.{Bad, Good}
 use Rattle.image_figures.proofs.Classes.{classes-few}
 use Rattle.image_figures.proofs.Rules.{good-is}
 
@@ -34,8 +33,8 @@ pub record Small (f : Figures) : Type 0 where
   pub classes-few : f.classes ≤ credential_count * class_count
 
 abbrev pub SmallLine : Line → Type 0
-SmallLine Bad = Unit
-SmallLine (Good f) = Small f
+SmallLine None = Unit
+SmallLine (Some f) = Small f
 
 pub line_small : (said image : List ℕ) → SmallLine (line_of said image)
 unfolding line_of figures_in

@@ -1,6 +1,6 @@
 -- Document 02, order 6: "For each it prints a line with the row count, the sum over credentials of how many classes each grant word holds, and the
 -- largest next number (0 if there are no rows)". The figures of an image, and the line that a length and the bytes after it get.
-use Rattle.std.specs.Prelude.{ℕ, zero, suc, max, Bool, cond, ◌&&◌, List, [], ◌∷◌, map, eqb, length}
+use Rattle.std.specs.Prelude.{ℕ, zero, suc, max, Bool, cond, ◌&&◌, List, [], ◌∷◌, map, eqb, length, Option, Some, None}
 use Rattle.lists.specs.Lists.{select, sum}
 use Rattle.rows.specs.Bytes.{number_of}
 use Rattle.module_state.specs.declared.Class.{Class}
@@ -9,8 +9,6 @@ use Rattle.module_state.specs.declared.Grants.{Grants}
 use Rattle.image.specs.declared.SavedRow.{SavedRow}
 use Rattle.image.specs.Image.{head_in, grants_in, saved_in, is_image}
 use Rattle.image_figures.specs.declared.Figures.{Figures}
-use Rattle.image_figures.specs.declared.Line.{Line}
-use Rattle.image_figures.specs.declared.Line.TheVariants.{Bad, Good}
 
 -- 0 where there are none
 unfoldable pub largest : List ℕ → ℕ
@@ -50,9 +48,12 @@ is_said said = eqb (length said) length_size
 unfoldable pub size_said : List ℕ → ℕ
 size_said said = cond (is_said said) (number_of said) 0
 
--- "A bad or cut-off image, or a lone last byte, prints `bad`."
+-- "A bad or cut-off image, or a lone last byte, prints `bad`.": a line has the figures of a good image, and none of another
 unfoldable pub is_good : List ℕ → List ℕ → Bool
 is_good said image = is_said said && (eqb (length image) (size_said said) && is_image image)
 
+abbrev pub Line : Type 0
+Line = Option Figures
+
 unfoldable pub line_of : List ℕ → List ℕ → Line
-line_of said image = cond (is_good said image) (Good (figures_in image)) Bad
+line_of said image = cond (is_good said image) (Some (figures_in image)) None

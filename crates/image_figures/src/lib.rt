@@ -1,11 +1,12 @@
 // What an image holds, in figures, and the line that a sheet of a drawer gets: document 02, order 6. docs/FIGURES.md tells how the desk uses it.
-#![tactic(auto)]
+#![tactic(auto, using(crate::proofs::Rules::rules))]
 
-ghost use Rattle.std.specs.Prelude.{◌≡◌, true};
-ghost use Rattle.image.specs.Image.{saved_among, is_image, image_test, SavedLie};
-ghost use Rattle.image_figures.specs.Figures.{classes_held, classes_granted, largest_next, figures_in, size_said, line_of};
+ghost use Rattle.std.specs.Prelude.{◌≡◌, Ok, max, fold};
+ghost use Rattle.rows.specs.Bytes.{number_at};
+ghost use Rattle.image.specs.Image.{saved_next_at, image_test};
+ghost use Rattle.image_figures.specs.Figures.{classes_held, classes_granted, figures_in, size_said, line_of};
 
-use image::{ImageTest, SAVED_NEXT_AT, SAVED_SIZE};
+use image::{ImageParts, SAVED_NEXT_AT, SAVED_SIZE};
 use module_state::{CREDENTIALS, Grants};
 
 // Bytes of the length before an image.
@@ -16,12 +17,6 @@ pub struct Figures {
     pub rows: u64,
     pub classes: u64,
     pub largest: u64,
-}
-
-#[derive(Clone, Copy)]
-pub enum Line {
-    Bad,
-    Good(Figures),
 }
 
 // ---- the figures of an image
@@ -35,48 +30,33 @@ fn classes_held(word: u32) -> u32
 fn classes_granted(grants: [Grants; CREDENTIALS]) -> u32
     ensures { result ≡ classes_granted grants }
 {
-    let mut sum: u32 = 0;
-    let mut i: usize = 0;
-    while i < CREDENTIALS {
-        let one = grants[i];
-        sum += classes_held(one.words.grant);
-        i += 1;
+    let mut sum = 0;
+    for i in 0..CREDENTIALS {
+        sum += classes_held(grants[i].words.grant);
     }
     sum
 }
 
-fn largest_next(b: &[u8], offset: usize, n: usize) -> u16
-    requires { SavedLie b.now offset n }
-    ensures { result ≡ largest_next (saved_among offset n b.now) }
+#[tactic(auto)]
+fn largest_next(saved: &[[u8; SAVED_SIZE]]) -> u16
+    ensures { result ≡ fold (λ largest row. max largest (number_at 2 saved_next_at row)) 0 saved.now }
 {
-    let mut largest: u16 = 0;
-    let mut i: usize = 0;
-    while i < n {
-        let a = offset + i * SAVED_SIZE;
-        let e = a + SAVED_SIZE;
-        let next = rows::number16(&b[a..e], SAVED_NEXT_AT);
-        if largest < next {
-            largest = next;
-        }
-        i += 1;
-    }
-    largest
+    saved.iter().fold(
+        0,
+        |largest, row| largest.max(rows::number16(row, SAVED_NEXT_AT)),
+    )
 }
 
 // The figures of an image, by what its test read.
-fn figures_in(b: &[u8], tested: ImageTest) -> Figures
-    requires tested_value { tested ≡ image_test b.now }
-    requires b_value { is_image b.now ≡ true }
+fn figures_in(b: &[u8], parts: ImageParts) -> Figures
+    requires { image_test b.now ≡ Ok parts }
     ensures { result ≡ figures_in b.now }
 {
-    let head = tested.head;
-    let grants = tested.grants;
-    let classes = classes_granted(grants);
-    let largest = largest_next(b, head.offset, head.rows);
+    let head = parts.head;
     Figures {
         rows: head.rows as u64,
-        classes: classes as u64,
-        largest: largest as u64,
+        classes: u64::from(classes_granted(parts.grants)),
+        largest: u64::from(largest_next(image_test::saved_rows(b, head.offset))),
     }
 }
 
@@ -87,21 +67,21 @@ pub fn size_said(said: &[u8]) -> u16
     ensures { result ≡ size_said said.now }
 {
     if said.len() == LENGTH_SIZE {
-        return rows::number16(said, 0);
+        rows::number16(said, 0)
+    } else {
+        0
     }
-    0
 }
 
-// After a length that is not whole no byte follows, and no bytes are no image.
-pub fn line_of(said: &[u8], image: &[u8]) -> Line
+// The figures of a good image. After a length that is not whole no byte follows, and no bytes are no image.
+pub fn line_of(said: &[u8], image: &[u8]) -> Option<Figures>
     ensures { result ≡ line_of said.now image.now }
 {
-    if image.len() != size_said(said) as usize {
-        return Line::Bad;
+    if image.len() != usize::from(size_said(said)) {
+        return None;
     }
-    let tested = image_test::test_image(image);
-    if !tested.fits {
-        return Line::Bad;
+    match image_test::test_image(image) {
+        Ok(parts) => Some(figures_in(image, parts)),
+        Err(_) => None,
     }
-    Line::Good(figures_in(image, tested))
 }

@@ -1,15 +1,23 @@
 -- The loops over the credentials: the mask, their words, and words written.
 -- Assumes nothing.
-use Prim.Native.Nat.{ℕ, suc, ◌+◌, ◌-◌, ◌*◌, ◌<◌, ◌≤◌}
-use mathlib.Core.Path.{◌≡◌, refl, sym, ap, ◌∙◌}
-use mathlib.Core.Bool.{Bool, cond}
+use Rattle.std.specs.Array.{IsMapOf, MapsFrom}
+use Rattle.std.specs.Fn.{Mut, Called}
+use Rattle.std.specs.Int.{from_bool}
+use Rattle.std.proofs.lemmas.List.{ext_get_or}
+use Rattle.lists.proofs.Tests.{split}
+use borrow.Author.Tests.{eqb-true, eqb-false}
+use lib.Dec.{eqb}
+use mir.Syntax.{w16}
+use mir.Val.{Fits}
+use Prim.Native.Nat.{ℕ, zero, suc, ◌+◌, ◌-◌, ◌*◌, ◌<◌, ◌≤◌}
+use mathlib.Core.Path.{◌≡◌, refl, sym, ap, subst, ◌∙◌}
+use mathlib.Core.Bool.{Bool, true, false, cond}
 use mathlib.Core.List.{List, map}
 use native.Mathlib.Omega.{arith}
 use borrow.Rule.Slice.PartMut.{put_mid}
 use lib.Pow.{pow_mono}
-use lib.ListN.{length, get_or, drop, set, replicate, length-drop, length-map, get_or-map, drop_of_length-le}
+use lib.ListN.{length, get_or, drop, length-drop, length-map, get_or-map, drop_of_length-le}
 use lib.Seq.{drop-cons}
-use Rattle.lists.proofs.Loops.{Copied, copied_none, copied_more, copied_all}
 use Rattle.rows.specs.Bytes.{bytes_of, bits_number}
 use Rattle.rows.specs.Rows.{over, Put}
 use Rattle.rows.proofs.Bytes.{length-bytes}
@@ -19,6 +27,10 @@ use Rattle.module_state.specs.Module.{unprovisioned, credential_count, word_size
 use Rattle.module_state.specs.declared.Grants.{Grants}
 use Rattle.image.proofs.Rows.{mask-small}
 use Rattle.image.specs.Image.{words_size, numbers_bytes, mask_of}
+
+from-is : (b : Bool) → from_bool b ≡ cond b 1 0
+from-is true = refl
+from-is false = refl
 
 -- ---- the mask, from the last credential on: those from `left` on are in it
 pub record Masked (l : List Grants) (mask left : ℕ) : Type 0 where
@@ -38,36 +50,37 @@ module _ {l : List Grants} {mask left : ℕ} (v : Masked l mask left) where
       let few : length (drop left l) ≤ credential_count = simp length-drop (omega (arith, v.long)) in
       omega (arith, v.is, mask-small (drop left l), pow_mono few)
 
-  module _ (h : 0 < left) {b : Bool} (e : (get_or l (left - 1) unprovisioned).provisioned ≡ b) where
+  module _ (h : 0 < left) {bit : ℕ} (e : bit ≡ from_bool (get_or l (left - 1) unprovisioned).provisioned) where
+    pub masked-fits : Fits w16 (mask * 2 + bit)
+    masked-fits = split (get_or l (left - 1) unprovisioned).provisioned (λ t. omega (arith, masked_low, rw t at e)) (λ t. omega (arith, masked_low, rw t at e))
+
     -- the credential before `left` comes in as the lowest bit
-    pub masked_on : Masked l (mask * 2 + cond b 1 0) (left - 1)
+    pub masked_on : Masked l (mask * 2 + bit) (left - 1)
     unfolding mask_of bits_number
     masked_on =
         let inside : left - 1 < length l = omega (arith, v.low, v.long) in
         let next : suc (left - 1) ≡ left = omega arith in
         let rest : mask_of (drop (suc (left - 1)) l) ≡ mask = ap (λ (m : ℕ). mask_of (drop m l)) next ∙ sym v.is in
-        record { low = omega (arith, v.low); long = v.long; is = rw (drop-cons l (left - 1) unprovisioned inside, rest, e) }
+        record { low = omega (arith, v.low); long = v.long; is = rw (drop-cons l (left - 1) unprovisioned inside, rest, e) (ap (λ (n : ℕ). mask * 2 + n) (from-is (get_or l (left - 1) unprovisioned).provisioned)) }
 
   pub masked-all : left ≤ 0 → mask ≡ mask_of l
   masked-all h = let none : left ≡ 0 = omega arith in rw none at v.is
 
--- ---- an array of words that the credentials have: the first i are in it
-pub record Taken (f : Grants → ℕ) (l : List Grants) (out₀ out : List ℕ) (i : ℕ) : Type 0 where
-  pub long : length l ≡ credential_count
-  pub done : Copied (map f l) out₀ out i
+-- ---- what an array is mapped to by a closure that no call changes
+module _ {F A B : Type 0} (g : Mut F (A × Unit {0}) B) (f : F) (h : A → B) (xs : List A) (d : A)
+    (answers : (x : A) (y : B) (f' : F) → Called g f (x, tt) y f' → (y ≡ h x) × (f' ≡ f)) where
+  mapped_from : (ys : List B) (i m : ℕ) (p : F) → p ≡ f → MapsFrom g p xs ys i m → (j : ℕ) → i ≤ j → j < i + m → get_or ys j (h d) ≡ h (get_or xs j d)
+  mapped_from ys i zero p same v j low high = absurd (omega arith)
+  mapped_from ys i (suc m) p same v j low high =
+      let one = answers v.1 v.2 v.0 (subst (λ (c : F). Called g c (v.1, tt) v.2 v.0) same v.5) in
+      split (eqb i j)
+      (λ e. rw (← eqb-true i j e) (v.4.1 (h d) ∙ one.0 ∙ ap h (sym (v.3.1 d))))
+      (λ e. mapped_from ys (i + 1) m v.0 one.1 v.6 j (omega (arith, eqb-false i j e)) (omega arith))
 
-pub taken_none : (f : Grants → ℕ) (l : List Grants) → length l ≡ credential_count → Taken f l (replicate credential_count 0) (replicate credential_count 0) 0
-taken_none f l h = record { long = h; done = copied_none (map f l) (replicate credential_count 0) (sym (length-map l f ∙ h)) }
-
-module _ {f : Grants → ℕ} {l : List Grants} {out₀ out : List ℕ} {i : ℕ} (v : Taken f l out₀ out i) where
-  pub taken-on : i < credential_count → {w : ℕ} → w ≡ f (get_or l i unprovisioned) → Taken f l out₀ (set out i w) (i + 1)
-  taken-on h {w} e =
-      let inside : i < length (map f l) = rw (length-map, v.long) h in
-      let word : w ≡ get_or (map f l) i (f unprovisioned) = e ∙ sym (get_or-map f l i unprovisioned) in
-      record { long = v.long; done = rw word (copied_more v.done (f unprovisioned) inside) }
-
-  pub taken-all : credential_count ≤ i → out ≡ map f l
-  taken-all h = copied_all v.done (rw (length-map, v.long) h)
+  pub mapped : {ys : List B} {n : ℕ} → length xs ≡ n → IsMapOf g f xs ys n → ys ≡ map h xs
+  mapped {ys} {n} long v =
+      ext_get_or (h d) ys (map h xs) (v.long ∙ sym (length-map xs h ∙ long))
+      (λ j k. mapped_from ys 0 n f refl v.each j (omega arith) (omega (arith, v.long)) ∙ sym (get_or-map h xs j d))
 
 -- ---- words written from a place on: the first i are
 pub record Worded (words : List ℕ) (at : ℕ) (old new : List ℕ) (i : ℕ) : Type 0 where

@@ -1,7 +1,7 @@
 -- The laws that close the needs of this crate's functions by `search rules`: each premise is as a place's record has it.
 -- Assumes nothing.
 use Prim.Native.Nat.{ℕ, ◌+◌, ◌-◌, ◌*◌, ◌<◌, ◌≤◌}
-use mathlib.Core.Path.{◌≡◌, refl, sym, ap}
+use mathlib.Core.Path.{◌≡◌, refl, sym}
 use mathlib.Core.Bool.{Bool, true, false}
 use mathlib.Core.List.{List, ◌++◌, map, append-nil}
 use native.Mathlib.Omega.{arith}
@@ -9,33 +9,22 @@ use borrow.Author.Rules.{rules as std_rules}
 use mir.Val.{Fits}
 use mir.Syntax.{w16}
 use lib.Dec.{eqb}
-use lib.ListN.{length, get_or}
+use lib.ListN.{length}
 use Rattle.lists.specs.Lists.{join}
 use Rattle.lists.proofs.Tests.{split}
 use Rattle.rows.specs.Bytes.{bytes_of}
 use Rattle.rows.specs.Rows.{over, Put}
 use Rattle.rows.proofs.Bytes.{length-bytes}
 use Rattle.rows.proofs.Over.{over-short, put-length, put_next}
-use Rattle.module_state.specs.Module.{unprovisioned, credential_count, word_size, words_of}
+use Rattle.module_state.specs.Module.{credential_count, word_size}
 use Rattle.module_state.specs.declared.Grants.{Grants}
-use Rattle.module_state.specs.declared.Words.{Words}
 use Rattle.image.specs.Image.{mask_at, word_count_at, word_offset_at, row_count_at, row_offset_at, words_at, words_size, seconds_at, saved_at, has_seconds, numbers_bytes, head_numbers, mask_of, grant_in, second_in, seconds_bytes, front_bytes, front_long, old_saved_at}
-use Rattle.image_front.proofs.Rows.{Masked, masked-none, masked_low, masked_on, masked-all, taken_none, taken-on, taken-all, worded-none, worded-length, worded-on, worded-all}
+use Rattle.image_front.proofs.Rows.{Masked, masked-none, masked_low, masked-fits, masked_on, masked-all, worded-none, worded-length, worded-on, worded-all}
 
 -- ---- the mask
 module _ {l : List Grants} {mask left : ℕ} (v : Masked l mask left) where
   pub mask-double : Fits w16 (mask * 2)
   mask-double = omega (arith, masked_low v)
-
-  pub mask-more : Fits w16 (mask * 2 + 1)
-  mask-more = omega (arith, masked_low v)
-
-  module _ (h : 0 < left) where
-    pub mask-hit : (get_or l (left - 1) unprovisioned).provisioned ≡ true → Masked l (mask * 2 + 1) (left - 1)
-    mask-hit e = masked_on v h e
-
-    pub mask-miss : (get_or l (left - 1) unprovisioned).provisioned ≡ false → Masked l (mask * 2) (left - 1)
-    mask-miss e = let z : mask * 2 + 0 ≡ mask * 2 = omega arith in rw z at (masked_on v h e)
 
 -- ---- a number of two bytes
 number_put : (at m : ℕ) (x : List ℕ) {y : List ℕ} → y ≡ over at 2 (bytes_of 2 m) x → Put at 2 (bytes_of 2 m) x y
@@ -63,16 +52,6 @@ module _ (old : List ℕ) (mask n offset : ℕ) {a b c d new : List ℕ}
   pub head-put : words_at ≤ length old → Put 0 words_at (numbers_bytes 2 (head_numbers mask n offset)) old new
   unfolding numbers_bytes join bytes_of
   head-put h = put_next (put_next (put_next (put_next mask-put count-put (omega arith)) words-put (omega arith)) rows-put (omega arith)) offset-put (omega arith)
-
--- ---- the words of a credential
-module _ (g : Grants) {has : Words} (e : has ≡ words_of g) where
-  pub grant-in : has.grant ≡ grant_in g
-  unfolding grant_in
-  grant-in = ap (λ (w : Words). w.grant) e
-
-  pub second-in : has.second ≡ second_in g
-  unfolding second_in
-  second-in = ap (λ (w : Words). w.second) e
 
 -- ---- the layout
 pub seconds-there : (offset : ℕ) → eqb offset saved_at ≡ has_seconds offset
@@ -124,4 +103,4 @@ module _ (grants : List Grants) (n offset : ℕ) {old : List ℕ} {long : ℕ} (
 pub head-room : (offset : ℕ) (old : List ℕ) {long : ℕ} → long ≡ front_long offset → long ≤ length old → words_at ≤ length old
 head-room offset old e h = omega (arith, front-least offset)
 
-pub ruleset rules = (std_rules, masked-none, mask-double, mask-more, mask-hit, mask-miss, masked-all, head-put, grant-in, second-in, taken_none, taken-on, taken-all, worded-none, worded-length, worded-on, worded-all, seconds-there, long-new, long-old, words-room, seconds-room, both-put, grants-put, front-short, front-all, head-room)
+pub ruleset rules = (std_rules, masked-none, mask-double, masked-fits, masked_on, masked-all, head-put, worded-none, worded-length, worded-on, worded-all, seconds-there, long-new, long-old, words-room, seconds-room, both-put, grants-put, front-short, front-all, head-room)

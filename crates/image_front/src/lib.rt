@@ -1,5 +1,5 @@
 // What stands before the rows of an image, its head and its words, in either layout, written at the front of a buffer. docs/IMAGE.md draws it.
-#![tactic(auto)]
+#![tactic(auto, using(crate::proofs::Rules::rules))]
 
 ghost use Rattle.std.specs.Prelude.{◌≡◌, ◌++◌, map, ◌+◌, ◌-◌, ◌≤◌, length};
 ghost use Rattle.rows.specs.Rows.{over, Put};
@@ -19,15 +19,8 @@ fn mask_of(l: [Grants; CREDENTIALS]) -> u16
     ensures { result ≡ mask_of l }
 {
     let mut mask: u16 = 0;
-    let mut left: usize = CREDENTIALS;
-    while 0 < left {
-        let i = left - 1;
-        let one = l[i];
-        mask = mask * 2;
-        if one.provisioned {
-            mask += 1;
-        }
-        left = i;
+    for i in (0..CREDENTIALS).rev() {
+        mask = mask * 2 + u16::from(l[i].provisioned);
     }
     mask
 }
@@ -48,39 +41,21 @@ fn put_numbers(buffer: &mut [u8], mask: u16, n: u16, offset: u16)
 fn grants_in(l: [Grants; CREDENTIALS]) -> [u32; CREDENTIALS]
     ensures { result ≡ map grant_in l }
 {
-    let mut words: [u32; CREDENTIALS] = [0; CREDENTIALS];
-    let mut i: usize = 0;
-    while i < CREDENTIALS {
-        let g = l[i];
-        let has = module_state::words_of(g);
-        words[i] = has.grant;
-        i += 1;
-    }
-    words
+    l.map(|g| module_state::words_of(g).grant)
 }
 
 fn seconds_in(l: [Grants; CREDENTIALS]) -> [u32; CREDENTIALS]
     ensures { result ≡ map second_in l }
 {
-    let mut seconds: [u32; CREDENTIALS] = [0; CREDENTIALS];
-    let mut i: usize = 0;
-    while i < CREDENTIALS {
-        let g = l[i];
-        let has = module_state::words_of(g);
-        seconds[i] = has.second;
-        i += 1;
-    }
-    seconds
+    l.map(|g| module_state::words_of(g).second)
 }
 
 fn put_words(buffer: &mut [u8], at: usize, words: [u32; CREDENTIALS])
     requires { at + words_size ≤ length buffer.old }
     ensures { Put at words_size (numbers_bytes word_size words) buffer.old buffer.new }
 {
-    let mut i: usize = 0;
-    while i < CREDENTIALS {
-        rows::put_number32(buffer, at + i * WORD_SIZE, words[i]);
-        i += 1;
+    for (i, word) in words.iter().enumerate() {
+        rows::put_number32(buffer, at + i * WORD_SIZE, *word);
     }
 }
 
@@ -90,16 +65,17 @@ fn put_words(buffer: &mut [u8], at: usize, words: [u32; CREDENTIALS])
 fn has_seconds(offset: u16) -> bool
     ensures { result ≡ has_seconds offset }
 {
-    offset as usize == SAVED_AT
+    usize::from(offset) == SAVED_AT
 }
 
 fn front_long(offset: u16) -> usize
     ensures { result ≡ front_long offset }
 {
     if has_seconds(offset) {
-        return SAVED_AT;
+        SAVED_AT
+    } else {
+        OLD_SAVED_AT
     }
-    OLD_SAVED_AT
 }
 
 // ---- the whole
@@ -119,9 +95,8 @@ fn put_both(buffer: &mut [u8], l: [Grants; CREDENTIALS], offset: u16)
 pub fn put_front(buffer: &mut [u8], grants: [Grants; CREDENTIALS], n: u16, offset: u16)
     ensures { buffer.new ≡ over 0 (front_long offset) (front_bytes grants n offset) buffer.old }
 {
-    if buffer.len() < front_long(offset) {
-        return;
+    if front_long(offset) <= buffer.len() {
+        put_numbers(buffer, mask_of(grants), n, offset);
+        put_both(buffer, grants, offset);
     }
-    put_numbers(buffer, mask_of(grants), n, offset);
-    put_both(buffer, grants, offset);
 }

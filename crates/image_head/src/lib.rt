@@ -1,5 +1,5 @@
 // The head of an image: its five numbers tested, and the credentials that its mask and its words say. docs/IMAGE.md draws both layouts.
-#![tactic(auto)]
+#![tactic(auto, using(crate::proofs::Rules::rules), unfolding(image::specs::Image::head_in, image::specs::Image::has_seconds, image::specs::Image::is_row_offset, image::specs::Image::head_fits, image::specs::Image::seconds_from))]
 
 ghost use Rattle.std.specs.Prelude.{◌≡◌, ◌≤◌};
 ghost use Rattle.image.specs.Image.{seconds_at, is_row_offset, head_in, words_from, seconds_from, grants_said, grants_among, head_fits};
@@ -18,10 +18,10 @@ pub fn read_head(b: &[u8]) -> ImageHead
 {
     ImageHead {
         mask: rows::number16(b, MASK_AT),
-        words: rows::number16(b, WORD_COUNT_AT) as usize,
-        from: rows::number16(b, WORD_OFFSET_AT) as usize,
-        rows: rows::number16(b, ROW_COUNT_AT) as usize,
-        offset: rows::number16(b, ROW_OFFSET_AT) as usize,
+        words: usize::from(rows::number16(b, WORD_COUNT_AT)),
+        from: usize::from(rows::number16(b, WORD_OFFSET_AT)),
+        rows: usize::from(rows::number16(b, ROW_COUNT_AT)),
+        offset: usize::from(rows::number16(b, ROW_OFFSET_AT)),
     }
 }
 
@@ -29,28 +29,17 @@ pub fn read_head(b: &[u8]) -> ImageHead
 fn is_row_offset(offset: usize) -> bool
     ensures { result ≡ is_row_offset offset }
 {
-    if offset == OLD_SAVED_AT {
-        return true;
-    }
-    offset == SAVED_AT
+    offset == SAVED_AT || offset == OLD_SAVED_AT
 }
 
 pub fn head_fits(h: ImageHead) -> bool
     ensures { result ≡ head_fits h }
 {
-    if 255 < h.mask {
-        return false;
-    }
-    if h.words != CREDENTIALS {
-        return false;
-    }
-    if h.from != WORDS_AT {
-        return false;
-    }
-    if PLACES < h.rows {
-        return false;
-    }
-    is_row_offset(h.offset)
+    h.mask < 256
+        && h.words == CREDENTIALS
+        && h.from == WORDS_AT
+        && h.rows <= PLACES
+        && is_row_offset(h.offset)
 }
 
 // ---- the credentials
@@ -61,10 +50,8 @@ fn read_words(b: &[u8], at: usize) -> [u32; CREDENTIALS]
     ensures { result ≡ words_from at b.now }
 {
     let mut words: [u32; CREDENTIALS] = [0; CREDENTIALS];
-    let mut i: usize = 0;
-    while i < CREDENTIALS {
+    for i in 0..CREDENTIALS {
         words[i] = rows::number32(b, at + i * WORD_SIZE);
-        i += 1;
     }
     words
 }
@@ -74,9 +61,10 @@ fn read_seconds(b: &[u8], offset: usize) -> [u32; CREDENTIALS]
     ensures { result ≡ seconds_from offset b.now }
 {
     if offset == SAVED_AT {
-        return read_words(b, SECONDS_AT);
+        read_words(b, SECONDS_AT)
+    } else {
+        [0; CREDENTIALS]
     }
-    [0; CREDENTIALS]
 }
 
 // A mask, grant words and second words: bit i is credential i's.
@@ -89,8 +77,7 @@ fn grants_said(
 {
     let mut grants = [UNPROVISIONED; CREDENTIALS];
     let mut left = mask;
-    let mut i: usize = 0;
-    while i < CREDENTIALS {
+    for i in 0..CREDENTIALS {
         grants[i] = Grants {
             provisioned: left % 2 == 1,
             words: Words {
@@ -99,7 +86,6 @@ fn grants_said(
             },
         };
         left = left / 2;
-        i += 1;
     }
     grants
 }
@@ -108,7 +94,5 @@ fn grants_said(
 pub fn read_grants(b: &[u8], mask: u16, offset: usize) -> [Grants; CREDENTIALS]
     ensures { result ≡ grants_among mask offset b.now }
 {
-    let words = read_words(b, WORDS_AT);
-    let seconds = read_seconds(b, offset);
-    grants_said(mask, words, seconds)
+    grants_said(mask, read_words(b, WORDS_AT), read_seconds(b, offset))
 }

@@ -1,12 +1,12 @@
 // The module that an image makes, read into a value. docs/IMAGE.md draws the image.
-#![tactic(auto)]
+#![tactic(auto, using(crate::proofs::Rules::rules), unfolding(image::specs::Image::saved_process))]
 
-ghost use Rattle.std.specs.Prelude.{◌≡◌, map};
-ghost use Rattle.table.specs.Table.{table_of};
-ghost use Rattle.image.specs.Image.{saved_among, saved_process, read_image, SavedLie};
+ghost use Rattle.std.specs.Prelude.{◌≡◌, ◌≤◌, map, length};
+ghost use Rattle.table.specs.Table.{places, table_of};
+ghost use Rattle.image.specs.Image.{saved_from, saved_process, read_image};
 
-use image::{ImageRead, SAVED_SIZE, SavedRow};
-use module_state::{CREDENTIALS, UNPROVISIONED};
+use image::{SAVED_SIZE, SavedRow};
+use module_state::State;
 use names::{Kind, Session};
 use table::{Process, Table};
 
@@ -15,56 +15,40 @@ use table::{Process, Table};
 fn saved_process(row: SavedRow) -> Process
     ensures { result ≡ saved_process row }
 {
-    let owner = row.owner;
-    let name = row.name;
     Process {
-        credential: owner,
+        credential: row.owner,
         kind: Kind::Saved,
         session: Session(0),
         next: row.next,
-        name: name,
+        name: row.name,
     }
 }
 
-fn read_saved(b: &[u8], offset: usize, n: usize) -> Table
-    requires { SavedLie b.now offset n }
-    ensures { result ≡ table_of (map saved_process (saved_among offset n b.now)) }
+fn read_saved(saved: &[[u8; SAVED_SIZE]]) -> Table
+    requires { length saved.now ≤ places }
+    ensures { result ≡ table_of (map saved_process (map saved_from saved.now)) }
 {
-    let empty = table::empty();
-    let mut places = empty.places;
-    let mut i: usize = 0;
-    while i < n {
-        let a = offset + i * SAVED_SIZE;
-        let e = a + SAVED_SIZE;
-        let read = image_row::read_row(&b[a..e]);
-        let row = read.row;
-        places[i] = saved_process(row);
-        i += 1;
+    let mut places = table::empty().places;
+    for (i, row) in saved.iter().enumerate() {
+        places[i] = saved_process(image_row::row_of(row));
     }
     Table {
-        places: places,
-        count: n,
+        places,
+        count: saved.len(),
     }
 }
 
 // ---- the module
 
-// The module that bytes make, and whether they are an image.
-pub fn read_image(b: &[u8]) -> ImageRead
+// The module that bytes make, where they are an image.
+pub fn read_image(b: &[u8]) -> Option<State>
     ensures { result ≡ read_image b.now }
 {
-    let tested = image_test::test_image(b);
-    if !tested.fits {
-        return ImageRead {
-            fits: false,
-            state: module_state::closed_module([UNPROVISIONED; CREDENTIALS], table::empty()),
-        };
-    }
-    let head = tested.head;
-    let grants = tested.grants;
-    let saved = read_saved(b, head.offset, head.rows);
-    ImageRead {
-        fits: true,
-        state: module_state::closed_module(grants, saved),
+    match image_test::test_image(b) {
+        Ok(parts) => {
+            let saved = read_saved(image_test::saved_rows(b, parts.head.offset));
+            Some(module_state::closed_module(parts.grants, saved))
+        }
+        Err(_) => None,
     }
 }

@@ -1,5 +1,7 @@
 -- The laws that close the needs of this crate's functions by `search rules`: each premise is as a place's record has it.
 -- Assumes nothing.
+use Rattle.std.specs.Prelude.{Some}
+use Rattle.std.specs.List.{list_all}
 use Prim.Native.Nat.{ℕ, suc, ◌+◌, ◌-◌, ◌*◌, ◌^◌, ◌<◌, ◌≤◌}
 use mathlib.Core.Path.{◌≡◌, refl, sym, ap, ◌∙◌}
 use mathlib.Core.Bool.{Bool, true, false, cond, not}
@@ -11,31 +13,29 @@ use borrow.Author.Rules.{rules as std_rules}
 use borrow.Author.Tests.{lt-ltb, le-ltb, ne_eqb, eq-eqb, leb-true, not-true, not-false, eqb-true}
 use borrow.Rule.Slice.PartMut.{put_mid}
 use mir.Syntax.{w16, w64}
-use mir.Val.{Fits}
+use mir.Val.{Fits, bool_byte as from_bool}
 use lib.Dec.{eqb, leb}
 use lib.Pow.{pow_mono}
 use lib.ListN.{length, get_or, take, drop, set, length-set, length-take, length-drop, length-append, drop_of_length-le}
-use lib.Seq.{take_at, set_split, drop-cons, drop-drop, get_or-take, length-take-le, append_snoc}
+use lib.Seq.{take_at, set_split, drop-cons, drop-drop, length-take-le, append_snoc}
 use Rattle.lists.specs.Lists.{sum, join}
 use Rattle.lists.proofs.Lists.{length-mapped}
 use Rattle.lists.proofs.Tests.{split, and_left}
 use Rattle.rows.specs.Bytes.{bits_number}
-use Rattle.rows.specs.Rows.{rows, over, Put}
+use Rattle.rows.specs.Rows.{rows, every, over, Put}
 use Rattle.rows.proofs.Bytes.{bits_small, bits-more}
 use Rattle.rows.proofs.Rows.{rows-length, row-at}
 use Rattle.rows.proofs.Over.{put-length, put_next}
-use Rattle.rows.proofs.Loops.{EveryFrom, every-begin, every-on, every-fail, every-all, and-false, Wrote, wrote-begin, wrote-length, wrote-room, wrote-part, wrote_on, wrote-all}
+use Rattle.rows.proofs.Loops.{and-false, Wrote, wrote-begin, wrote-length, wrote-room, wrote-part, wrote_on, wrote-all}
 use Rattle.names.specs.Names.{same_name}
 use Rattle.table.specs.Table.{places}
 use Rattle.module_state.specs.Module.{unprovisioned, credential_count}
 use Rattle.module_state.specs.Numbers.{◌when◌, ◌unless◌, ◌▸◌}
 use Rattle.module_state.specs.declared.Grants.{Grants}
 use Rattle.image.specs.declared.ImageHead.{ImageHead}
-use Rattle.image_damaged.specs.declared.Rescued.{Rescued}
-use Rattle.image.specs.declared.SavedRead.{SavedRead}
 use Rattle.image.specs.declared.SavedRow.{SavedRow}
 use Rattle.image.specs.Image.{words_at, saved_size, is_row_offset, image_long, image_bytes, front_bytes, front_long, head_in, grants_among, grants_in, saved_from, saved_bytes, is_whole, read_saved, saved_over, is_keepable, differ, head_fits}
-use Rattle.image_damaged.specs.Rescue.{is_usable, nonzero, words_cleared, has_new_name, cleared, stated, is_kept, kept_with, keep, rows_kept, are_dropped, rows_dropped, dropped, rescued_image, rescued, rescued_long, rescue_number, refused_by, rescue_answer, RescueWritten}
+use Rattle.image_damaged.specs.Rescue.{Rescued, is_usable, nonzero, words_cleared, has_new_name, cleared, stated, is_kept, kept_with, keep, rows_kept, are_dropped, rows_dropped, dropped, rescued_image, rescued, rescued_long, rescue_number, refused_by, rescue_answer, RescueWritten}
 use Rattle.image.proofs.Rows.{SummedTo, sum-begin, sum-few, sum-next, sum_done}
 use Rattle.image.proofs.Laws.{offset-low, Head, front-rows}
 use Rattle.image_damaged.proofs.Laws.{with-kept, with-dropped, usable-head, usable-is, taken-bytes}
@@ -46,25 +46,21 @@ use Rattle.image_rescue.specs.declared.Sorted.{Sorted}
 
 -- ---- the head and the words
 module _ (b : List ℕ) {h : ImageHead} (e : h ≡ head_in b) {t : Bool} (f : t ≡ head_fits h) where
-  pub usable-not : not t ≡ true → false ≡ is_usable b
+  pub usable-not : t ≡ false → false ≡ is_usable b
   unfolding is_usable
-  usable-not n = rw (← e, ← f, not-true t n, and-false (leb words_at (length b)))
+  usable-not n = rw (← e, ← f, n, and-false (leb words_at (length b)))
 
-  pub usable-words : not t ≡ false → leb h.offset (length b) ≡ is_usable b
+  pub usable-words : t ≡ true → leb h.offset (length b) ≡ is_usable b
   usable-words n =
-      let fits : head_fits (head_in b) ≡ true = rw e at (sym f ∙ not-false t n) in
+      let fits : head_fits (head_in b) ≡ true = rw e at (sym f ∙ n) in
       split (leb (head_in b).offset (length b))
       (λ l. rw (e, l) (sym (usable-is b fits (leb-true (head_in b).offset (length b) l))))
       (λ l. rw (e, l) (unfold is_usable in rw (l, and-false (head_fits (head_in b)), and-false (leb words_at (length b)))))
 
 module _ (word : ℕ) where
-  pub nonzero-none : word ≡ 0 → 0 ≡ nonzero word
+  pub nonzero-byte : from_bool (not (eqb word 0)) ≡ nonzero word
   unfolding nonzero
-  nonzero-none e = rw (eq-eqb word 0 e)
-
-  pub nonzero-one : (word ≡ 0 → ⊥) → 1 ≡ nonzero word
-  unfolding nonzero
-  nonzero-one n = rw (ne_eqb word 0 n)
+  nonzero-byte = split (eqb word 0) (λ e. rw e) (λ e. rw e)
 
   nonzero-low : nonzero word ≤ 1
   unfolding nonzero
@@ -97,39 +93,11 @@ module _ {grants : List Grants} {s i : ℕ} (v : SummedTo words_cleared 2 grants
     pub cleared-next : SummedTo words_cleared 2 grants (s + x) (i + 1)
     cleared-next = sum-next v h e few
 
--- ---- a row's name with those kept before: the first i differ
-pub record NewTo (row : SavedRow) (before : List SavedRow) (kept i : ℕ) : Type 0 where
-  pub long : length before ≡ places
-  pub within : kept ≤ places
-  pub passed : EveryFrom (λ q. differ q row) (take kept before) 0 i
-
-pub new-begin : (row : SavedRow) (before : List SavedRow) (kept : ℕ) → length before ≡ places → kept ≤ places → NewTo row before kept 0
-new-begin row before kept l h = record { long = l; within = h; passed = every-begin (λ q. differ q row) (take kept before) 0 (omega arith) }
-
-module _ {row : SavedRow} {before : List SavedRow} {kept i : ℕ} (v : NewTo row before kept i) where
-  pub new-low : i < kept → i < places
-  new-low h = omega (arith, v.within)
-
-  module _ (d : SavedRow) (h : i < kept) {s : Bool} (e : s ≡ same_name (get_or before i d).name row.name) where
-    inside : i < length (take kept before)
-    inside = rw (length-take-le kept before (omega (arith, v.long, v.within))) h
-
-    there : {t : Bool} → s ≡ t → differ (get_or (take kept before) i d) row ≡ not t
-    unfolding differ
-    there t = rw (get_or-take kept before i d h, ← e, t)
-
-    pub new-on : s ≡ false → NewTo row before kept (i + 1)
-    new-on t = record { long = v.long; within = v.within; passed = every-on d v.passed inside (there t) }
-
-    pub new-not : s ≡ true → false ≡ has_new_name (take kept before) row
-    unfolding has_new_name
-    new-not t = sym (every-fail d v.passed inside (there t))
-
-  pub new-all : kept ≤ i → true ≡ has_new_name (take kept before) row
-  unfolding has_new_name
-  new-all h =
-      let past : length (take kept before) ≤ i = omega (arith, length-take-le kept before (omega (arith, v.long, v.within))) in
-      sym (every-all v.passed past)
+-- ---- a row's name with those kept before
+new_names : (held : List SavedRow) (row : SavedRow) → list_all (λ q. not (same_name q.name row.name)) held ≡ has_new_name held row
+unfolding has_new_name every differ
+new_names [] row = refl
+new_names (q ∷ held) row = rw (new_names held row)
 
 -- ---- a row by itself
 module _ (b : List ℕ) (at : ℕ) where
@@ -150,17 +118,17 @@ module _ (b : List ℕ) (at : ℕ) where
     unfolding is_whole
     whole = eq-eqb (length part) saved_size long
 
-    pub saved-is : {read : SavedRead} → read ≡ read_saved lent → read.row ≡ saved_from part
-    saved-is e = rw (e, same-part, row_read part long)
+    pub saved-is : read_saved lent ≡ Some (saved_from part)
+    saved-is = rw same-part (row_read part long)
 
     module _ (grants : List Grants) (before : List SavedRow) {k : Bool} (e : k ≡ is_keepable grants (saved_from lent)) where
-      pub kept-not : not k ≡ true → false ≡ is_kept grants before part
+      pub kept-not : k ≡ false → false ≡ is_kept grants before part
       unfolding is_kept
-      kept-not n = rw (whole, rw same-part at (sym e ∙ not-true k n))
+      kept-not n = rw (whole, rw same-part at (sym e ∙ n))
 
-      pub kept_new : not k ≡ false → {row : SavedRow} {n : Bool} → row ≡ saved_from part → n ≡ has_new_name before row → n ≡ is_kept grants before part
+      pub kept_new : k ≡ true → {row : SavedRow} {n : Bool} → row ≡ saved_from part → n ≡ list_all (λ q. not (same_name q.name row.name)) before → n ≡ is_kept grants before part
       unfolding is_kept
-      kept_new n f g = g ∙ rw (f, whole, rw same-part at (sym e ∙ not-false k n))
+      kept_new n {row} f g = g ∙ new_names before row ∙ rw (f, whole, rw same-part at (sym e ∙ n))
 
   pub kept-cut : (grants : List Grants) (before : List SavedRow) → length b < at + saved_size → false ≡ is_kept grants before part
   unfolding is_kept is_whole
@@ -279,34 +247,20 @@ module _ {grants : List Grants} {b : List ℕ} {offset n : ℕ} {held : List Sav
       }
 
 -- ---- the rows written: the first i are
-pub record PutTo (offset : ℕ) (held : List SavedRow) (kept : ℕ) (old new : List ℕ) (i : ℕ) : Type 0 where
+pub record PutTo (offset : ℕ) (held : List SavedRow) (old new : List ℕ) (i : ℕ) : Type 0 where
   pub from : is_row_offset offset ≡ true
-  pub few : kept ≤ places
-  pub long : length held ≡ places
-  pub wrote : Wrote saved_bytes saved_size offset (take kept held) old new i
+  pub few : length held ≤ places
+  pub wrote : Wrote saved_bytes saved_size offset held old new i
 
-module _ (offset : ℕ) (held : List SavedRow) (kept : ℕ) (l : length held ≡ places) (few : kept ≤ places) where
-  held-many : length (take kept held) ≡ kept
-  held-many = length-take-le kept held (omega arith)
+pub put-begin : (offset : ℕ) (held : List SavedRow) {old : List ℕ} → is_row_offset offset ≡ true → length held ≤ places → image_long offset (length held) ≤ length old → PutTo offset held old old 0
+unfolding image_long
+put-begin offset held {old} o h r = record { from = o; few = h; wrote = wrote-begin saved_bytes saved_size offset held old r }
 
-  pub put-begin : {old : List ℕ} → is_row_offset offset ≡ true → image_long offset kept ≤ length old → PutTo offset held kept old old 0
-  unfolding image_long
-  put-begin {old} o r = record { from = o; few = few; long = l; wrote = wrote-begin saved_bytes saved_size offset (take kept held) old (rw held-many r) }
-
-module _ {offset : ℕ} {held : List SavedRow} {kept : ℕ} {old new : List ℕ} {i : ℕ} (v : PutTo offset held kept old new i) where
-  kept-is : length (take kept held) ≡ kept
-  kept-is = held-many offset held kept v.long v.few
-
+module _ {offset : ℕ} {held : List SavedRow} {old new : List ℕ} {i : ℕ} (v : PutTo offset held old new i) where
   pub putting-length : length new ≡ length old
   putting-length = wrote-length v.wrote
 
-  module _ (h : i < kept) where
-    inside-rows : i < length (take kept held)
-    inside-rows = rw kept-is h
-
-    pub put_low : i < places
-    put_low = omega (arith, v.few)
-
+  module _ (h : i < length held) where
     pub put-fits : Fits w64 (offset + i * saved_size)
     put-fits = omega (arith, offset-low offset v.from, v.few)
 
@@ -314,47 +268,38 @@ module _ {offset : ℕ} {held : List SavedRow} {kept : ℕ} {old new : List ℕ}
     put-ends = omega (arith, offset-low offset v.from, v.few)
 
     pub put-room : offset + i * saved_size + saved_size ≤ length new
-    put-room = wrote-room v.wrote inside-rows
+    put-room = wrote-room v.wrote h
 
     pub put_on : (d : SavedRow) {ys : List ℕ} → ys ≡ saved_over (take (offset + i * saved_size + saved_size - (offset + i * saved_size)) (drop (offset + i * saved_size) new)) (get_or held i d)
         → length ys ≡ length (take (offset + i * saved_size + saved_size - (offset + i * saved_size)) (drop (offset + i * saved_size) new))
-        → PutTo offset held kept old (put_mid (offset + i * saved_size) (offset + i * saved_size + saved_size - (offset + i * saved_size)) new ys) (i + 1)
-    put_on d e g =
-        record {
-          from = v.from;
-          few = v.few;
-          long = v.long;
-          wrote = wrote_on v.wrote d inside-rows (e ∙ row-over _ (wrote-part v.wrote inside-rows) (get_or held i d) ∙ ap saved_bytes (sym (get_or-take kept held i d h))) g;
-        }
+        → PutTo offset held old (put_mid (offset + i * saved_size) (offset + i * saved_size + saved_size - (offset + i * saved_size)) new ys) (i + 1)
+    put_on d e g = record { from = v.from; few = v.few; wrote = wrote_on v.wrote d h (e ∙ row-over _ (wrote-part v.wrote h) (get_or held i d)) g }
 
-  pub put_all : kept ≤ i → Put offset (kept * saved_size) (join (map saved_bytes (take kept held))) old new
-  put_all h = rw kept-is at (wrote-all v.wrote (rw kept-is h))
+  pub put_all : length held ≤ i → Put offset (length held * saved_size) (join (map saved_bytes held)) old new
+  put_all h = wrote-all v.wrote h
 
 -- ---- the image written: its front, and its rows
-module _ (offset kept : ℕ) (o : is_row_offset offset ≡ true) (h : kept ≤ places) where
-  pub kept-fits : Fits w16 kept
+module _ (offset : ℕ) (held : List SavedRow) (o : is_row_offset offset ≡ true) (h : length held ≤ places) where
+  pub kept-fits : Fits w16 (length held)
   kept-fits = omega arith
 
   pub offset-fits : Fits w16 offset
   offset-fits = omega (arith, offset-low offset o)
 
-  module _ (old : List ℕ) (grants : List Grants) (held : List SavedRow) (r : image_long offset kept ≤ length old) {front : List ℕ}
-      (p : front ≡ over 0 (front_long offset) (front_bytes grants kept offset) old) where
-    module _ (eight : length grants ≡ credential_count) where
-      in-front : Put 0 offset (front_bytes grants kept offset) old front
-      in-front = front-put grants kept offset eight o p
+  module _ (old : List ℕ) (grants : List Grants) (r : image_long offset (length held) ≤ length old) {front : List ℕ}
+      (p : front ≡ over 0 (front_long offset) (front_bytes grants (length held) offset) old) (eight : length grants ≡ credential_count) where
+    in-front : Put 0 offset (front_bytes grants (length held) offset) old front
+    in-front = front-put grants (length held) offset eight o p
 
-      pub front-room : image_long offset kept ≤ length front
-      front-room = rw (put-length in-front) r
+    pub front-room : image_long offset (length held) ≤ length front
+    front-room = rw (put-length in-front) r
 
-      pub image-put : length held ≡ places → {new : List ℕ} → Put offset (kept * saved_size) (join (map saved_bytes (take kept held))) front new
-          → new ≡ over 0 (image_long offset kept) (image_bytes (record { offset = offset; grants = grants; saved = take kept held })) old
-      unfolding image_long
-      image-put l {new} q =
-          let behind : Put (0 + offset) (kept * saved_size) (join (map saved_bytes (take kept held))) front new = rw zero-add q in
-          let many : length (take kept held) ≡ kept = held-many offset held kept l h in
-          (put_next in-front behind (omega arith)).is
-          ∙ ap (λ x. over 0 (offset + kept * saved_size) x old) (sym (front-rows (record { offset = offset; grants = grants; saved = take kept held }) ∙ rw many))
+    pub image-put : {new : List ℕ} → Put offset (length held * saved_size) (join (map saved_bytes held)) front new
+        → new ≡ over 0 (image_long offset (length held)) (image_bytes (record { offset = offset; grants = grants; saved = held })) old
+    unfolding image_long
+    image-put {new} q =
+        let behind : Put (0 + offset) (length held * saved_size) (join (map saved_bytes held)) front new = rw zero-add q in
+        (put_next in-front behind (omega arith)).is ∙ ap (λ x. over 0 (offset + length held * saved_size) x old) (sym (front-rows (record { offset = offset; grants = grants; saved = held })))
 
 -- ---- the whole
 refusal : (b old : List ℕ) {number : ℕ} → rescue_number b (length old) ≡ number → eqb number 0 ≡ false → {answer : Rescued} → answer ≡ refused_by number → RescueWritten b old answer old
@@ -403,18 +348,27 @@ module _ (b old : List ℕ) {h : ImageHead} (e : h ≡ head_in b) {u : Bool} (f 
       dropped-are = s.dropped-are ∙ rw (grants-are, e)
 
       module _ (l : length sorted.rows ≡ places) where
+        abbrev held : List SavedRow
+        held = take sorted.kept sorted.rows
+
+        held-many : length held ≡ sorted.kept
+        held-many = length-take-le sorted.kept sorted.rows (omega (arith, s.few))
+
+        pub rescue-held : length held ≤ places
+        rescue-held = omega (arith, held-many, s.few)
+
         kept-many : sorted.kept ≡ length (rows_kept b)
-        kept-many = sym (ap length (sym rows_are) ∙ held-many h.offset sorted.rows sorted.kept l s.few)
+        kept-many = sym held-many ∙ ap length rows_are
 
         long-is : h.offset + sorted.kept * saved_size ≡ rescued_long b
         unfolding rescued_long image_long
         long-is = rw (e, kept-many)
 
-        image-long : image_long h.offset sorted.kept ≡ rescued_long b
+        image-long : image_long h.offset (length held) ≡ rescued_long b
         unfolding image_long
-        image-long = long-is
+        image-long = rw held-many long-is
 
-        image-is : image_bytes (record { offset = h.offset; grants = grants; saved = take sorted.kept sorted.rows }) ≡ rescued b
+        image-is : image_bytes (record { offset = h.offset; grants = grants; saved = held }) ≡ rescued b
         unfolding rescued rescued_image
         image-is = rw (grants-are, rows_are, e) (sym (taken-bytes (head_in b).offset (grants_in b) (rows_kept b)))
 
@@ -426,18 +380,18 @@ module _ (b old : List ℕ) {h : ImageHead} (e : h ≡ head_in b) {u : Bool} (f 
         rescue-room k = refusal b old (lacking k) refl
 
         module _ (k : h.offset + sorted.kept * saved_size ≤ length old) where
-          pub rescue-space : image_long h.offset sorted.kept ≤ length old
+          pub rescue-space : image_long h.offset (length held) ≤ length old
           unfolding image_long
-          rescue-space = k
+          rescue-space = rw held-many k
 
           done : rescue_number b (length old) ≡ 0
           unfolding rescue_number ◌unless◌ ◌when◌ ◌▸◌
           done = rw (usable, le-ltb (length old) (rescued_long b) (rw long-is at k))
 
-          pub rescue-done : {new : List ℕ} {c : ℕ} → new ≡ over 0 (image_long h.offset sorted.kept) (image_bytes (record { offset = h.offset; grants = grants; saved = take sorted.kept sorted.rows })) old
+          pub rescue-done : {new : List ℕ} {c : ℕ} → new ≡ over 0 (image_long h.offset (length held)) (image_bytes (record { offset = h.offset; grants = grants; saved = held })) old
               → c ≡ sum (map words_cleared grants)
               → RescueWritten b old (record { number = 0; length = h.offset + sorted.kept * saved_size; cleared = c; kept = sorted.kept; dropped = sorted.dropped }) new
           unfolding rescue_answer cleared
           rescue-done w c = record { answer-is = rw (done, c, grants-are, long-is, kept-many, dropped-are); bytes-are = w ∙ rw (done, image-is, image-long) }
 
-pub ruleset rules = (std_rules, length-mapped, usable-not, usable-words, nonzero-none, nonzero-one, cleared-none, both-fit, cleared_both, sum-begin, cleared-fit, cleared-next, sum_done, new-begin, new-low, new-on, new-not, new-all, saved-is, kept-not, kept_new, kept-cut, sorting-begin, bit-fits, dropped-fits, at-fits, at_low, kept-places, kept-inside, kept_whole, sorted-kept, sorted-dropped, sorted_all, put-begin, putting-length, put_low, put-fits, put-ends, put-room, put_on, put_all, kept-fits, offset-fits, front-room, image-put, rescue-message, rescue-from, rescue-few, long-part, long-fits, sorted-few, rescue-room, rescue-space, rescue-done)
+pub ruleset rules = (std_rules, length-mapped, usable-not, usable-words, nonzero-byte, cleared-none, both-fit, cleared_both, sum-begin, cleared-fit, cleared-next, sum_done, saved-is, kept-not, kept_new, kept-cut, sorting-begin, bit-fits, dropped-fits, at-fits, at_low, kept-places, kept-inside, kept_whole, sorted-kept, sorted-dropped, sorted_all, put-begin, putting-length, put-fits, put-ends, put-room, put_on, put_all, kept-fits, offset-fits, front-room, image-put, rescue-message, rescue-from, rescue-few, long-part, long-fits, sorted-few, rescue-held, rescue-room, rescue-space, rescue-done)

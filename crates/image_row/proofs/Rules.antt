@@ -2,35 +2,21 @@
 -- Assumes nothing.
 use Prim.Native.Nat.{ℕ}
 use mathlib.Core.Path.{◌≡◌, sym, ◌∙◌}
-use mathlib.Core.Bool.{true, false}
 use mathlib.Core.List.{List, ◌++◌, append_assoc}
 use native.Mathlib.Omega.{arith}
 use borrow.Author.Rules.{rules as std_rules}
 use borrow.Rule.Slice.PartMut.{put_mid}
 use lib.ListN.{length, take, drop, length-take, length-drop}
-use Rattle.rows.specs.Bytes.{bytes_of, number_at}
+use Rattle.rows.specs.Bytes.{bytes_of}
 use Rattle.rows.specs.Rows.{over, Put}
 use Rattle.rows.proofs.Bytes.{length-bytes}
 use Rattle.rows.proofs.Over.{over-part, put-length, put_next, put_whole}
-use Rattle.names.specs.Names.{name_in, name_length, read_name}
-use Rattle.names.specs.declared.NameRead.{NameRead}
+use Rattle.names.specs.Names.{name_in, name_length}
 use Rattle.names.proofs.Laws.{name-in}
-use Rattle.image.specs.declared.SavedRead.{SavedRead}
 use Rattle.image.specs.declared.SavedRow.{SavedRow}
-use Rattle.image.specs.Image.{saved_owner_at, saved_next_at, saved_name_at, saved_size, no_saved, saved_bytes, saved_from, read_saved, saved_over}
+use Rattle.image.specs.Image.{saved_owner_at, saved_next_at, saved_name_at, saved_size, saved_bytes, saved_over}
 use Rattle.image.proofs.Rows.{saved-name}
-use Rattle.image_row.proofs.Laws.{row_read, row-over, no-row-read, no-row-over}
-
--- ---- a row read
-module _ (part : List ℕ) where
-  pub read_none : {row : SavedRow} → (length part ≡ saved_size → ⊥) → row ≡ no_saved → ◌≡◌ {A = SavedRead} (record { fits = false; row = row }) (read_saved part)
-  read_none h e = rw e (sym (no-row-read part h))
-
-  pub read_whole : {c n : ℕ} {read : NameRead}
-      → length part ≡ saved_size → c ≡ number_at 2 saved_owner_at part → n ≡ number_at 2 saved_next_at part → read ≡ read_name (take name_length (drop saved_name_at part))
-      → ◌≡◌ {A = SavedRead} (record { fits = true; row = record { owner = record { 0 = c }; next = n; name = read.name } }) (read_saved part)
-  unfolding saved_from
-  read_whole h e f g = rw (e, f, g, saved-name part h) (sym (row_read part h))
+use Rattle.image_row.proofs.Laws.{row-over, no-row-over}
 
 -- ---- and written: its fields, one after another
 module _ (part : List ℕ) (r : SavedRow) {a b : List ℕ} (h : length part ≡ saved_size)
@@ -55,4 +41,4 @@ module _ (part : List ℕ) (r : SavedRow) {a b : List ℕ} (h : length part ≡ 
 pub row_stays : (part : List ℕ) (r : SavedRow) → (length part ≡ saved_size → ⊥) → part ≡ saved_over part r
 row_stays part r h = sym (no-row-over part h r)
 
-pub ruleset rules = (std_rules, read_none, read_whole, row_put, row_stays)
+pub ruleset rules = (std_rules, saved-name, row_put, row_stays)

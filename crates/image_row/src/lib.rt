@@ -1,46 +1,29 @@
 // The row that an image has of a saved process: 52 bytes, read and written. docs/IMAGE.md draws it.
-#![tactic(auto)]
+#![tactic(auto, using(crate::proofs::Rules::rules), unfolding(image::specs::Image::is_whole, image::specs::Image::read_saved, image::specs::Image::saved_from))]
 
 ghost use Rattle.std.specs.Prelude.{◌≡◌};
-ghost use Rattle.image.specs.Image.{no_saved, read_saved, saved_over};
+ghost use Rattle.image.specs.Image.{read_saved, saved_from, saved_over};
 
-use image::{SAVED_NAME_AT, SAVED_NEXT_AT, SAVED_OWNER_AT, SAVED_SIZE, SavedRead, SavedRow};
-use names::{Credential, NAME_LENGTH, Name};
+use image::{SAVED_NAME_AT, SAVED_NEXT_AT, SAVED_OWNER_AT, SAVED_SIZE, SavedRow};
+use names::Credential;
 
-fn no_saved() -> SavedRow
-    ensures { result ≡ no_saved }
+// The row that its bytes say.
+pub fn row_of(row: &[u8; SAVED_SIZE]) -> SavedRow
+    ensures { result ≡ saved_from row.now }
 {
     SavedRow {
-        owner: Credential(0),
-        next: 0,
-        name: Name {
-            bytes: [0; NAME_LENGTH],
-        },
+        owner: Credential(rows::number16(row, SAVED_OWNER_AT)),
+        next: rows::number16(row, SAVED_NEXT_AT),
+        name: names::read_name(&row[SAVED_NAME_AT..]).unwrap(),
     }
 }
 
 // The row that a part of bytes says, where it is whole.
-pub fn read_row(part: &[u8]) -> SavedRead
+pub fn read_row(part: &[u8]) -> Option<SavedRow>
     ensures { result ≡ read_saved part.now }
 {
-    if part.len() != SAVED_SIZE {
-        return SavedRead {
-            fits: false,
-            row: no_saved(),
-        };
-    }
-    let owner = rows::number16(part, SAVED_OWNER_AT);
-    let next = rows::number16(part, SAVED_NEXT_AT);
-    let read = names::read_name(&part[SAVED_NAME_AT..SAVED_SIZE]);
-    let name = read.name;
-    SavedRead {
-        fits: true,
-        row: SavedRow {
-            owner: Credential(owner),
-            next: next,
-            name: name,
-        },
-    }
+    let row = <&[u8; SAVED_SIZE]>::try_from(part).ok()?;
+    Some(row_of(row))
 }
 
 // The row, in a part of a row's length. A part of another length stays.

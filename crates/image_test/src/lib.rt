@@ -1,14 +1,15 @@
 // Whether bytes are an image, tested where they lie. docs/IMAGE.md draws it.
-#![tactic(auto)]
+#![tactic(auto, using(crate::proofs::Rules::rules), unfolding(image::specs::Image::saved_from, image::specs::Image::words_fit, image::specs::Image::is_owner, image::specs::Image::is_keepable, image::specs::Image::differ))]
 
-ghost use Rattle.std.specs.Prelude.{◌≡◌, true, ◌<◌, eqb, length};
-ghost use Rattle.rows.specs.Rows.{every, pairwise};
-ghost use Rattle.image.specs.Image.{saved_size, image_long, saved_from, saved_among, is_owner, is_keepable, differ, head_fits, words_fit, image_test, SavedLie};
-ghost use Rattle.image_test.specs.Tests.{later_differ, rest_fits};
+ghost use Rattle.std.specs.Prelude.{◌≡◌, ◌/◌, true, map, eqb, length, drop};
+ghost use Rattle.std.specs.List.{list_all};
+ghost use Rattle.rows.specs.Rows.{rows, pairwise};
+ghost use Rattle.image.specs.Image.{saved_size, image_long, saved_from, is_owner, is_keepable, differ, head_fits, words_fit, image_test};
+ghost use Rattle.image_test.specs.Tests.{rest_fits};
 
-use image::{ImageHead, ImageTest, SAVED_NAME_AT, SAVED_NEXT_AT, SAVED_OWNER_AT, SAVED_SIZE};
+use image::{ImageHead, ImageParts, SAVED_NAME_AT, SAVED_NEXT_AT, SAVED_OWNER_AT, SAVED_SIZE};
 use module_state::{CREDENTIALS, Grants};
-use names::Credential;
+use names::{Credential, Name};
 
 // ---- the words
 
@@ -16,27 +17,13 @@ use names::Credential;
 fn words_fit(g: Grants) -> bool
     ensures { result ≡ words_fit g }
 {
-    if g.provisioned {
-        return true;
-    }
-    if g.words.grant != 0 {
-        return false;
-    }
-    g.words.second == 0
+    g.provisioned || (g.words.grant == 0 && g.words.second == 0)
 }
 
 fn all_fit(grants: [Grants; CREDENTIALS]) -> bool
-    ensures { result ≡ every words_fit grants }
+    ensures { result ≡ list_all words_fit grants }
 {
-    let mut i: usize = 0;
-    while i < CREDENTIALS {
-        let one = grants[i];
-        if !words_fit(one) {
-            return false;
-        }
-        i += 1;
-    }
-    true
+    grants.iter().all(|one| words_fit(*one))
 }
 
 // ---- the rows, each by itself
@@ -45,12 +32,10 @@ fn all_fit(grants: [Grants; CREDENTIALS]) -> bool
 fn is_owner(grants: [Grants; CREDENTIALS], c: Credential) -> bool
     ensures { result ≡ is_owner grants c }
 {
-    let owner = c.0 as usize;
-    if owner < CREDENTIALS {
-        let one = grants[owner];
-        return one.provisioned;
+    match grants.get(usize::from(c.0)) {
+        Some(one) => one.provisioned,
+        None => false,
     }
-    false
 }
 
 // Whether a row may be kept, by its owner and its next number.
@@ -58,79 +43,63 @@ pub fn is_keepable(grants: [Grants; CREDENTIALS], row: &[u8]) -> bool
     ensures { result ≡ is_keepable grants (saved_from row.now) }
 {
     let owner = Credential(rows::number16(row, SAVED_OWNER_AT));
-    if !is_owner(grants, owner) {
-        return false;
-    }
-    1 <= rows::number16(row, SAVED_NEXT_AT)
+    is_owner(grants, owner) && 1 <= rows::number16(row, SAVED_NEXT_AT)
 }
 
-fn are_keepable(b: &[u8], offset: usize, n: usize, grants: [Grants; CREDENTIALS]) -> bool
-    requires { SavedLie b.now offset n }
-    ensures { result ≡ every (is_keepable grants) (saved_among offset n b.now) }
+fn are_keepable(saved: &[[u8; SAVED_SIZE]], grants: [Grants; CREDENTIALS]) -> bool
+    ensures { result ≡ list_all (λ row. is_keepable grants (saved_from row)) saved.now }
 {
-    let mut i: usize = 0;
-    while i < n {
-        let a = offset + i * SAVED_SIZE;
-        let e = a + SAVED_SIZE;
-        if !is_keepable(grants, &b[a..e]) {
-            return false;
-        }
-        i += 1;
-    }
-    true
+    saved.iter().all(|row| is_keepable(grants, row))
 }
 
 // ---- the rows' names
 
-fn differ<'a>(a: &'a [u8], b: &'a [u8]) -> bool
-    requires a_len { length a.now ≡ saved_size }
-    requires b_len { length b.now ≡ saved_size }
+fn name_of(row: &[u8; SAVED_SIZE]) -> Name
+    ensures { result ≡ (saved_from row.now).name }
+{
+    names::read_name(&row[SAVED_NAME_AT..]).unwrap()
+}
+
+fn differ(a: &[u8; SAVED_SIZE], b: &[u8; SAVED_SIZE]) -> bool
     ensures { result ≡ differ (saved_from a.now) (saved_from b.now) }
 {
-    let one = names::read_name(&a[SAVED_NAME_AT..SAVED_SIZE]);
-    let other = names::read_name(&b[SAVED_NAME_AT..SAVED_SIZE]);
-    let x = one.name;
-    let y = other.name;
-    !names::same(x, y)
+    !names::same(name_of(a), name_of(b))
 }
 
-// Whether the name of the row at i differs from that of each later one.
-fn differs(b: &[u8], offset: usize, n: usize, i: usize) -> bool
-    requires saved_lie { SavedLie b.now offset n }
-    requires i_lt_n { i < n }
-    ensures { result ≡ later_differ b.now offset n i }
+// Whether the name of a row differs from that of each later one.
+fn differs(first: &[u8; SAVED_SIZE], later: &[[u8; SAVED_SIZE]]) -> bool
+    ensures { result ≡ list_all (λ other. differ (saved_from first.now) (saved_from other)) later.now }
 {
-    let a = offset + i * SAVED_SIZE;
-    let e = a + SAVED_SIZE;
-    let mut j = i + 1;
-    while j < n {
-        let f = offset + j * SAVED_SIZE;
-        let g = f + SAVED_SIZE;
-        if !differ(&b[a..e], &b[f..g]) {
-            return false;
-        }
-        j += 1;
-    }
-    true
+    later.iter().all(|other| differ(first, other))
 }
 
-fn all_differ(b: &[u8], offset: usize, n: usize) -> bool
-    requires { SavedLie b.now offset n }
-    ensures { result ≡ pairwise differ (saved_among offset n b.now) }
+#[tactic(auto, using(crate::proofs::Rules::rules))]
+fn all_differ(saved: &[[u8; SAVED_SIZE]]) -> bool
+    ensures { result ≡ pairwise differ (map saved_from saved.now) }
 {
-    let mut first: usize = 0;
-    while first < n {
-        if !differs(b, offset, n, first) {
+    let mut rest = saved;
+    while let [first, later @ ..] = rest {
+        if !differs(first, later) {
             return false;
         }
-        first += 1;
+        rest = later;
     }
     true
 }
 
 // ---- the whole
 
+// The rows that stand whole from an offset on: those of an image whose rows begin there.
+#[tactic(auto, using(crate::proofs::Rules::rules))]
+pub fn saved_rows(b: &[u8], offset: usize) -> &[[u8; SAVED_SIZE]]
+    ensures { result.now ≡ rows (length (drop offset b.now) / saved_size) saved_size (drop offset b.now) }
+{
+    let (saved, _) = rows::bytes_from(b, offset).as_chunks::<SAVED_SIZE>();
+    saved
+}
+
 // Whether bytes are as long as an image with this head.
+#[tactic(auto, using(crate::proofs::Rules::rules))]
 fn is_long(b: &[u8], h: ImageHead) -> bool
     requires { head_fits h ≡ true }
     ensures { result ≡ eqb (length b.now) (image_long h.offset h.rows) }
@@ -139,6 +108,7 @@ fn is_long(b: &[u8], h: ImageHead) -> bool
 }
 
 // Whether the words and the rows fit, of bytes whose head does: the length that it asks for is then a small number.
+#[tactic(auto, using(crate::proofs::Rules::rules))]
 fn rest_fits(b: &[u8], h: ImageHead, grants: [Grants; CREDENTIALS]) -> bool
     requires { head_fits h ≡ true }
     ensures { result ≡ rest_fits b.now h grants }
@@ -146,30 +116,21 @@ fn rest_fits(b: &[u8], h: ImageHead, grants: [Grants; CREDENTIALS]) -> bool
     if !is_long(b, h) {
         return false;
     }
-    if !all_fit(grants) {
-        return false;
-    }
-    let offset = h.offset;
-    let n = h.rows;
-    if !are_keepable(b, offset, n, grants) {
-        return false;
-    }
-    all_differ(b, offset, n)
+    let saved = saved_rows(b, h.offset);
+    all_fit(grants) && are_keepable(saved, grants) && all_differ(saved)
 }
 
-// Whether bytes are an image, and what was read for it.
-pub fn test_image(b: &[u8]) -> ImageTest
+// Whether bytes are an image; and, whether they are or not, what was read for it.
+#[tactic(auto, using(crate::proofs::Rules::rules))]
+pub fn test_image(b: &[u8]) -> Result<ImageParts, ImageParts>
     ensures { result ≡ image_test b.now }
 {
     let head = image_head::read_head(b);
     let grants = image_head::read_grants(b, head.mask, head.offset);
-    let mut fits = false;
-    if image_head::head_fits(head) {
-        fits = rest_fits(b, head, grants);
-    }
-    ImageTest {
-        fits: fits,
-        head: head,
-        grants: grants,
+    let parts = ImageParts { head, grants };
+    if image_head::head_fits(head) && rest_fits(b, head, grants) {
+        Ok(parts)
+    } else {
+        Err(parts)
     }
 }

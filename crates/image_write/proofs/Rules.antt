@@ -3,7 +3,7 @@
 use Prim.Native.Nat.{ℕ, ◌+◌, ◌-◌, ◌*◌, ◌<◌, ◌≤◌}
 use mathlib.Core.Path.{◌≡◌, refl, sym, ap, ◌∙◌}
 use mathlib.Core.Bool.{Bool, true, cond}
-use mathlib.Core.List.{List, map}
+use mathlib.Core.List.{List, [], ◌∷◌, map}
 use native.Mathlib.Omega.{arith}
 use borrow.Author.Rules.{rules as std_rules}
 use borrow.Author.Tests.{lt-ltb, le-ltb}
@@ -11,8 +11,12 @@ use borrow.Rule.Slice.PartMut.{put_mid}
 use mir.Val.{Fits}
 use mir.Syntax.{w16, w64}
 use lib.ListN.{length, get_or, take, drop, length-map}
+use Rattle.std.specs.Prelude.{count_by}
+use Rattle.std.specs.List.{filter}
+use Rattle.std.proofs.lemmas.List.Sums.{length-filter}
 use Rattle.lists.specs.Lists.{select, join}
 use Rattle.lists.proofs.Lists.{length-mapped, length-select}
+use Rattle.lists.proofs.Tests.{split}
 use Rattle.rows.specs.Rows.{over, Put}
 use Rattle.rows.proofs.Loops.{WroteChosen, chosen-begin, chosen-length, chosen-room, chosen-part, chosen_on, chosen-over, chosen-all}
 use Rattle.rows.proofs.Over.{over-short, put-length, put_next}
@@ -21,7 +25,6 @@ use Rattle.table.specs.declared.Process.{Process}
 use Rattle.table.specs.declared.Table.{Table}
 use Rattle.table.proofs.Laws.{standing-few}
 use Rattle.table.proofs.Rules.{no_process, front, small}
-use Rattle.table.proofs.Counting.{Counting, count-begin, count-on, count-not, count-all}
 use Rattle.module_state.specs.Module.{credential_count}
 use Rattle.module_state.specs.declared.State.{State}
 use Rattle.image.specs.declared.SavedRow.{SavedRow}
@@ -31,8 +34,18 @@ use Rattle.image_row.proofs.Laws.{row-over}
 use Rattle.image_front.proofs.Laws.{front-put}
 
 -- ---- those counted that are saved
-pub saved-all : (t : Table) {n k i : ℕ} → n ≡ size t → Counting is_saved_one t.places n k i → n ≤ i → k ≡ length (saved_rows (standing t))
-saved-all t e v h = count-all is_saved_one t e v h ∙ sym (length-map (select is_saved_one (standing t)) saved_row)
+module _ {A : Type 0} (f : A → Bool) where
+  filter-select : (l : List A) → filter f l ≡ select f l
+  unfolding select
+  filter-select [] = refl
+  filter-select (x ∷ l) = split (f x) (λ e. rw (e, filter-select l)) (λ e. rw (e, filter-select l))
+
+module _ (t : Table) {saved : ℕ} (e : saved ≡ count_by is_saved_one (standing t)) where
+  chosen-many : saved ≡ length (select is_saved_one (standing t))
+  chosen-many = e ∙ sym (length-filter is_saved_one (standing t)) ∙ ap length (filter-select is_saved_one (standing t))
+
+  rows-many : saved ≡ length (saved_rows (standing t))
+  rows-many = chosen-many ∙ sym (length-map (select is_saved_one (standing t)) saved_row)
 
 -- ---- a row
 pub row_made : (p : Process) → ◌≡◌ {A = SavedRow} (record { owner = p.credential; next = p.next; name = p.name }) (saved_row p)
@@ -65,9 +78,9 @@ module _ {old : List ℕ} {l : List Process} {n : ℕ} {new : List ℕ} {k i : �
   rows_on h e t {row} q r g m s = chosen_on v no_process h e t (r ∙ row-over part (chosen-part v no_process h e t) row ∙ ap saved_bytes q) g m s
 
 -- ---- the whole
-module _ (t : Table) {saved : ℕ} (e : saved ≡ length (saved_rows (standing t))) (h : length t.places ≡ places) where
+module _ (t : Table) {saved : ℕ} (e : saved ≡ count_by is_saved_one (standing t)) (h : length t.places ≡ places) where
   saved-few : saved ≤ places
-  saved-few = omega (arith, e ∙ length-map (select is_saved_one (standing t)) saved_row, length-select is_saved_one (standing t), standing-few t h)
+  saved-few = omega (arith, chosen-many t e, length-select is_saved_one (standing t), standing-few t h)
 
   pub rows_fit : Fits w64 (saved * saved_size)
   rows_fit = omega (arith, saved-few)
@@ -78,11 +91,14 @@ module _ (t : Table) {saved : ℕ} (e : saved ≡ length (saved_rows (standing t
   pub saved-fits : Fits w16 saved
   saved-fits = omega (arith, saved-few)
 
-module _ (st : State) (old : List ℕ) {saved : ℕ} (e : saved ≡ length (saved_rows (standing st.table))) where
+module _ (st : State) (old : List ℕ) {saved : ℕ} (e : saved ≡ count_by is_saved_one (standing st.table)) where
+  many : saved ≡ length (saved_rows (standing st.table))
+  many = rows-many st.table e
+
   -- the image's length, by the count
   room-is : image_room st ≡ saved_at + saved * saved_size
   unfolding image_room image_long saved_of
-  room-is = rw e
+  room-is = rw many
 
   module _ (h : length old < saved_at + saved * saved_size) where
     pub short-length : 0 ≡ cond (lacks_room st (length old)) 0 (image_room st)
@@ -104,13 +120,13 @@ module _ (st : State) (old : List ℕ) {saved : ℕ} (e : saved ≡ length (save
 
       pub rows-room : image_long saved_at (length (saved_rows (standing st.table))) ≤ length a
       unfolding image_long
-      rows-room = omega (arith, put-length front-there)
+      rows-room = omega (arith, many, put-length front-there)
 
       pub image-put : {new : List ℕ} → Put saved_at (length (saved_rows (standing st.table)) * saved_size) (join (map saved_bytes (saved_rows (standing st.table)))) a new → new ≡ over 0 (image_room st) (state_image st) old
       unfolding image_room image_long state_image image_of saved_of
-      image-put q = (put_next front-there q (omega arith)).is ∙ rw (front-rows (image_of st), e)
+      image-put q = (put_next front-there q (omega (arith, many))).is ∙ rw (front-rows (image_of st), many)
 
 pub image-written : {st : State} {old new : List ℕ} {long : ℕ} → long ≡ cond (lacks_room st (length old)) 0 (image_room st) → new ≡ over 0 (image_room st) (state_image st) old → ImageWritten st old long new
 image-written l b = record { length-is = l; bytes-are = b }
 
-pub ruleset rules = (std_rules, length-mapped, count-begin, count-on, count-not, saved-all, row_made, rows-begin, rows_end, chosen-room, rows_on, chosen-over, chosen-length, rows_fit, image-fits, saved-fits, short-length, short-stays, image-length, rows-room, image-put, image-written)
+pub ruleset rules = (std_rules, length-mapped, row_made, rows-begin, rows_end, chosen-room, rows_on, chosen-over, chosen-length, rows_fit, image-fits, saved-fits, short-length, short-stays, image-length, rows-room, image-put, image-written)

@@ -7,6 +7,7 @@ use borrow.Author.Tests.{eq-eqb}
 use lib.ListN.{length, get_or, take, drop}
 use lib.Seq.{take_at}
 use Rattle.lists.specs.Each.{Each}
+use Rattle.names.specs.Names.{zero_row}
 use Rattle.names.specs.declared.Row.{Row}
 use Rattle.names.specs.declared.Session.{Session}
 use Rattle.names.proofs.Laws.{RowFits}
@@ -15,7 +16,7 @@ use Rattle.module_state.specs.declared.State.{State}
 use Rattle.calls.specs.Calls.{ListProcesses, number, listed}
 use Rattle.calls.specs.Listing.{rows_of, message_length, listing}
 use Rattle.calls.specs.declared.Wanted.{Wanted}
-use Rattle.listing_messages.specs.Wire.{read_count, zero_row, read_row_at, listed_bytes}
+use Rattle.listing_messages.specs.Wire.{read_count, read_row_at, listed_bytes}
 use Rattle.listing_messages.proofs.Laws.{length-listing, count-back, row-at-back, row-past-back}
 use Rattle.listing_call.proofs.Laws.{list-accepted}
 

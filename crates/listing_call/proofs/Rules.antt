@@ -17,11 +17,12 @@ use Rattle.names.specs.Names.{type_of, row_length, row_bytes, row_in}
 use Rattle.names.specs.declared.Row.{Row}
 use Rattle.names.specs.declared.RowType.{RowType}
 use Rattle.names.proofs.Laws.{row-in}
-use Rattle.table.specs.Table.{standing, size, places, is_among}
+use Rattle.table.specs.Table.{standing, places, is_among}
 use Rattle.table.specs.declared.Among.{Among}
 use Rattle.table.specs.declared.Process.{Process}
 use Rattle.table.specs.declared.Table.{Table}
-use Rattle.table.proofs.Laws.{standing-front, standing-few, size_few}
+use Rattle.table.proofs.Laws.{standing-few}
+use lib.Seq.{take_all}
 use Rattle.table.proofs.Rules.{no_process}
 use Rattle.calls.specs.Listing.{head_length, among_of, row_of, auth_processes, message_length}
 use Rattle.calls.specs.declared.Wanted.{Wanted}
@@ -40,24 +41,22 @@ module _ (wanted : Wanted) {among : Among} (e : among ≡ among_of wanted) where
   pub wanted-is : {b : Bool} (p : Process) → b ≡ is_among among p → b ≡ is_among (among_of wanted) p
   wanted-is p q = q ∙ rw e
 
-module _ (t : Table) {n : ℕ} (e : n ≡ size t) where
-  front : take n t.places ≡ standing t
-  unfolding size
-  front = ap (λ (m : ℕ). take m t.places) e ∙ standing-front t
+module _ (t : Table) (wanted : Wanted) {l : List Process} (e : l ≡ standing t) where
+  whole : take (length l) l ≡ standing t
+  whole = take_all (length l) l (omega arith) ∙ e
 
-  module _ (wanted : Wanted) where
-    pub rows-begin : {old : List ℕ} → length t.places ≡ places → message_length (length (rows_among wanted (standing t))) ≤ length old → Writing wanted t.places n old old 0 0
-    unfolding message_length rows_among
-    rows-begin {old} h r =
-        chosen-begin (is_among (among_of wanted)) row_of row_bytes row_length head_length places t.places n old (omega (arith, size_few t h)) (omega (arith, size_few t h)) (rw front (omega (arith, r)))
+  pub rows-begin : {old : List ℕ} → length t.places ≡ places → message_length (length (rows_among wanted (standing t))) ≤ length old → Writing wanted l (length l) old old 0 0
+  unfolding message_length rows_among
+  rows-begin {old} h r =
+      chosen-begin (is_among (among_of wanted)) row_of row_bytes row_length head_length places l (length l) old (omega arith) (rw e (standing-few t h)) (rw whole (omega (arith, r)))
 
-    pub rows_end : {old new : List ℕ} {k i : ℕ} → Writing wanted t.places n old new k i → n ≤ i → new ≡ rows_over (rows_among wanted (standing t)) old
-    unfolding rows_over rows_among
-    rows_end v h = rw front at (chosen-all v h).is
+  pub rows_end : {old new : List ℕ} {k i : ℕ} → Writing wanted l (length l) old new k i → length l ≤ i → new ≡ rows_over (rows_among wanted (standing t)) old
+  unfolding rows_over rows_among
+  rows_end v h = rw whole at (chosen-all v h).is
 
-    pub rows-counted : {old new : List ℕ} {k i : ℕ} → Writing wanted t.places n old new k i → n ≤ i → k ≡ length (rows_among wanted (standing t))
-    unfolding rows_among
-    rows-counted v h = rw front at (chosen-count v h)
+  pub rows-counted : {old new : List ℕ} {k i : ℕ} → Writing wanted l (length l) old new k i → length l ≤ i → k ≡ length (rows_among wanted (standing t))
+  unfolding rows_among
+  rows-counted v h = rw whole at (chosen-count v h)
 
 pub rows_on : {f : Process → Bool} {old : List ℕ} {l : List Process} {n : ℕ} {new : List ℕ} {k i : ℕ} {b : Bool} → WroteChosen f row_of row_bytes row_length head_length places l n old new k i → i < n
     → b ≡ f (get_or l i no_process) → b ≡ true → {row : Row} {k' : ℕ} {ys new' : List ℕ} → row ≡ row_of (get_or l i no_process)
@@ -78,4 +77,4 @@ module _ (t : Table) (wanted : Wanted) {count : ℕ} (e : count ≡ length (rows
       → new ≡ over 0 head_length (head auth_processes count) mid → new ≡ listing_over (rows_among wanted (standing t)) old
   listing-put old h m q = q ∙ rw (m, e) (listing-whole (rows_among wanted (standing t)) old h)
 
-pub ruleset rules = (std_rules, length-mapped, row_made, wanted-is, rows-begin, rows_end, rows-counted, chosen-room, rows_on, chosen-over, chosen-length, count_fits, listing-put, list-enough, list-bytes, list-stays)
+pub ruleset rules = (std_rules, length-mapped, row_made, wanted-is, rows_on, chosen-over, chosen-length, count_fits, listing-put, list-enough, list-bytes, list-stays)

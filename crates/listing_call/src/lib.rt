@@ -1,5 +1,5 @@
 // The response AUTH_PROCESSES written, and the list call with its bytes.
-#![tactic(auto)]
+#![tactic(auto, using(crate::proofs::Rules::rules))]
 
 ghost use Rattle.std.specs.Prelude.{◌≡◌, ◌≤◌, length};
 ghost use Rattle.table.specs.Table.{is_among, standing};
@@ -18,20 +18,16 @@ use table::{Process, Table};
 fn is_listed(p: Process, wanted: Wanted) -> bool
     ensures { result ≡ is_among (among_of wanted) p }
 {
-    let among = calls_list_tests::among_of(wanted);
-    table::is_among(p, among)
+    table::is_among(p, calls_list_tests::among_of(wanted))
 }
 
 fn row_of(p: Process) -> Row
     ensures { result ≡ row_of p }
 {
-    let credential = p.credential;
-    let kind = p.kind;
-    let name = p.name;
     Row {
-        credential: credential,
-        kind: names::type_of(kind),
-        name: name,
+        credential: p.credential,
+        kind: names::type_of(p.kind),
+        name: p.name,
     }
 }
 
@@ -40,19 +36,13 @@ fn put_rows(buffer: &mut [u8], t: Table, wanted: Wanted) -> usize
     requires { message_length (length (rows_among wanted (standing t))) ≤ length buffer.old }
     ensures { (result ≡ length (rows_among wanted (standing t))) × (buffer.new ≡ rows_over (rows_among wanted (standing t)) buffer.old) }
 {
-    let n = table::size(t);
-    let places = t.places;
-    let mut k: usize = 0;
-    let mut i: usize = 0;
-    while i < n {
-        let p = places[i];
-        if is_listed(p, wanted) {
+    let mut k = 0;
+    for p in table::standing(&t) {
+        if is_listed(*p, wanted) {
             let start = HEAD_LENGTH + k * ROW_LENGTH;
-            let end = start + ROW_LENGTH;
-            listing_row::put_row(&mut buffer[start..end], row_of(p));
+            listing_row::put_row(&mut buffer[start..start + ROW_LENGTH], row_of(*p));
             k += 1;
         }
-        i += 1;
     }
     k
 }
@@ -72,11 +62,9 @@ fn put_listing(buffer: &mut [u8], t: Table, wanted: Wanted)
 pub fn list(st: State, s: Session, claim: Claim, wanted: Wanted, buffer: &mut [u8]) -> Listed
     ensures { (result ≡ listed st s claim wanted (length buffer.old)) × (buffer.new ≡ listed_bytes st s claim wanted buffer.old) }
 {
-    let room = buffer.len();
-    let decided = calls_standing::list(st, s, claim, wanted, room);
+    let decided = calls_standing::list(st, s, claim, wanted, buffer.len());
     if decided.length != 0 {
-        let t = st.table;
-        put_listing(buffer, t, wanted);
+        put_listing(buffer, st.table, wanted);
     }
     decided
 }

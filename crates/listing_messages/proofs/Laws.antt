@@ -18,14 +18,13 @@ use Rattle.rows.proofs.Rows.{array_long, array_row, array-fits}
 use Rattle.lists.specs.Each.{Each}
 use Rattle.lists.proofs.Each.{each_at}
 use Rattle.lists.proofs.Tests.{and_both}
-use Rattle.names.specs.Names.{row_length, row_bytes, is_row}
+use Rattle.names.specs.Names.{row_length, row_bytes, is_row, zero_row}
 use Rattle.names.specs.declared.Row.{Row}
 use Rattle.names.proofs.Laws.{RowFits, row-codec}
 use Rattle.module_state.specs.Numbers.{◌unless◌}
 use Rattle.module_state.proofs.Laws.{pass, unless-true, unless-false}
-use Rattle.calls.specs.Calls.{number}
 use Rattle.calls.specs.Listing.{head_number_size, head_length, auth_processes, message_length, listing}
-use Rattle.listing_messages.specs.Wire.{head, is_headed, head_number, get_auth_processes, request, request_number, read_request, row_part, is_listing, count_number, read_count, zero_row, row_number, read_row_at}
+use Rattle.listing_messages.specs.Wire.{head, is_headed, head_number, get_auth_processes, request, request_number, read_request, row_part, is_listing, count_number, read_count, row_number, read_row_at}
 
 -- ---- "Byte 1 is reserved: .. ignored on reading": whichever byte stands there, a message is read alike
 module _ (code byte other : ℕ) (rest : List ℕ) where

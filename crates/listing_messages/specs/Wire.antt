@@ -1,9 +1,9 @@
 -- "Listing messages on the wire": what the readers and the writers answer, and what the list call leaves in the lent buffer
-use Rattle.std.specs.Prelude.{ℕ, ◌+◌, ◌*◌, Bool, cond, ◌&&◌, List, ◌∷◌, ◌++◌, map, eqb, ltb, length, get_or, take, drop}
+use Rattle.std.specs.Prelude.{ℕ, ◌+◌, ◌*◌, Bool, cond, ◌&&◌, List, ◌∷◌, ◌++◌, map, eqb, ltb, length, get_or, take, drop, Result, Ok, Err}
 use Rattle.lists.specs.Lists.{select, join}
 use Rattle.rows.specs.Bytes.{bytes_of, number_at}
 use Rattle.rows.specs.Rows.{rows, every, over}
-use Rattle.names.specs.Names.{row_length, row_bytes, is_row, no_row}
+use Rattle.names.specs.Names.{row_length, row_bytes, is_row, zero_row}
 use Rattle.names.specs.Names as Names
 use Rattle.names.specs.declared.Row.{Row}
 use Rattle.names.specs.declared.Session.{Session}
@@ -11,14 +11,39 @@ use Rattle.table.specs.Table.{is_among}
 use Rattle.table.specs.declared.Process.{Process}
 use Rattle.module_state.specs.Numbers as No
 use Rattle.module_state.specs.Numbers.{◌when◌, ◌unless◌, ◌▸◌}
+use Rattle.module_state.specs.Refusals.{refusal_number}
 use Rattle.module_state.specs.declared.Claim.{Claim}
+use Rattle.module_state.specs.declared.Refusal.{Refusal}
 use Rattle.module_state.specs.declared.State.{State}
 use Rattle.calls.specs.Calls.{ListProcesses, number}
 use Rattle.calls.specs.Listing.{head_number_at, head_number_size, head_length, among_of, row_of, rows_of, auth_processes, message_length, listing}
 use Rattle.calls.specs.declared.Wanted.{Wanted}
-use Rattle.listing_messages.specs.declared.CountRead.{CountRead}
-use Rattle.listing_messages.specs.declared.RequestRead.{RequestRead}
-use Rattle.listing_messages.specs.declared.RowAnswer.{RowAnswer}
+
+-- ---- what the readers answer: a number, and beside it what is read
+pub record RequestRead : Type 0 where
+  pub number : ℕ
+  pub credential : ℕ
+
+pub record CountRead : Type 0 where
+  pub number : ℕ
+  pub count : ℕ
+
+pub record RowAnswer : Type 0 where
+  pub number : ℕ
+  pub row : Row
+
+-- as the code has it: where it is refused, the credential and the count are 0, and the row is zeros
+abbrev pub request_in : Result ℕ Refusal → RequestRead
+request_in (Ok credential) = record { number = No.done; credential = credential }
+request_in (Err refusal) = record { number = refusal_number refusal; credential = 0 }
+
+abbrev pub count_in : Result ℕ Refusal → CountRead
+count_in (Ok count) = record { number = No.done; count = count }
+count_in (Err refusal) = record { number = refusal_number refusal; count = 0 }
+
+abbrev pub row_in : Result Row Refusal → RowAnswer
+row_in (Ok row) = record { number = No.done; row = row }
+row_in (Err refusal) = record { number = refusal_number refusal; row = zero_row }
 
 -- ---- what both messages begin with. "Byte 1 is reserved: written zero": a code, the reserved byte and a number of two bytes
 unfoldable pub head : ℕ → ℕ → List ℕ
@@ -82,13 +107,6 @@ read_count message =
 -- "a row asked for at or past a message's count" is 1; "for the row, 14 comes before 1"
 unfoldable pub row_number : List ℕ → ℕ → ℕ
 row_number message at = count_number message ▸ No.argument unless ltb at (head_number message)
-
-abbrev pub zero_row : Row
-zero_row = no_row.row
-
--- where it is refused, the row is zeros
-abbrev pub refused_row : ℕ → RowAnswer
-refused_row number = record { number = number; row = zero_row }
 
 -- "and with the row at a place"
 unfoldable pub read_row_at : List ℕ → ℕ → RowAnswer

@@ -2,12 +2,12 @@
 -- Assumes nothing.
 use Prim.Native.Nat.{ℕ, ◌<◌, ◌≤◌}
 use mathlib.Core.Path.{◌≡◌, sym, ◌∙◌}
-use mathlib.Core.Bool.{Bool, true, false, not}
+use mathlib.Core.Bool.{Bool, true, false}
 use mathlib.Core.List.{List, [], ◌∷◌, ◌++◌, append_assoc}
 use native.Mathlib.Omega.{arith}
 use borrow.Author.Rules.{rules as std_rules}
 use lib.Dec.{eqb, leb}
-use borrow.Author.Tests.{not-true, not-false, eq-eqb, ne_eqb}
+use borrow.Author.Tests.{eq-eqb, ne_eqb}
 use borrow.Rule.Slice.PartMut.{put_mid, same_len_mid}
 use lib.ListN.{length, get_or, set, take, drop, length-set, length-take, length-drop}
 use lib.Seq.{take_all}
@@ -15,12 +15,18 @@ use Rattle.rows.specs.Bytes.{bytes_of, number_at}
 use Rattle.rows.specs.Rows.{over, Put}
 use Rattle.rows.proofs.Bytes.{length-bytes}
 use Rattle.rows.proofs.Over.{over-part, put_byte, put-length, put_next, put_whole}
-use Rattle.names.specs.declared.NameRead.{NameRead}
+use Rattle.std.specs.Prelude.{Option, Some, None}
+use Rattle.names.specs.declared.Name.{Name}
 use Rattle.names.specs.declared.Row.{Row}
-use Rattle.names.specs.declared.RowRead.{RowRead}
 use Rattle.names.specs.declared.RowType.{RowType}
-use Rattle.names.specs.Names.{name_length, read_name, name_in, type_number, type_numbered, last_type, row_credential_at, row_credential_size, row_type_at, row_name_at, row_length, row_in, is_row, no_row, read_row}
+use Rattle.names.specs.Names.{name_length, read_name, name_in, type_number, type_numbered, last_type, row_credential_at, row_credential_size, row_type_at, row_name_at, row_length, row_in, is_row, read_row}
 use Rattle.names.proofs.Laws.{name-read, name-in, RowShaped, row-shaped, row_read, row-in, row-not-in}
+
+some-none : {A : Type 0} {x : A} → Some x ≡ None → ⊥
+some-none e = cc
+
+some-same : {A : Type 0} {x y : A} → Some x ≡ Some y → x ≡ y
+some-same e = cc
 
 -- ---- rows
 module _ (part : List ℕ) where
@@ -33,24 +39,33 @@ module _ (part : List ℕ) where
   row-short h = rw (ne_eqb (length part) row_length h)
 
   module _ {b : Bool} (e : b ≡ is_row part) where
-    pub row-none : {r : RowRead} → not b ≡ true → r ≡ no_row → r ≡ read_row part
+    pub row-none : b ≡ false → None ≡ read_row part
     unfolding read_row
-    row-none t q = q ∙ rw (sym e ∙ not-true b t)
+    row-none t = rw (sym e ∙ t)
 
-    module _ (t : not b ≡ false) where
+    module _ (t : b ≡ true) where
       shaped : RowShaped part
-      shaped = row-shaped part (sym e ∙ not-false b t)
+      shaped = row-shaped part (sym e ∙ t)
 
       pub row-reach : {k : ℕ} → k ≤ row_length → k ≤ length part
       row-reach h = omega (arith, shaped.long)
 
-      pub row-got : {n : ℕ} {kind : RowType} {read : NameRead}
-          → read ≡ read_name (take name_length (drop row_name_at part)) → n ≡ number_at row_credential_size row_credential_at part → kind ≡ type_numbered (get_or part row_type_at 0)
-          → ◌≡◌ {A = RowRead} (record { fits = true; row = record { credential = record { 0 = n }; kind = kind; name = read.name } }) (read_row part)
-      row-got a c d =
-          let l : length (drop row_name_at part) ≡ name_length = rw length-drop (omega (arith, shaped.long)) in
-          let w : take name_length (drop row_name_at part) ≡ drop row_name_at part = take_all name_length (drop row_name_at part) (omega arith) in
-          rw (a, w, name-read (drop row_name_at part) l, c, d) (sym (row_read part (sym e ∙ not-false b t)))
+      -- its last bytes are a name's
+      module _ {read : Option Name} (a : read ≡ read_name (take name_length (drop row_name_at part))) where
+        named : read ≡ Some (record { bytes = drop row_name_at part })
+        named =
+            let l : length (drop row_name_at part) ≡ name_length = rw length-drop (omega (arith, shaped.long)) in
+            a ∙ rw (take_all name_length (drop row_name_at part) (omega arith)) (name-read (drop row_name_at part) l)
+
+        pub row-named : {r : Option Row} → read ≡ None → r ≡ read_row part
+        row-named z = absurd (some-none (sym named ∙ z))
+
+        pub row-got : {name : Name} {n : ℕ} {kind : RowType}
+            → read ≡ Some name → n ≡ number_at row_credential_size row_credential_at part → kind ≡ type_numbered (get_or part row_type_at 0)
+            → ◌≡◌ {A = Option Row} (Some (record { credential = record { 0 = n }; kind = kind; name = name })) (read_row part)
+        row-got {name} s c d =
+            let q : name ≡ record { bytes = drop row_name_at part } = some-same (sym s ∙ named) in
+            rw (q, c, d) (sym (row_read part (sym e ∙ t)))
 
 -- the fields of a row, written one after another
 module _ (part : List ℕ) (row : Row) {a : List ℕ} (h : length part ≡ row_length) (p : a ≡ over row_credential_at row_credential_size (bytes_of row_credential_size row.credential.0) part) where
@@ -84,4 +99,4 @@ module _ (part : List ℕ) (row : Row) {a : List ℕ} (h : length part ≡ row_l
 pub row_stays : (part : List ℕ) (row : Row) → (length part ≡ row_length → ⊥) → part ≡ row_in part row
 row_stays part row h = sym (row-not-in part row h)
 
-pub ruleset rules = (std_rules, row-long, row-short, row-none, row-reach, row-got, row_inside, row-end, row_same, row_put, row_stays)
+pub ruleset rules = (std_rules, row-long, row-short, row-reach, row_inside, row-end, row_same, row_put, row_stays)

@@ -17,3 +17,8 @@ OneAnswer n ps r P =
 abbrev pub OneContent : (n : ℕ) (ps : List (ParamKind n)) (r : ResultKind n) → Out n ps r → ((κs : Lfts n) → AtExit (ended_of n ps r) κs → List ℕ) → Type 0
 OneContent n ps r P content =
     (κs : Lfts n) (a : Dens κs ps) (x y : (res_t r κs).Denot) (s t : AtExit (ended_of n ps r) κs) → P κs a x s → P κs a y t → content κs s ≡ content κs t
+
+-- two answers that lend what lies somewhere, and both meet it, lend the same; `view` reads what lies there
+abbrev pub OneView : (n : ℕ) (ps : List (ParamKind n)) (r : ResultKind n) → Out n ps r → {T : Type 0} → ((κs : Lfts n) → (res_t r κs).Denot → T) → Type 0
+OneView n ps r P view =
+    (κs : Lfts n) (a : Dens κs ps) (x y : (res_t r κs).Denot) (s t : AtExit (ended_of n ps r) κs) → P κs a x s → P κs a y t → view κs x ≡ view κs y

@@ -1,4 +1,3 @@
-pub mod Rules
 pub mod Laws
 pub mod Tables
 pub mod Unique

@@ -1,5 +1,5 @@
 // Which shape a message of 004 clause 9.2 has, by its code: Tables 16 and 17.
-#![tactic(auto)]
+#![tactic(auto, unfolding(crate::specs::Codes::find, crate::specs::Codes::operations, crate::specs::Codes::errors, crate::specs::Codes::requests, crate::specs::Codes::responses, crate::specs::Codes::shape_of, crate::specs::Codes::pieces, crate::specs::Codes::piece_of))]
 
 ghost use Rattle.std.specs.Prelude.{◌≡◌};
 ghost use Rattle.message_codes.specs.Codes.{find, operations, errors, requests, responses, shape_of, piece_of};
@@ -12,8 +12,7 @@ fn by_operation(chooser: u64, change: Shape) -> Shape
 {
     match chooser {
         1 => change,
-        2 => Shape::LockOrUnlocking,
-        3 => Shape::LockOrUnlocking,
+        2 | 3 => Shape::LockOrUnlocking,
         _ => Shape::NoMessage,
     }
 }
@@ -23,16 +22,8 @@ fn by_error(chooser: u64) -> Shape
     ensures { result ≡ find chooser errors }
 {
     match chooser {
-        1 => Shape::PlainError,
-        2 => Shape::PlainError,
-        3 => Shape::PlainError,
-        4 => Shape::PlainError,
-        5 => Shape::PlainError,
-        6 => Shape::PlainError,
-        7 => Shape::PlainError,
-        8 => Shape::PlainError,
+        1..=8 | 0x0a => Shape::PlainError,
         9 => Shape::UnsupportedRequest,
-        0x0a => Shape::PlainError,
         0x0b => Shape::Terminated,
         0xff => Shape::VendorError,
         _ => Shape::NoMessage,

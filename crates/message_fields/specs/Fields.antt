@@ -1,5 +1,5 @@
 -- The fields of a message of 004 clause 9.2 and of a piece of its lists: which values bytes say, which values may stand there, and the bytes that say them.
-use Rattle.std.specs.Prelude.{ℕ, ◌+◌, Bool, true, ◌&&◌, List, [], ◌∷◌, ◌++◌, get_or, take, drop}
+use Rattle.std.specs.Prelude.{ℕ, ◌+◌, Bool, true, cond, ◌&&◌, List, [], ◌∷◌, ◌++◌, get_or, take, drop, Result, Ok, Err}
 use Rattle.lists.specs.Lists.{padded}
 use Rattle.rows.specs.Bytes.{bytes_of, number_of}
 use Rattle.message_formats.specs.declared.Field.{Field}
@@ -43,9 +43,13 @@ head_long shape = long_of (fields shape)
 unfoldable pub values_of : Shape → List ℕ → List ℕ
 values_of shape b = values_in (fields shape) b
 
--- what is answered of them: of those at the front of bytes, and of values that are to be written
-unfoldable pub fields_read : Shape → List ℕ → FieldsRead
-fields_read shape b = record { long = head_long shape; values = values_of shape b; allowed = are_allowed (fields shape) (values_of shape b) }
+-- what is answered of those at the front of bytes, whether each value may stand in its field (Ok) or not
+unfoldable pub fields_read : Shape → List ℕ → Result FieldsRead FieldsRead
+fields_read shape b =
+    cond (are_allowed (fields shape) (values_of shape b))
+    (Ok (record { long = head_long shape; values = values_of shape b }))
+    (Err (record { long = head_long shape; values = values_of shape b }))
 
+-- and of values that are to be written
 unfoldable pub fields_tested : Shape → List ℕ → FieldsTested
 fields_tested shape values = record { long = head_long shape; allowed = are_allowed (fields shape) values }

@@ -1,23 +1,23 @@
 // The fields of the messages of 004 clause 9.2, read and tested. Values are seven, of which those that a shape has no field for are 0.
-#![tactic(auto)]
+#![tactic(auto, using(crate::proofs::Rules::rules))]
 
-ghost use Rattle.std.specs.Prelude.{◌≡◌};
-ghost use Rattle.message_formats.specs.Formats.{meant, is_allowed};
-ghost use Rattle.message_fields.specs.Fields.{fields_read, fields_tested};
+ghost use Rattle.std.specs.Prelude.{◌≡◌, get_or};
+ghost use Rattle.message_formats.specs.declared.Field.TheVariants.{Unused};
+ghost use Rattle.message_formats.specs.Formats.{form_of, fields_of, meant, is_allowed};
+ghost use Rattle.message_fields.specs.Fields.{values_of, fields_read, fields_tested};
 
 use message_formats::{Form, Shape};
 
 pub const VALUES: usize = 7;
 
-// What the fields at the front of a slice say: how many bytes they have, their values, and whether each value may stand in its field.
+// What the fields at the front of a slice say: how many bytes they have, and their values.
 #[derive(Clone, Copy)]
 pub struct FieldsRead {
     pub long: usize,
     pub values: [u64; VALUES],
-    pub allowed: bool,
 }
 
-// How many bytes the fields have, and whether each value may stand in its field.
+// How many bytes the fields have, and whether each value may stand in its field. A writer asks for the room first, so it needs both.
 #[derive(Clone, Copy)]
 pub struct FieldsTested {
     pub long: usize,
@@ -26,6 +26,13 @@ pub struct FieldsTested {
 
 // ---- one field
 
+fn form_at(shape: Shape, at: usize) -> Form
+    ensures { result ≡ form_of (get_or (fields_of shape) at Unused) }
+{
+    message_formats::form_of(message_places::field_of(shape, at))
+}
+
+#[tactic(auto, unfolding(message_formats::specs::Formats::meant))]
 fn meaning(form: Form, number: u64) -> u64
     ensures { result ≡ meant form number }
 {
@@ -36,52 +43,50 @@ fn meaning(form: Form, number: u64) -> u64
     }
 }
 
+#[tactic(auto, unfolding(message_formats::specs::Formats::is_allowed))]
 fn is_allowed(form: Form, value: u64) -> bool
     ensures { result ≡ is_allowed form value }
 {
     form.least <= value && value <= form.most
 }
 
-// ---- the fields of a shape. The form of each is looked up once
+// ---- the fields of a shape
 
-// A byte past the end of the slice counts as 0.
-pub fn read_fields(bytes: &[u8], shape: Shape) -> FieldsRead
-    ensures { result ≡ fields_read shape bytes.now }
+// The values that the fields at the front of a slice say. A byte past its end counts as 0.
+fn values_of(bytes: &[u8], shape: Shape) -> [u64; VALUES]
+    ensures { result ≡ values_of shape bytes.now }
 {
-    let mut values: [u64; VALUES] = [0; VALUES];
-    let mut allowed = true;
-    let mut place: usize = 0;
-    let mut at: usize = 0;
-    while at < VALUES {
-        let form = message_formats::form_of(message_places::field_of(shape, at));
-        let value = meaning(form, rows::number_at(bytes, place, form.width));
-        values[at] = value;
-        allowed = allowed & is_allowed(form, value);
+    let mut values = [0; VALUES];
+    let mut place = 0;
+    for at in 0..VALUES {
+        let form = form_at(shape, at);
+        values[at] = meaning(form, rows::number_at(bytes, place, form.width));
         place += form.width;
-        at += 1;
     }
-    FieldsRead {
-        long: place,
-        values: values,
-        allowed: allowed,
-    }
+    values
 }
 
-// The same of values that are handed in.
+// Values that are handed in, tested.
 pub fn test_fields(shape: Shape, values: [u64; VALUES]) -> FieldsTested
     ensures { result ≡ fields_tested shape values }
 {
     let mut allowed = true;
-    let mut long: usize = 0;
-    let mut tested: usize = 0;
-    while tested < VALUES {
-        let form = message_formats::form_of(message_places::field_of(shape, tested));
-        allowed = allowed & is_allowed(form, values[tested]);
+    let mut long = 0;
+    for at in 0..VALUES {
+        let form = form_at(shape, at);
+        allowed &= is_allowed(form, values[at]);
         long += form.width;
-        tested += 1;
     }
-    FieldsTested {
-        long: long,
-        allowed: allowed,
-    }
+    FieldsTested { long, allowed }
+}
+
+// The fields at the front of a slice: Ok, where each value may stand in its field; what was read all the same, where one may not.
+#[tactic(auto, unfolding(crate::specs::Fields::fields_read, crate::specs::Fields::fields_tested))]
+pub fn read_fields(bytes: &[u8], shape: Shape) -> Result<FieldsRead, FieldsRead>
+    ensures { result ≡ fields_read shape bytes.now }
+{
+    let values = values_of(bytes, shape);
+    let FieldsTested { long, allowed } = test_fields(shape, values);
+    let read = FieldsRead { long, values };
+    if allowed { Ok(read) } else { Err(read) }
 }

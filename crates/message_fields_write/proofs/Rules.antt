@@ -1,22 +1,24 @@
 -- The laws that close the needs of this crate's functions by `search rules`: each premise is as a place's record has it. A loop's record says what is
 -- still to be written over what the buffer has. Assumes nothing.
-use Prim.Native.Nat.{ℕ, ◌+◌, ◌-◌, ◌<◌, ◌≤◌}
+use Prim.Native.Nat.{ℕ, ◌+◌, ◌<◌, ◌≤◌}
 use mathlib.Core.Path.{◌≡◌, sym, ap, ◌∙◌}
 use mathlib.Core.Bool.{Bool, true, false, ◌&&◌, not}
 use mathlib.Core.List.{List, ◌∷◌, ◌++◌}
 use native.Mathlib.Omega.{arith}
 use borrow.Author.Rules.{rules as std_rules}
-use borrow.Author.Tests.{not-true, not-false, leb-true, leb-false, lt-leb, le-leb, lt-ltb, le-ltb}
+use borrow.Author.Tests.{not-true, not-false, leb-true, leb-false, lt-ltb, le-ltb}
 use lib.Dec.{leb}
 use lib.ListN.{length, get_or, drop, drop_of_length-le}
 use lib.Seq.{drop-drop, get_or-drop}
 use mir.Val.{Fits}
 use mir.Syntax.{w64}
-use Rattle.lists.proofs.Tests.{below}
 use Rattle.rows.specs.Bytes.{bytes_of, width_of}
 use Rattle.rows.specs.Rows.{over}
 use Rattle.rows.proofs.Bytes.{length-bytes, width_is}
 use Rattle.rows.proofs.Over.{over-append, Left, left-all, left-none, left-next}
+use Rattle.std.specs.Prelude.{Result, Ok, Err}
+use Rattle.module_state.specs.declared.Refusal.{Refusal}
+use Rattle.module_state.specs.declared.Refusal.TheVariants.{Room, Message}
 use Rattle.module_state.specs.Numbers.{◌when◌, ◌unless◌, ◌▸◌}
 use Rattle.message_formats.specs.declared.Field.{Field}
 use Rattle.message_formats.specs.declared.Field.TheVariants.{Unused}
@@ -27,35 +29,18 @@ use Rattle.message_formats.proofs.Laws.{width-most}
 use Rattle.message_fields.specs.Fields.{fields, long_of, field_bytes, are_allowed, head_long, fields_tested}
 use Rattle.message_fields.specs.declared.FieldsTested.{FieldsTested}
 use Rattle.message_fields.proofs.Laws.{length_fields, fields-from, bytes-length}
-use Rattle.message_fields_write.specs.Bodies.{body_bytes, body_long, number_for, given, written}
-use Rattle.message_fields_write.specs.declared.Written.{Written}
-
--- ---- room from a place on
-module _ (room at long more : ℕ) where
-  pub room-none : room < at → false ≡ leb (at + (long + more)) room
-  room-none h = sym (lt-leb (at + (long + more)) room (omega arith))
-
-  module _ (h : at ≤ room) where
-    pub room-head : room - at < long → false ≡ leb (at + (long + more)) room
-    room-head k = sym (lt-leb (at + (long + more)) room (omega arith))
-
-    pub room-rest : long ≤ room - at → leb more (room - at - long) ≡ leb (at + (long + more)) room
-    room-rest k =
-        below (room - at - long) more
-        (λ s. lt-leb more (room - at - long) s ∙ sym (lt-leb (at + (long + more)) room (omega arith)))
-        (λ s. le-leb more (room - at - long) s ∙ sym (le-leb (at + (long + more)) room (omega arith)))
+use Rattle.message_fields_write.specs.Bodies.{body_bytes, body_long, number_for, given, written, written_in}
 
 -- ---- the fields of a shape
-pub record FieldsTo (start end : ℕ) (l : Shape) (values old new : List ℕ) (place at : ℕ) : Type 0 where
-  pub within : place + long_of (drop at (fields l)) ≡ end
+pub record FieldsTo (start : ℕ) (l : Shape) (values old new : List ℕ) (place at : ℕ) : Type 0 where
+  pub within : place + long_of (drop at (fields l)) ≤ length old
   pub remains : Left start (long_of (fields l)) (field_bytes (fields l) values) old place (long_of (drop at (fields l))) (field_bytes (drop at (fields l)) (drop at values)) new
 
-pub fields-begin : (start : ℕ) {end : ℕ} (l : Shape) (values old : List ℕ) → end ≡ start + head_long l → end ≤ length old → FieldsTo start end l values old old start 0
+pub fields-begin : (start : ℕ) (l : Shape) (values old : List ℕ) → start + head_long l ≤ length old → FieldsTo start l values old old start 0
 unfolding head_long
-fields-begin start l values old e h =
-    record { within = sym e; remains = left-all start (long_of (fields l)) (field_bytes (fields l) values) old (omega (arith, e)) }
+fields-begin start l values old h = record { within = h; remains = left-all start (long_of (fields l)) (field_bytes (fields l) values) old h }
 
-module _ {start end : ℕ} {l : Shape} {values old new : List ℕ} {place at : ℕ} (v : FieldsTo start end l values old new place at) where
+module _ {start : ℕ} {l : Shape} {values old new : List ℕ} {place at : ℕ} (v : FieldsTo start l values old new place at) where
   pub fields-length : length new ≡ length old
   fields-length = v.remains.long
 
@@ -74,14 +59,14 @@ module _ {start end : ℕ} {l : Shape} {values old new : List ℕ} {place at : �
         let z : at + 0 ≡ at = omega arith in
         rw (next, ← q, get_or-drop, z, drop-drop) at v.remains
 
-    within-next : place + form.width + long_of (drop (at + 1) (fields l)) ≡ end
+    within-next : place + form.width + long_of (drop (at + 1) (fields l)) ≤ length old
     unfolding long_of
     within-next = omega (arith, rw (next, ← q) at v.within)
 
-    pub place-fits : Fits w64 end → Fits w64 (place + form.width)
+    pub place-fits : Fits w64 (length old) → Fits w64 (place + form.width)
     place-fits w = omega (arith, within-next)
 
-    pub fields-on : {last : List ℕ} → last ≡ over place (width_of form.width) (bytes_of (width_of form.width) (get_or values at 0)) new → FieldsTo start end l values old last (place + form.width) (at + 1)
+    pub fields-on : {last : List ℕ} → last ≡ over place (width_of form.width) (bytes_of (width_of form.width) (get_or values at 0)) new → FieldsTo start l values old last (place + form.width) (at + 1)
     fields-on e =
         record {
           within = within-next;
@@ -101,8 +86,8 @@ module _ (at : ℕ) (l : Shape) (values rest : List ℕ) (carried : Bool) (old :
   abbrev number : ℕ
   number = number_for (at + body_long l rest) (are_allowed (fields l) values && carried) old
 
-  abbrev IsAnswer : Written → Type 0
-  IsAnswer r = r ≡ written number (at + body_long l rest)
+  abbrev IsAnswer : Result ℕ Refusal → Type 0
+  IsAnswer r = written_in r ≡ written number (at + body_long l rest)
 
   abbrev IsContent : List ℕ → Type 0
   IsContent new = new ≡ given number (over at (body_long l rest) (body_bytes l values rest) old) old
@@ -128,7 +113,7 @@ module _ (at : ℕ) (l : Shape) (values rest : List ℕ) (carried : Bool) (old :
       unfolding number_for ◌when◌ ◌▸◌
       no_room = rw (lt-ltb (length old) (at + body_long l rest) (leb-false (at + body_long l rest) (length old) (sym there ∙ not-true b n)))
 
-      pub short-answer : IsAnswer (record { number = 15; long = 0 })
+      pub short-answer : IsAnswer (Err Room)
       unfolding written given
       short-answer = rw (← no_room)
 
@@ -145,7 +130,7 @@ module _ (at : ℕ) (l : Shape) (values rest : List ℕ) (carried : Bool) (old :
         unfolding number_for ◌when◌ ◌unless◌ ◌▸◌
         not_carried = rw (le-ltb (length old) (at + body_long l rest) room, sym fine-is ∙ not-true (tested.allowed && carried) m)
 
-        pub refused-answer : IsAnswer (record { number = 14; long = 0 })
+        pub refused-answer : IsAnswer (Err Message)
         unfolding written given
         refused-answer = rw (← not_carried)
 
@@ -153,11 +138,8 @@ module _ (at : ℕ) (l : Shape) (values rest : List ℕ) (carried : Bool) (old :
         unfolding given
         refused-content = rw (← not_carried)
 
-      pub end_is : at + tested.long ≡ at + head_long l
-      end_is = rw long-is
-
-      pub end-room : at + tested.long ≤ length old
-      end-room = omega (arith, room, body_is)
+      pub end-room : at + head_long l ≤ length old
+      end-room = omega (arith, room, body_is, long-is)
 
       pub end_fits : Fits w64 (length old) → Fits w64 (at + tested.long)
       end_fits w = omega (arith, room, body_is)
@@ -170,7 +152,7 @@ module _ (at : ℕ) (l : Shape) (values rest : List ℕ) (carried : Bool) (old :
         unfolding number_for ◌when◌ ◌unless◌ ◌▸◌
         all-carried = rw (le-ltb (length old) (at + body_long l rest) room, sym fine-is ∙ not-false (tested.allowed && carried) m)
 
-        pub done-answer : IsAnswer (record { number = 0; long = at + tested.long + length rest })
+        pub done-answer : IsAnswer (Ok (at + tested.long + length rest))
         unfolding written given
         done-answer = let s : at + tested.long + length rest ≡ at + body_long l rest = omega (arith, body_is) in rw (← all-carried, s)
 
@@ -180,4 +162,4 @@ module _ (at : ℕ) (l : Shape) (values rest : List ℕ) (carried : Bool) (old :
             let r : at + long_of (fields l) + length rest ≤ length old = omega (arith, room, body_is, long-is) in
             rw (← all-carried) (q ∙ sym (over-append at (long_of (fields l)) (length rest) (field_bytes (fields l) values) rest old (bytes-length (fields l) values) r ∙ rw (p, long-is)))
 
-pub ruleset rules = (std_rules, room-none, room-head, room-rest, fields-begin, fields-length, place-fits, fields-on, fields-end, short-answer, short-content, refused-answer, refused-content, end_is, end-room, end_fits, sum_fits, done-answer, done-content)
+pub ruleset rules = (std_rules, fields-begin, fields-length, place-fits, fields-on, fields-end, short-answer, short-content, refused-answer, refused-content, end-room, end_fits, sum_fits, done-answer, done-content)

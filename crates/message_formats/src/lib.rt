@@ -1,5 +1,5 @@
 // What the messages of 004 clause 9.2 are made of: what a field may hold, and what follows the fields.
-#![tactic(auto)]
+#![tactic(auto, unfolding(crate::specs::Formats::form_of, crate::specs::Formats::rest_of, crate::specs::Formats::contents_of))]
 
 ghost use Rattle.std.specs.Prelude.{◌≡◌};
 ghost use Rattle.message_formats.specs.Formats as Formats;
@@ -140,10 +140,10 @@ fn between(width: usize, least: u64, most: u64) -> Form
     ensures { result ≡ Formats.between width least most }
 {
     Form {
-        width: width,
+        width,
         values: 0,
-        least: least,
-        most: most,
+        least,
+        most,
     }
 }
 
@@ -151,10 +151,10 @@ fn flags(width: usize, values: u64, most: u64) -> Form
     ensures { result ≡ Formats.flags width values most }
 {
     Form {
-        width: width,
-        values: values,
+        width,
+        values,
         least: 0,
-        most: most,
+        most,
     }
 }
 

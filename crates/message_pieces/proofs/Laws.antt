@@ -3,7 +3,8 @@
 -- Assumes nothing.
 use Prim.Native.Nat.{ℕ, ◌-◌, ◌≤◌}
 use mathlib.Core.Path.{◌≡◌}
-use mathlib.Core.Bool.{true}
+use mathlib.Core.Bool.{true, false}
+use Rattle.std.specs.Prelude.{Some, None, is_some}
 use mathlib.Core.List.{List}
 use native.Mathlib.Omega.{arith}
 use borrow.Author.Tests.{leb-true}
@@ -16,12 +17,15 @@ use Rattle.lists.proofs.Tests.{split, and_left, and_right}
 use Rattle.message_pieces.specs.Pieces.{piece_long, is_piece, piece_in, first, second, behind, is_part, part_long}
 
 module _ (shape : Shape) (b : List ℕ) where
-  pub piece-taken : is_piece shape b ≡ true
-      → piece_in shape b ≡ record { fits = true; values = values_of shape b; rest = head_long shape; long = piece_long shape b }
+  pub piece-taken : is_piece shape b ≡ true → piece_in shape b ≡ Some (record { values = values_of shape b; rest = head_long shape; long = piece_long shape b })
   unfolding piece_in
   piece-taken e = rw e
 
-  pub piece-fits : (piece_in shape b).fits ≡ is_piece shape b
+  pub piece-none : is_piece shape b ≡ false → piece_in shape b ≡ None
+  unfolding piece_in
+  piece-none e = rw e
+
+  pub piece-fits : is_some (piece_in shape b) ≡ is_piece shape b
   unfolding piece_in
   piece-fits = split (is_piece shape b) (λ e. rw e) (λ e. rw e)
 

@@ -1,5 +1,5 @@
 -- What follows the fields of a message: bytes, or the parts of a list. A part is one piece or two, each with fields and the bytes that they say.
-use Rattle.std.specs.Prelude.{ℕ, zero, suc, ◌+◌, Bool, true, false, cond, ◌&&◌, List, eqb, leb, length, get_or, drop, replicate}
+use Rattle.std.specs.Prelude.{ℕ, zero, suc, ◌+◌, Bool, false, cond, ◌&&◌, List, eqb, leb, length, get_or, drop, Option, Some, None}
 use Rattle.message_formats.specs.declared.Shape.{Shape}
 use Rattle.message_formats.specs.declared.Shape.TheVariants.{Plain, VersionPiece, ProcessPiece, OwnerPiece, PolicyPiece, ResetPiece}
 use Rattle.message_formats.specs.declared.Part.{Part}
@@ -7,8 +7,7 @@ use Rattle.message_formats.specs.declared.Part.TheVariants.{VersionEntry, Proces
 use Rattle.message_formats.specs.declared.Rest.{Rest}
 use Rattle.message_formats.specs.declared.Rest.TheVariants.{Exactly, Said, SaidTo, Parts, Never}
 use Rattle.message_formats.specs.Formats.{rest_of}
-use Rattle.message_fields.specs.Fields.{value_count, fields, head_long, values_of, are_allowed}
-use Rattle.message_pieces.specs.declared.PartRead.{PartRead}
+use Rattle.message_fields.specs.Fields.{fields, head_long, values_of, are_allowed}
 use Rattle.message_pieces.specs.declared.Piece.{Piece}
 
 -- ---- a piece at the front of bytes
@@ -28,15 +27,12 @@ piece_long shape b = head_long shape + rest_long (rest_of shape) (values_of shap
 unfoldable pub is_piece : Shape → List ℕ → Bool
 is_piece shape b = leb (piece_long shape b) (length b) && are_allowed (fields shape) (values_of shape b)
 
--- where no piece stands, zeros are answered
-abbrev pub no_piece : Piece
-no_piece = record { fits = false; values = replicate value_count 0; rest = 0; long = 0 }
-
-unfoldable pub piece_in : Shape → List ℕ → Piece
+-- none where no piece stands
+unfoldable pub piece_in : Shape → List ℕ → Option Piece
 piece_in shape b =
     cond (is_piece shape b)
-    (record { fits = true; values = values_of shape b; rest = head_long shape; long = piece_long shape b })
-    no_piece
+    (Some (record { values = values_of shape b; rest = head_long shape; long = piece_long shape b }))
+    None
 
 -- ---- a part at the front of bytes: its first piece, and the one behind it, which has no bytes where the part is one piece
 unfoldable pub first : Part → Shape
@@ -63,9 +59,9 @@ is_part part b = is_piece (first part) b && is_piece (second part) (behind part 
 unfoldable pub part_long : Part → List ℕ → ℕ
 part_long part b = piece_long (first part) b + piece_long (second part) (behind part b)
 
--- what is answered of it: whether it is one, and how long it is, 0 where it is none
-unfoldable pub part_in : Part → List ℕ → PartRead
-part_in part b = record { fits = is_part part b; long = cond (is_part part b) (part_long part b) 0 }
+-- what is answered of it: how long it is, none where it is none
+unfoldable pub part_in : Part → List ℕ → Option ℕ
+part_in part b = cond (is_part part b) (Some (part_long part b)) None
 
 -- so many parts, one after the other, and nothing behind them
 unfoldable pub are_parts : Part → ℕ → List ℕ → Bool

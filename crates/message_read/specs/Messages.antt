@@ -1,6 +1,8 @@
 -- The messages of 004 clause 9.2: which bytes are one, and what is read from them.
-use Rattle.std.specs.Prelude.{ℕ, ◌+◌, Bool, cond, ◌&&◌, List, leb, length, get_or, drop, replicate}
+use Rattle.std.specs.Prelude.{ℕ, ◌+◌, Bool, cond, ◌&&◌, List, leb, length, get_or, drop, replicate, Option, Some, None, Result, Ok, Err}
 use Rattle.module_state.specs.Numbers as No
+use Rattle.module_state.specs.Refusals.{refusal_number}
+use Rattle.module_state.specs.declared.Refusal.{Refusal}
 use Rattle.message_formats.specs.declared.Shape.{Shape}
 use Rattle.message_formats.specs.Formats.{rest_of}
 use Rattle.message_fields.specs.Fields.{value_count, fields, are_allowed, head_long, values_of}
@@ -30,13 +32,29 @@ is_message message =
     && are_allowed (fields (shape_in message)) (message_values message)
     && fits_rest (rest_of (shape_in message)) (message_values message) (drop (head_of (shape_in message)) message)
 
--- where it is refused, zeros are answered
-abbrev pub refused : MessageRead
+-- what a message says: what its fields say, and where the bytes or parts that follow them begin
+unfoldable pub said_by : List ℕ → Option MessageRead
+said_by message =
+    cond (is_message message)
+    (Some (record { values = message_values message; rest = head_of (shape_in message) }))
+    None
+
+-- what is answered: the number, and what the message says; where it is refused, zeros
+pub record MessageAnswer : Type 0 where
+  pub number : ℕ
+  pub values : List ℕ
+  pub rest : ℕ
+
+abbrev pub refused : MessageAnswer
 refused = record { number = No.message; values = replicate value_count 0; rest = 0 }
 
--- what its fields say, and where the bytes or parts that follow them begin
-unfoldable pub read_message : List ℕ → MessageRead
+unfoldable pub read_message : List ℕ → MessageAnswer
 read_message message =
     cond (is_message message)
     (record { number = No.done; values = message_values message; rest = head_of (shape_in message) })
     refused
+
+-- as the code answers it
+abbrev pub answer_in : Result MessageRead Refusal → MessageAnswer
+answer_in (Ok read) = record { number = No.done; values = read.values; rest = read.rest }
+answer_in (Err refusal) = record { number = refusal_number refusal; values = replicate value_count 0; rest = 0 }

@@ -1,5 +1,6 @@
 -- What callers cite: what a row of tests answers, and what an accepted one says.
 -- Assumes nothing.
+use Rattle.std.specs.Prelude.{Option, Some, None}
 use Prim.Native.Nat.{ℕ}
 use mathlib.Core.Path.{◌≡◌, refl, sym, ap, ◌∙◌}
 use mathlib.Core.Bool.{Bool, true, false, not}
@@ -14,11 +15,9 @@ use Rattle.names.specs.declared.Session.{Session}
 use Rattle.table.specs.Table.{standing, free_place, process_at, is_active, found_place, first_place, find_active}
 use Rattle.table.specs.declared.Active.{Active}
 use Rattle.table.specs.declared.Active.TheVariants.{UserOf, ElevationIn}
-use Rattle.table.specs.declared.Found.{Found}
-use Rattle.table.specs.declared.Found.TheVariants.{At, Nothing}
 use Rattle.table.specs.declared.Process.{Process}
 use Rattle.table.proofs.Searched.{FoundAt, found_at, found_none}
-use Rattle.module_state.specs.declared.Checked.{Checked}
+use Rattle.module_state.specs.Refusals.{Checked}
 use Rattle.module_state.specs.declared.Claim.{Claim}
 use Rattle.module_state.specs.declared.Claim.TheVariants.{Elevated, ByUser}
 use Rattle.module_state.specs.declared.ClaimView.{ClaimView}
@@ -135,12 +134,12 @@ module _ (n : ℕ) (some : T (ltb 0 n)) where
   clear-unless false e = absurd (omega (arith, ltb→lt 0 n some))
 
 -- ---- the active process, by the search's answer
-module _ (st : State) (which : Active) {f : Found} (e : f ≡ first_place (is_active which) (standing st.table)) where
-  pub none-active : f ≡ Nothing → has_active st which ≡ false
+module _ (st : State) (which : Active) {f : Option ℕ} (e : f ≡ first_place (is_active which) (standing st.table)) where
+  pub none-active : f ≡ None → has_active st which ≡ false
   unfolding has_active
   none-active q = (found_none (is_active which) (standing st.table) (sym e ∙ q)).none
 
-  module _ {k : ℕ} (q : f ≡ At k) where
+  module _ {k : ℕ} (q : f ≡ Some k) where
     here : FoundAt (is_active which) (standing st.table) k
     here = found_at (is_active which) (standing st.table) (sym e ∙ q)
 
@@ -158,21 +157,21 @@ module _ (st : State) (which : Active) {f : Found} (e : f ≡ first_place (is_ac
 
 -- ---- what a state tells of a claim
 module _ (st : State) (which : Active) where
-  found-active : (f : Found) → f ≡ find_active st.table which → is_found f ≡ has_active st which
-  found-active (At at) e = sym (one-active st which e refl)
-  found-active Nothing e = sym (none-active st which e refl)
+  found-active : (f : Option ℕ) → f ≡ find_active st.table which → is_found f ≡ has_active st which
+  found-active (Some at) e = sym (one-active st which e refl)
+  found-active None e = sym (none-active st which e refl)
 
-  process-found : (f : Found) → f ≡ find_active st.table which → process_found st.table f ≡ active_process st which
+  process-found : (f : Option ℕ) → f ≡ find_active st.table which → process_found st.table f ≡ active_process st which
   unfolding process_found active_place active_process process_at
-  process-found (At at) e = process-is st which e refl refl
-  process-found Nothing e = sym (get_or-eq_default (standing st.table) free_place (found_none (is_active which) (standing st.table) (sym e)).past)
+  process-found (Some at) e = process-is st which e refl refl
+  process-found None e = sym (get_or-eq_default (standing st.table) free_place (found_none (is_active which) (standing st.table) (sym e)).past)
 
-  place_found : (f : Found) → f ≡ find_active st.table which → is_found f ≡ true → found_place 0 f ≡ active_place st which
-  place_found (At at) e h = place_is st which e refl
-  place_found Nothing e h = clash h refl
+  place_found : (f : Option ℕ) → f ≡ find_active st.table which → is_found f ≡ true → found_place 0 f ≡ active_place st which
+  place_found (Some at) e h = place_is st which e refl
+  place_found None e h = clash h refl
 
 -- a view that was put together from what single readers answered
-pub view_of : (st : State) (s : Session) (claim : Claim) {a : Active} {f : Found} {owner c : Credential} {next : ℕ} {phase : Phase} {g : Grants}
+pub view_of : (st : State) (s : Session) (claim : Claim) {a : Active} {f : Option ℕ} {owner c : Credential} {next : ℕ} {phase : Phase} {g : Grants}
     → a ≡ sought s claim → f ≡ first_place (is_active a) (standing st.table)
     → owner ≡ (process_found st.table f).credential → next ≡ (process_found st.table f).next → c ≡ speaks_for claim owner
     → phase ≡ phase_of st s → g ≡ grants_of st c

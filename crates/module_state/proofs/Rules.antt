@@ -9,7 +9,7 @@ use lib.ListN.{length, get_or, get_or-eq_default}
 use borrow.Author.Rules.{rules as std_rules}
 use borrow.Author.Tests.{not-true, not-false, le-leb, lt-leb, ne_eqb}
 use Rattle.lists.proofs.Lists.{length-mapped}
-use Rattle.module_state.specs.declared.Checked.{Checked}
+use Rattle.module_state.specs.Refusals.{Checked}
 use Rattle.module_state.specs.declared.Claim.{Claim}
 use Rattle.module_state.specs.declared.Claim.TheVariants.{Elevated, ByUser}
 use Rattle.module_state.specs.declared.Class.{Class}
@@ -17,7 +17,7 @@ use Rattle.module_state.specs.declared.Grants.{Grants}
 use Rattle.module_state.specs.declared.Handle.{Handle}
 use Rattle.module_state.specs.declared.Lookup.{Lookup}
 use Rattle.module_state.specs.declared.Lookup.TheVariants.{NotGranted, Granted, OnlyElevated}
-use Rattle.module_state.specs.declared.Placed.{Placed}
+use Rattle.module_state.specs.Refusals.{Placed}
 use Rattle.module_state.specs.declared.Port.{Port}
 use Rattle.module_state.specs.declared.SessionState.{SessionState}
 use Rattle.module_state.specs.declared.State.{State}
@@ -30,6 +30,7 @@ use Rattle.module_state.specs.Numbers.{◌when◌, ◌unless◌, ◌▸◌}
 use Rattle.module_state.specs.Module.{last_port, is_port, last_handle, is_handle, slot, no_slot, slot_of, last_session, session_count, is_session, closed_session, phase_of, is_closed, is_chosen, last_credential, credential_count, is_credential, no_words, unprovisioned, words_of, grants_of, provisioned, has_bit, lookup}
 use Rattle.module_state.specs.Claim.{phase_number, entered, placed, lookup_number, grant_number}
 use Rattle.module_state.proofs.Laws.{stop, pass, when_true, when_false, unless-true, unless-false}
+use Rattle.module_state.proofs.Refusals.{row-ends, row-goes-on}
 
 pub nonzero : {n : ℕ} → T (ltb 0 n) → n ≡ 0 → ⊥
 nonzero {n} some e = omega (arith, ltb→lt 0 n some)
@@ -225,4 +226,4 @@ pub entered-is : (st : State) (s : Session) {phase : Phase} {n : ℕ} → phase 
 unfolding entered
 entered-is st s e q = q ∙ rw e
 
-pub ruleset rules = (std_rules, length-mapped, when-hit, when-miss, unless-hit, unless-miss, when-stop, when-pass, unless-stop, unless-pass, part-stop, part-pass, session-is, slot-no-port, slot-no-handle, slot_is, credential-is, phase-in, phase-out, closed-closed, closed-opened, closed-chosen, phase-argument, phase-closed, phase-opened, phase-chosen, entered-is, grants-in, grants-out, provisioned-of, words-provisioned, words-none, bit-over, bit_is, lookup-not, lookup-granted, lookup-elevated, number-granted, number-not, number-elevated, number-user, grant-is, placed-found, refused-placed, number-placed, placed_on)
+pub ruleset rules = (std_rules, length-mapped, when-hit, when-miss, unless-hit, unless-miss, when-stop, when-pass, unless-stop, unless-pass, part-stop, part-pass, session-is, slot-no-port, slot-no-handle, slot_is, credential-is, phase-in, phase-out, closed-closed, closed-opened, closed-chosen, phase-argument, phase-closed, phase-opened, phase-chosen, entered-is, grants-in, grants-out, provisioned-of, words-provisioned, words-none, bit-over, bit_is, lookup-not, lookup-granted, lookup-elevated, number-granted, number-not, number-elevated, number-user, grant-is, placed-found, refused-placed, number-placed, placed_on, row-ends, row-goes-on)

@@ -2,6 +2,7 @@
 -- Assumes nothing.
 use mathlib.Core.Path.{sym, ◌∙◌}
 use Rattle.lists.proofs.Once.{OneAnswer}
+use Rattle.module_state.proofs.Refusals.{number-once}
 use Rattle.module_state.proofs.is_session.Kinds as is-session-kinds
 use Rattle.module_state.proofs.is_session.Reads as is-session
 use Rattle.module_state.proofs.slot_of.Kinds as slot-of-kinds
@@ -22,8 +23,6 @@ use Rattle.module_state.proofs.grant_number.Kinds as grant-number-kinds
 use Rattle.module_state.proofs.grant_number.Reads as grant-number
 use Rattle.module_state.proofs.phase_number.Kinds as phase-number-kinds
 use Rattle.module_state.proofs.phase_number.Reads as phase-number
-use Rattle.module_state.proofs.refused.Kinds as refused-kinds
-use Rattle.module_state.proofs.refused.Reads as refused
 use Rattle.module_state.proofs.entered.Kinds as entered-kinds
 use Rattle.module_state.proofs.entered.Reads as entered
 
@@ -52,13 +51,10 @@ pub closed-module-once : OneAnswer 0 closed-module-kinds.ps closed-module-kinds.
 closed-module-once κs a x y s t p q = p ∙ sym q
 
 pub grant-number-once : OneAnswer 0 grant-number-kinds.ps grant-number-kinds.r grant-number.Post
-grant-number-once κs a x y s t p q = p ∙ sym q
+grant-number-once κs a x y s t p q = number-once x y (p ∙ sym q)
 
 pub phase-number-once : OneAnswer 0 phase-number-kinds.ps phase-number-kinds.r phase-number.Post
-phase-number-once κs a x y s t p q = p ∙ sym q
+phase-number-once κs a x y s t p q = number-once x y (p ∙ sym q)
 
 pub entered-once : OneAnswer 0 entered-kinds.ps entered-kinds.r entered.Post
-entered-once κs a x y s t p q = p ∙ sym q
-
-pub refused-once : OneAnswer 0 refused-kinds.ps refused-kinds.r refused.Post
-refused-once κs a x y s t p q = p ∙ sym q
+entered-once κs a x y s t p q = number-once x y (p ∙ sym q)

@@ -1,15 +1,13 @@
 -- "The claim": its check, once for all protected calls. It is defined on what a state tells of a claim, so that one check serves wherever the state lies
-use Rattle.std.specs.Prelude.{ℕ, Bool, true, false, cond, not, ◌&&◌, eqb}
+use Rattle.std.specs.Prelude.{ℕ, Bool, true, false, cond, not, ◌&&◌, eqb, Option, Some, None}
 use Rattle.names.specs.declared.Credential.{Credential}
 use Rattle.names.specs.declared.Session.{Session}
 use Rattle.table.specs.Table.{free_place, process_at, found_place, find_active}
 use Rattle.table.specs.declared.Active.{Active}
 use Rattle.table.specs.declared.Active.TheVariants.{UserOf, ElevationIn}
-use Rattle.table.specs.declared.Found.{Found}
-use Rattle.table.specs.declared.Found.TheVariants.{At, Nothing}
 use Rattle.table.specs.declared.Process.{Process}
 use Rattle.table.specs.declared.Table.{Table}
-use Rattle.module_state.specs.declared.Checked.{Checked}
+use Rattle.module_state.specs.Refusals.{Checked}
 use Rattle.module_state.specs.declared.Claim.{Claim}
 use Rattle.module_state.specs.declared.Claim.TheVariants.{Elevated, ByUser}
 use Rattle.module_state.specs.declared.ClaimView.{ClaimView}
@@ -17,7 +15,7 @@ use Rattle.module_state.specs.declared.Class.{Class}
 use Rattle.module_state.specs.declared.Lookup.{Lookup}
 use Rattle.module_state.specs.declared.Lookup.TheVariants.{NotGranted, Granted, OnlyElevated}
 use Rattle.module_state.specs.declared.Phase.{Phase}
-use Rattle.module_state.specs.declared.Placed.{Placed}
+use Rattle.module_state.specs.Refusals.{Placed}
 use Rattle.module_state.specs.declared.State.{State}
 use Rattle.module_state.specs.declared.UserClaim.{UserClaim}
 use Rattle.module_state.specs.Numbers as No
@@ -50,9 +48,9 @@ unfoldable pub speaker : State → Session → Claim → Credential
 speaker st s claim = speaks_for claim (active_process st (sought s claim)).credential
 
 -- the process that a search of a table found; a free place where it found none
-unfoldable pub process_found : Table → Found → Process
-process_found t (At at) = process_at t at
-process_found t Nothing = free_place
+unfoldable pub process_found : Table → Option ℕ → Process
+process_found t (Some at) = process_at t at
+process_found t None = free_place
 
 -- all that the check asks
 unfoldable pub claim_view : State → Session → Claim → ClaimView
@@ -72,9 +70,9 @@ unfoldable pub is_in_range : Claim → Bool
 is_in_range Elevated = true
 is_in_range (ByUser u) = is_credential u.credential
 
-abbrev pub is_found : Found → Bool
-is_found (At at) = true
-is_found Nothing = false
+abbrev pub is_found : Option ℕ → Bool
+is_found (Some at) = true
+is_found None = false
 
 -- "So numbers 0 to 65,534 can be accepted."
 unfoldable pub is_spent : ℕ → Bool

@@ -1,3 +1,4 @@
 pub mod Numbers
+pub mod Refusals
 pub mod Module
 pub mod Claim

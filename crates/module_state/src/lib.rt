@@ -1,67 +1,65 @@
 // What the module holds, and whom it grants what; the types of a claim and of its check.
-#![tactic(auto)]
+#![tactic(auto, using(crate::proofs::Rules::rules), unfolding(crate::specs::Module::is_session, crate::specs::Module::is_credential, crate::specs::Module::phase_of, crate::specs::Module::is_closed, crate::specs::Module::grants_of, crate::specs::Module::words_of, crate::specs::Module::has_bit, crate::specs::Module::lookup, crate::specs::Module::slot_of, crate::specs::Claim::lookup_number, crate::specs::Claim::grant_number, crate::specs::Claim::phase_number, crate::specs::Claim::entered))]
 
 ghost use Rattle.std.specs.Prelude.{◌≡◌};
 ghost use Rattle.module_state.specs.Module.{is_session, slot_of, is_credential, phase_of, is_closed, words_of, grants_of, closed_module, has_bit, lookup};
+ghost use Rattle.module_state.specs.Refusals.{refusal_number, number_of, checked_in};
 ghost use Rattle.module_state.specs.Claim.{phase_number, entered, lookup_number, grant_number};
 
 use names::{Credential, Session};
-use table::{Found, Table};
+use table::Table;
 
-// The numbers that a call can answer.
+// The number of a call that is done.
 pub const DONE: u8 = 0;
 
-pub const ARGUMENT: u8 = 1;
+// Why a call is refused, with document 01's number for it.
+#[derive(Clone, Copy, PartialEq, Eq)]
+pub enum Refusal {
+    Argument = 1,
+    Session = 2,
+    NoVersion = 3,
+    Version = 4,
+    Credential = 5,
+    NoProcess = 6,
+    AlreadyActive = 7,
+    Verdict = 8,
+    OutOfTurn = 9,
+    NotGranted = 10,
+    Full = 11,
+    NameTaken = 12,
+    Spent = 13,
+    Message = 14,
+    Room = 15,
+    OnlyElevated = 18,
+}
 
-pub const SESSION: u8 = 2;
+impl From<Refusal> for u8 {
+    ghost from_gives = { λ refusal number. number ≡ refusal_number refusal };
 
-pub const NO_VERSION: u8 = 3;
-
-pub const VERSION: u8 = 4;
-
-pub const CREDENTIAL: u8 = 5;
-
-pub const NO_PROCESS: u8 = 6;
-
-pub const ALREADY_ACTIVE: u8 = 7;
-
-pub const VERDICT: u8 = 8;
-
-pub const OUT_OF_TURN: u8 = 9;
-
-pub const NOT_GRANTED: u8 = 10;
-
-pub const FULL: u8 = 11;
-
-pub const NAME_TAKEN: u8 = 12;
-
-pub const SPENT: u8 = 13;
-
-pub const MESSAGE: u8 = 14;
-
-pub const ROOM: u8 = 15;
-
-pub const ONLY_ELEVATED: u8 = 18;
+    fn from(refusal: Refusal) -> u8 {
+        refusal as u8
+    }
+}
 
 // A management port, and a session handle, which is one of a port's. Neither can stand for the other, nor for a session.
-#[derive(Clone, Copy)]
+#[derive(Clone, Copy, PartialEq, Eq)]
 pub struct Port(pub u8);
 
-#[derive(Clone, Copy)]
+#[derive(Clone, Copy, PartialEq, Eq)]
 pub struct Handle(pub u8);
 
 // A class of operations. A session or a credential cannot stand for it.
-#[derive(Clone, Copy)]
+#[derive(Clone, Copy, PartialEq, Eq)]
 pub struct Class(pub u8);
 
 // The classes that calls of this module ask for.
-pub const LIST_OTHERS: u8 = 0;
+pub const LIST_OTHERS: Class = Class(0);
 
-pub const KILL_OTHERS: u8 = 1;
+pub const KILL_OTHERS: Class = Class(1);
 
-pub const SAVE_OWN: u8 = 2;
+pub const SAVE_OWN: Class = Class(2);
 
-pub const SET_WORDS: u8 = 3;
+pub const SET_WORDS: Class = Class(3);
 
 // Ports are 0 and 1, the handles of each 0 to 3, credentials 0 to 7.
 const LAST_PORT: u8 = 1;
@@ -82,7 +80,7 @@ pub const CREDENTIALS: usize = LAST_CREDENTIAL as usize + 1;
 // Bytes of a word.
 pub const WORD_SIZE: usize = 4;
 
-#[derive(Clone, Copy)]
+#[derive(Clone, Copy, PartialEq, Eq)]
 pub enum Phase {
     Closed,
     Opened,
@@ -150,28 +148,20 @@ pub enum Claim {
 #[derive(Clone, Copy)]
 pub struct ClaimView {
     pub phase: Phase,
-    pub found: Found,
+    pub found: Option<usize>,
     pub next: u16,
     pub credential: Credential,
     pub grants: Grants,
 }
 
-// What the check of a claim comes to: its number, and what a call goes on with where that is 0.
+// What the check of a claim comes to: the place of the claim's process, or why it is refused, and what a call goes on with where it is not.
 #[derive(Clone, Copy)]
-pub struct Checked {
+pub struct ClaimCheck {
     pub claim: Claim,
-    pub number: u8,
-    pub place: usize,
+    pub place: Result<usize, Refusal>,
     pub next: u16,
     pub credential: Credential,
     pub grants: Grants,
-}
-
-// What tests come to that find a process: their number, and the place of the process where that is 0.
-#[derive(Clone, Copy)]
-pub struct Placed {
-    pub number: u8,
-    pub place: usize,
 }
 
 pub fn is_session(s: Session) -> bool
@@ -187,13 +177,11 @@ const NO_SLOT: u8 = 255;
 pub fn slot_of(port: Port, handle: Handle) -> Session
     ensures { result ≡ slot_of port handle }
 {
-    if LAST_PORT < port.0 {
-        return Session(NO_SLOT);
+    if port.0 <= LAST_PORT && handle.0 <= LAST_HANDLE {
+        Session(port.0 * HANDLES + handle.0)
+    } else {
+        Session(NO_SLOT)
     }
-    if LAST_HANDLE < handle.0 {
-        return Session(NO_SLOT);
-    }
-    Session(port.0 * HANDLES + handle.0)
 }
 
 pub fn is_credential(c: Credential) -> bool
@@ -206,37 +194,24 @@ pub fn is_credential(c: Credential) -> bool
 pub fn phase_of(st: State, s: Session) -> Phase
     ensures { result ≡ phase_of st s }
 {
-    let at = s.0 as usize;
-    if at < SESSIONS {
-        let sessions = st.sessions;
-        let one = sessions[at];
-        one.phase
-    } else {
-        Phase::Closed
-    }
+    st.sessions
+        .get(usize::from(s.0))
+        .map_or(Phase::Closed, |session| session.phase)
 }
 
 pub fn is_closed(st: State, s: Session) -> bool
     ensures { result ≡ is_closed (phase_of st s) }
 {
-    match phase_of(st, s) {
-        Phase::Closed => true,
-        Phase::Opened => false,
-        Phase::Chosen => false,
-    }
+    phase_of(st, s) == Phase::Closed
 }
 
 // The grants of a credential; one that there is none of is not provisioned.
 pub fn grants_of(st: State, c: Credential) -> Grants
     ensures { result ≡ grants_of st c }
 {
-    let at = c.0 as usize;
-    if at < CREDENTIALS {
-        let credentials = st.credentials;
-        credentials[at]
-    } else {
-        UNPROVISIONED
-    }
+    *st.credentials
+        .get(usize::from(c.0))
+        .unwrap_or(&UNPROVISIONED)
 }
 
 // The words of a credential; none where it is not provisioned.
@@ -255,7 +230,7 @@ pub fn closed_module(credentials: [Grants; CREDENTIALS], t: Table) -> State
     };
     State {
         sessions: [closed; SESSIONS],
-        credentials: credentials,
+        credentials,
         table: t,
     }
 }
@@ -264,76 +239,56 @@ pub fn closed_module(credentials: [Grants; CREDENTIALS], t: Table) -> State
 fn has_bit(word: u32, class: Class) -> bool
     ensures { result ≡ has_bit word class }
 {
-    if 31 < class.0 {
-        return false;
-    }
-    let bit = class.0 as u32;
-    (word >> bit) % 2 == 1
+    class.0 <= 31 && (word >> class.0) % 2 == 1
 }
 
 fn look_up(grants: Grants, class: Class) -> Lookup
     ensures { result ≡ lookup grants class }
 {
-    let words = grants.words;
-    if !has_bit(words.grant, class) {
-        return Lookup::NotGranted;
-    }
-    if has_bit(words.second, class) {
+    if !has_bit(grants.words.grant, class) {
+        Lookup::NotGranted
+    } else if has_bit(grants.words.second, class) {
         Lookup::OnlyElevated
     } else {
         Lookup::Granted
     }
 }
 
-// The number of each answer of the lookup, for a claim.
-fn lookup_number(claim: Claim, answer: Lookup) -> u8
-    ensures { result ≡ lookup_number claim answer }
+// What each answer of the lookup says to a claim.
+fn lookup_number(claim: Claim, answer: Lookup) -> Result<(), Refusal>
+    ensures { number_of result ≡ lookup_number claim answer }
 {
-    match answer {
-        Lookup::NotGranted => NOT_GRANTED,
-        Lookup::Granted => DONE,
-        Lookup::OnlyElevated => match claim {
-            Claim::Elevated => DONE,
-            Claim::ByUser(_) => ONLY_ELEVATED,
-        },
+    match (answer, claim) {
+        (Lookup::NotGranted, _) => Err(Refusal::NotGranted),
+        (Lookup::Granted, _) => Ok(()),
+        (Lookup::OnlyElevated, Claim::Elevated) => Ok(()),
+        (Lookup::OnlyElevated, Claim::ByUser(_)) => Err(Refusal::OnlyElevated),
     }
 }
 
 // The test that a class is granted, by what the check of a claim came to.
-pub fn grant_number(by: Checked, class: Class) -> u8
-    ensures { result ≡ grant_number by class }
+pub fn grant_number(by: ClaimCheck, class: Class) -> Result<(), Refusal>
+    ensures { number_of result ≡ grant_number (checked_in by) class }
 {
-    let claim = by.claim;
-    let grants = by.grants;
-    lookup_number(claim, look_up(grants, class))
+    lookup_number(by.claim, look_up(by.grants, class))
 }
 
 // The tests that all calls but open, close and select begin with, of a session in a phase.
-pub fn phase_number(s: Session, phase: Phase) -> u8
-    ensures { result ≡ phase_number s phase }
+pub fn phase_number(s: Session, phase: Phase) -> Result<(), Refusal>
+    ensures { number_of result ≡ phase_number s phase }
 {
     if !is_session(s) {
-        return ARGUMENT;
+        return Err(Refusal::Argument);
     }
     match phase {
-        Phase::Closed => SESSION,
-        Phase::Opened => NO_VERSION,
-        Phase::Chosen => DONE,
+        Phase::Closed => Err(Refusal::Session),
+        Phase::Opened => Err(Refusal::NoVersion),
+        Phase::Chosen => Ok(()),
     }
 }
 
-pub fn entered(st: State, s: Session) -> u8
-    ensures { result ≡ entered st s }
+pub fn entered(st: State, s: Session) -> Result<(), Refusal>
+    ensures { number_of result ≡ entered st s }
 {
     phase_number(s, phase_of(st, s))
-}
-
-// Tests that refuse: their number, and no place.
-pub fn refused(n: u8) -> Placed
-    ensures { result ≡ record { number = n; place = 0 } }
-{
-    Placed {
-        number: n,
-        place: 0,
-    }
 }

@@ -1,5 +1,6 @@
 -- What callers cite: `same` is equality of all 48 bytes, and a row that is read is the row that was written.
 -- Assumes nothing.
+use Rattle.std.specs.Prelude.{Option, Some, is_some, unwrap_or}
 use Rattle.std.proofs.Common.{◌≡◌, ℕ, zero, suc, ◌+◌, ◌<◌, ◌≤◌, true, false, ◌&&◌, eqb, leb, ◌↔◌, List, [], ◌∷◌, ◌++◌, length, get_or, take, drop, sym, refl, ap, ◌∙◌, arith, length-drop, take_all, eq-eqb, ne_eqb, eqb-true, le-leb, leb-true}
 use Rattle.rows.specs.Bytes.{Bytes, bytes_of, number_at}
 use Rattle.rows.proofs.Bytes.{number_in, number-forth, number-low}
@@ -10,7 +11,6 @@ use Rattle.names.specs.declared.Kind.{Kind}
 use Rattle.names.specs.declared.Kind.TheVariants.{User, Elevation, Saved}
 use Rattle.names.specs.declared.Name.{Name}
 use Rattle.names.specs.declared.Row.{Row}
-use Rattle.names.specs.declared.RowRead.{RowRead}
 use Rattle.names.specs.declared.RowType.{RowType}
 use Rattle.names.specs.declared.RowType.TheVariants.{ActiveUser, ActiveElevation, SavedUser}
 use Rattle.names.specs.Names.{name_length, same_bytes, same_name, read_name, name_in, user_type, elevation_type, last_type, type_number, type_numbered, type_of, kind_of, kind_number, kind_numbered, row_credential_at, row_credential_size, row_type_at, row_length, row_bytes, row_in, is_row, row_from, read_row}
@@ -60,12 +60,12 @@ pub name→same : (a b : Name) → a ≡ b → same_name a b ≡ true
 name→same a b e = (same-iff a b).1 (ap (λ (n : Name). n.bytes) e)
 
 -- ---- reading and writing a name, by the length of the slice
-pub name-read : (part : List ℕ) → length part ≡ name_length → read_name part ≡ record { fits = true; name = record { bytes = part } }
+pub name-read : (part : List ℕ) → length part ≡ name_length → read_name part ≡ Some (record { bytes = part })
 unfolding read_name
 name-read part h = rw (eq-eqb (length part) name_length h)
 
 -- the name in the last bytes of a row
-pub name-last : (row : List ℕ) (at : ℕ) → length row ≡ at + name_length → (read_name (take name_length (drop at row))).name ≡ record { bytes = drop at row }
+pub name-last : (row : List ℕ) (at : ℕ) → length row ≡ at + name_length → read_name (take name_length (drop at row)) ≡ Some (record { bytes = drop at row })
 name-last row at h =
     let l : length (drop at row) ≡ name_length = rw length-drop (omega arith) in
     rw (take_all name_length (drop at row) (omega arith), name-read (drop at row) l)
@@ -126,7 +126,7 @@ unfolding bytes_of
 length-row row h = omega arith
 
 -- what was written is read
-pub row_back : (row : Row) → RowFits row → read_row (row_bytes row) ≡ record { fits = true; row = row }
+pub row_back : (row : Row) → RowFits row → read_row (row_bytes row) ≡ Some row
 unfolding is_row read_row bytes_of
 row_back row v =
     let c : number_at row_credential_size row_credential_at (row_bytes row) ≡ row.credential.0 = number_in row_credential_size row.credential.0 [] (type_number row.kind ∷ row.name.bytes) v.credential in
@@ -136,7 +136,7 @@ row_back row v =
 row_is : (row : Row) → RowFits row → is_row (row_bytes row) ≡ true
 unfolding read_row
 row_is row v =
-    split (is_row (row_bytes row)) (λ e. e) (λ e. clash (ap (λ (r : RowRead). r.fits) (row_back row v)) (rw e))
+    split (is_row (row_bytes row)) (λ e. e) (λ e. clash (ap is_some (row_back row v)) (rw e))
 
 -- what is a row is 51 bytes long, and its type is at most 2
 pub record RowShaped (part : List ℕ) : Type 0 where
@@ -152,7 +152,7 @@ row-shaped part e =
     }
 
 -- and so it is read
-pub row_read : (part : List ℕ) → is_row part ≡ true → read_row part ≡ record { fits = true; row = row_from part }
+pub row_read : (part : List ℕ) → is_row part ≡ true → read_row part ≡ Some (row_from part)
 unfolding read_row
 row_read part e = rw e
 
@@ -179,7 +179,7 @@ row-codec =
       wide = λ row v. v;
       long = λ row v. length-row row v.name;
       only = λ row v e. v;
-      back = λ row v. ap (λ (r : RowRead). r.row) (sym (row_read (row_bytes row) (row_is row v)) ∙ row_back row v);
+      back = λ row v. ap (λ (r : Option Row). unwrap_or r row) (sym (row_read (row_bytes row) (row_is row v)) ∙ row_back row v);
       fits = row_is;
       forth = λ part h b e. row-forth part b e;
       good = λ part h b e. record { credential = number-low row_credential_size row_credential_at part b; name = simp length-drop (omega arith) };

@@ -1,12 +1,10 @@
 -- Names and rows: what their functions answer.
-use Rattle.std.specs.Prelude.{ℕ, zero, suc, ◌+◌, Bool, true, false, cond, ◌&&◌, List, [], ◌∷◌, ◌++◌, length, drop, replicate, ◌==◌, nat_le, slice_index}
+use Rattle.std.specs.Prelude.{ℕ, zero, suc, ◌+◌, Bool, true, false, cond, ◌&&◌, List, [], ◌∷◌, ◌++◌, length, drop, replicate, ◌==◌, nat_le, slice_index, Option, Some, None}
 use Rattle.rows.specs.Bytes.{bytes_of, number_at}
 use Rattle.names.specs.declared.Kind.{Kind}
 use Rattle.names.specs.declared.Kind.TheVariants.{User, Elevation, Saved}
 use Rattle.names.specs.declared.Name.{Name}
-use Rattle.names.specs.declared.NameRead.{NameRead}
 use Rattle.names.specs.declared.Row.{Row}
-use Rattle.names.specs.declared.RowRead.{RowRead}
 use Rattle.names.specs.declared.RowType.{RowType}
 use Rattle.names.specs.declared.RowType.TheVariants.{ActiveUser, ActiveElevation, SavedUser}
 
@@ -29,11 +27,8 @@ abbrev pub zero_name : Name
 zero_name = record { bytes = replicate name_length 0 }
 
 -- a slice read as a name: of 48 bytes, these
-unfoldable pub read_name : List ℕ → NameRead
-read_name part =
-    cond (length part == name_length)
-    (record { fits = true; name = record { bytes = part } })
-    (record { fits = false; name = zero_name })
+unfoldable pub read_name : List ℕ → Option Name
+read_name part = cond (length part == name_length) (Some (record { bytes = part })) None
 
 -- a part after a name was written into it
 unfoldable pub name_in : List ℕ → Name → List ℕ
@@ -117,8 +112,9 @@ row_from part =
       name = record { bytes = drop row_name_at part };
     }
 
-abbrev pub no_row : RowRead
-no_row = record { fits = false; row = record { credential = record { 0 = 0 }; kind = ActiveUser; name = zero_name } }
+-- the row of what could not be read
+abbrev pub zero_row : Row
+zero_row = record { credential = record { 0 = 0 }; kind = ActiveUser; name = zero_name }
 
-unfoldable pub read_row : List ℕ → RowRead
-read_row part = cond (is_row part) (record { fits = true; row = row_from part }) no_row
+unfoldable pub read_row : List ℕ → Option Row
+read_row part = cond (is_row part) (Some (row_from part)) None

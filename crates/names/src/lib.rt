@@ -1,20 +1,22 @@
 // What things are called, and the types of the row that a listing has of a process.
-#![tactic(auto)]
+#![tactic(auto, using(crate::proofs::Rules::rules), unfolding(crate::specs::Names::read_name, crate::specs::Names::name_in))]
 
 ghost use Rattle.std.specs.Prelude.{◌≡◌, ◌+◌, ◌≤◌};
 ghost use Rattle.rows.specs.Bytes.{is_zero};
 ghost use Rattle.names.specs.Names.{name_length, same_bytes, same_name, read_name, name_in, type_number, type_numbered, type_of, kind_of};
 ghost use Rattle.names.specs.Words.{stride, Word, stirred, digest_of};
 
+use std::array;
+
 // A session, by its slot: which port's it is, and which of that port's. A credential cannot stand for it, nor it for a credential.
-#[derive(Clone, Copy)]
+#[derive(Clone, Copy, PartialEq, Eq)]
 pub struct Session(pub u8);
 
-#[derive(Clone, Copy)]
+#[derive(Clone, Copy, PartialEq, Eq)]
 pub struct Credential(pub u16);
 
 // What a process is that stands in the table.
-#[derive(Clone, Copy)]
+#[derive(Clone, Copy, PartialEq, Eq)]
 pub enum Kind {
     User,
     Elevation,
@@ -22,19 +24,19 @@ pub enum Kind {
 }
 
 // The type that a row has on the wire: 004 Table 46.
-#[derive(Clone, Copy)]
+#[derive(Clone, Copy, PartialEq, Eq)]
 pub enum RowType {
-    ActiveUser,
-    ActiveElevation,
-    SavedUser,
+    ActiveUser = 0,
+    ActiveElevation = 1,
+    SavedUser = 2,
 }
 
 // The number of each type, and of the kind that has it.
-pub const USER_TYPE: u8 = 0;
+pub const USER_TYPE: u8 = RowType::ActiveUser as u8;
 
-pub const ELEVATION_TYPE: u8 = 1;
+pub const ELEVATION_TYPE: u8 = RowType::ActiveElevation as u8;
 
-pub const SAVED_TYPE: u8 = 2;
+pub const SAVED_TYPE: u8 = RowType::SavedUser as u8;
 
 pub const LAST_TYPE: u8 = SAVED_TYPE;
 
@@ -52,6 +54,9 @@ pub const ROW_LENGTH: usize = ROW_NAME_AT + NAME_LENGTH;
 // How many bytes of a name are read at a time.
 const STRIDE: usize = 8;
 
+// How many times.
+const WORDS: usize = NAME_LENGTH / STRIDE;
+
 #[derive(Clone, Copy)]
 pub struct Name {
     pub bytes: [u8; NAME_LENGTH],
@@ -62,20 +67,6 @@ pub struct Row {
     pub credential: Credential,
     pub kind: RowType,
     pub name: Name,
-}
-
-// What a slice says when it is read as a name. Where it does not fit, the name is zeros.
-#[derive(Clone, Copy)]
-pub struct NameRead {
-    pub fits: bool,
-    pub name: Name,
-}
-
-// What a slice says when it is read as a row. Where it does not fit, the row is zeros.
-#[derive(Clone, Copy)]
-pub struct RowRead {
-    pub fits: bool,
-    pub row: Row,
 }
 
 // ---- types: the number of each is 004 Table 46's, on the wire and in the state
@@ -95,24 +86,18 @@ pub fn type_of(kind: Kind) -> RowType
 pub fn type_number(kind: RowType) -> u8
     ensures { result ≡ type_number kind }
 {
-    match kind {
-        RowType::ActiveUser => USER_TYPE,
-        RowType::ActiveElevation => ELEVATION_TYPE,
-        RowType::SavedUser => SAVED_TYPE,
-    }
+    kind as u8
 }
 
 // The type of a number; a number that is no type's is taken for the last.
 pub fn type_numbered(number: u8) -> RowType
     ensures { result ≡ type_numbered number }
 {
-    if number == USER_TYPE {
-        return RowType::ActiveUser;
+    match number {
+        USER_TYPE => RowType::ActiveUser,
+        ELEVATION_TYPE => RowType::ActiveElevation,
+        _ => RowType::SavedUser,
     }
-    if number == ELEVATION_TYPE {
-        return RowType::ActiveElevation;
-    }
-    RowType::SavedUser
 }
 
 // The kind of a process that has a type.
@@ -129,31 +114,20 @@ pub fn kind_of(t: RowType) -> Kind
 // ---- names
 
 // Eight bytes from an index on, as one number, the lowest first: one load.
-fn word(bytes: [u8; NAME_LENGTH], at: usize) -> u64
+fn word(bytes: &[u8; NAME_LENGTH], at: usize) -> u64
     requires { at + stride ≤ name_length }
-    ensures { Word bytes at result }
+    ensures { Word bytes.now at result }
 {
-    rows::wide64(bytes[at])
-        + rows::wide64(bytes[at + 1]) * 0x100
-        + rows::wide64(bytes[at + 2]) * 0x10000
-        + rows::wide64(bytes[at + 3]) * 0x1000000
-        + rows::wide64(bytes[at + 4]) * 0x100000000
-        + rows::wide64(bytes[at + 5]) * 0x10000000000
-        + rows::wide64(bytes[at + 6]) * 0x1000000000000
-        + rows::wide64(bytes[at + 7]) * 0x100000000000000
+    u64::from_le_bytes(array::from_fn(|i| bytes[at + i]))
 }
 
 // The bits in which two names differ, of all their words together: 0 where they agree in all 48 bytes.
-fn differences(x: [u8; NAME_LENGTH], y: [u8; NAME_LENGTH]) -> u64
-    ensures { is_zero result ≡ same_bytes x y }
+fn differences(x: &[u8; NAME_LENGTH], y: &[u8; NAME_LENGTH]) -> u64
+    ensures { is_zero result ≡ same_bytes x.now y.now }
 {
-    let mut d: u64 = 0;
-    let mut at: usize = 0;
-    while at < NAME_LENGTH {
-        let one = word(x, at);
-        let other = word(y, at);
-        d = d | (one ^ other);
-        at += STRIDE;
+    let mut d = 0;
+    for i in 0..WORDS {
+        d |= word(x, i * STRIDE) ^ word(y, i * STRIDE);
     }
     d
 }
@@ -166,9 +140,7 @@ const HALF: u64 = 0x100000000;
 pub fn same(a: Name, b: Name) -> bool
     ensures { result ≡ same_name a b }
 {
-    let x = a.bytes;
-    let y = b.bytes;
-    let d = differences(x, y);
+    let d = differences(&a.bytes, &b.bytes);
     (d / HALF | d % HALF) == 0
 }
 
@@ -176,12 +148,9 @@ pub fn same(a: Name, b: Name) -> bool
 pub fn digest(name: Name) -> u64
     ensures { result ≡ digest_of name }
 {
-    let bytes = name.bytes;
-    let mut d: u64 = 0;
-    let mut from: usize = 0;
-    while from < NAME_LENGTH {
-        d = stirred(d, word(bytes, from));
-        from += STRIDE;
+    let mut d = 0;
+    for i in 0..WORDS {
+        d = stirred(d, word(&name.bytes, i * STRIDE));
     }
     d
 }
@@ -191,30 +160,16 @@ fn stirred(d: u64, word: u64) -> u64
     ensures { result ≡ stirred d word }
 {
     let round = d % 0x200000000000 * 0x80000 + d / 0x200000000000;
-    let nine = std::num::wrapping_add_u64(round, round % 0x2000000000000000 * 8);
-    std::num::wrapping_add_u64(nine, word)
+    let nine = round.wrapping_add(round % 0x2000000000000000 * 8);
+    nine.wrapping_add(word)
 }
 
 // The name that a slice of 48 bytes says.
-pub fn read_name(bytes: &[u8]) -> NameRead
+pub fn read_name(bytes: &[u8]) -> Option<Name>
     ensures { result ≡ read_name bytes.now }
 {
-    let mut read = [0u8; NAME_LENGTH];
-    if bytes.len() != NAME_LENGTH {
-        return NameRead {
-            fits: false,
-            name: Name { bytes: read },
-        };
-    }
-    let mut i: usize = 0;
-    while i < bytes.len() {
-        read[i] = bytes[i];
-        i += 1;
-    }
-    NameRead {
-        fits: true,
-        name: Name { bytes: read },
-    }
+    let bytes = <[u8; NAME_LENGTH]>::try_from(bytes).ok()?;
+    Some(Name { bytes })
 }
 
 // The name, in a part of 48 bytes. A part of another length stays.
@@ -222,11 +177,6 @@ pub fn put_name(part: &mut [u8], name: Name)
     ensures { part.new ≡ name_in part.old name }
 {
     if part.len() == NAME_LENGTH {
-        let bytes = name.bytes;
-        let mut i: usize = 0;
-        while i < part.len() {
-            part[i] = bytes[i];
-            i += 1;
-        }
+        part.copy_from_slice(&name.bytes);
     }
 }

@@ -87,7 +87,7 @@ number-zeros (x ∷ xs) e =
     rw (number-zeros xs (and_right (is_zero x) (every is_zero xs) e)) (omega (arith, eqb-true x 0 (and_left (is_zero x) (every is_zero xs) e)))
 
 -- ---- the number from a place on: k + m bytes say what the first k say, and what the others do, higher up
-number-split : (k m : ℕ) (l : List ℕ) → number_of (take (k + m) l) ≡ number_of (take m (drop k l)) * 256 ^ k + number_of (take k l)
+pub number-split : (k m : ℕ) (l : List ℕ) → number_of (take (k + m) l) ≡ number_of (take m (drop k l)) * 256 ^ k + number_of (take k l)
 unfolding number_of
 number-split zero m l = let e : 0 + m ≡ m = omega arith in rw e (omega arith)
 number-split (suc k) zero [] = let e : suc k + 0 ≡ suc (k + 0) = omega arith in rw (e, zero-mul)

@@ -148,51 +148,6 @@ module _ {A : Type 0} where
       let l : length (map g (rows n k (drop off s))) ≤ i = rw (length-map, rows-length) h in
       sym (every-all v.passed l)
 
-  -- the record at an index passes with each later one up to i
-  pub record LaterTo (f : A → A → Bool) (g : List ℕ → A) (n k off : ℕ) (s : List ℕ) (d : A) (first i : ℕ) : Type 0 where
-    pub passed : RecordsTo (f (get_or (map g (rows n k (drop off s))) first d)) g n k off s (first + 1) i
-
-  pub later-begin : (f : A → A → Bool) (g : List ℕ → A) (n k off : ℕ) (s : List ℕ) (d : A) (first : ℕ) → first < n → LaterTo f g n k off s d first (first + 1)
-  later-begin f g n k off s d first h =
-      record { passed = records-begin (f (get_or (map g (rows n k (drop off s))) first d)) g n k off s (first + 1) (omega arith) }
-
-  module _ {f : A → A → Bool} {g : List ℕ → A} {n k off : ℕ} {s : List ℕ} {d : A} {first i : ℕ} (v : LaterTo f g n k off s d first i) where
-    module _ {b : Bool} (l : first < n) (h : i < n)
-        (e : b ≡ f (g (take (off + first * k + k - (off + first * k)) (drop (off + first * k) s))) (g (take (off + i * k + k - (off + i * k)) (drop (off + i * k) s)))) where
-      with_first : b ≡ f (get_or (map g (rows n k (drop off s))) first d) (g (take (off + i * k + k - (off + i * k)) (drop (off + i * k) s)))
-      with_first = e ∙ ap (λ (x : A). f x (g (take (off + i * k + k - (off + i * k)) (drop (off + i * k) s)))) (sym (map-part g n k off s first d l))
-
-      pub later-on : not b ≡ false → LaterTo f g n k off s d first (i + 1)
-      later-on q = record { passed = records-on v.passed h with_first q }
-
-      pub later-fail : not b ≡ true → false ≡ every (f (get_or (map g (rows n k (drop off s))) first d)) (drop (first + 1) (map g (rows n k (drop off s))))
-      later-fail q = records-fail v.passed h with_first q
-
-    pub later-all : n ≤ i → true ≡ every (f (get_or (map g (rows n k (drop off s))) first d)) (drop (first + 1) (map g (rows n k (drop off s))))
-    later-all h = records-all v.passed h
-
-  -- all pairs of the records of the rows
-  pub record PairedTo (f : A → A → Bool) (g : List ℕ → A) (n k off : ℕ) (s : List ℕ) (i : ℕ) : Type 0 where
-    pub passed : PairsTo f (map g (rows n k (drop off s))) i
-
-  pub paired-begin : (f : A → A → Bool) (g : List ℕ → A) (n k off : ℕ) (s : List ℕ) → PairedTo f g n k off s 0
-  paired-begin f g n k off s = record { passed = pairs-begin f (map g (rows n k (drop off s))) }
-
-  module _ {f : A → A → Bool} {g : List ℕ → A} {n k off : ℕ} {s : List ℕ} {i : ℕ} {b : Bool} (d : A) (v : PairedTo f g n k off s i) (h : i < n) (e : b ≡ every (f (get_or (map g (rows n k (drop off s))) i d)) (drop (i + 1) (map g (rows n k (drop off s))))) where
-    inside-pair : i < length (map g (rows n k (drop off s)))
-    inside-pair = rw (length-map, rows-length) h
-
-    pub paired-on : not b ≡ false → PairedTo f g n k off s (i + 1)
-    paired-on q = record { passed = pairs-on d v.passed inside-pair (sym e ∙ not-false b q) }
-
-    pub paired-fail : not b ≡ true → false ≡ pairwise f (map g (rows n k (drop off s)))
-    paired-fail q = sym (pairs-fail d v.passed inside-pair (sym e ∙ not-true b q))
-
-  pub paired-all : {f : A → A → Bool} {g : List ℕ → A} {n k off : ℕ} {s : List ℕ} {i : ℕ} → PairedTo f g n k off s i → n ≤ i → true ≡ pairwise f (map g (rows n k (drop off s)))
-  paired-all {f} {g} {n} {k} {off} {s} {i} v h =
-      let l : length (map g (rows n k (drop off s))) ≤ i = rw (length-map, rows-length) h in
-      sym (pairs-all v.passed l)
-
   -- ---- an array filled with the records of the rows
   pub record FilledBy (g : List ℕ → A) (n k off : ℕ) (s : List ℕ) (out₀ out : List A) (i : ℕ) : Type 0 where
     pub filled : Copied (map g (rows n k (drop off s))) out₀ out i

@@ -1,13 +1,7 @@
 -- No second answer meets the contract of any public function of this crate, and no second content of the buffer that was lent.
 -- Assumes nothing.
 use mathlib.Core.Path.{sym, ◌∙◌}
-use Rattle.lists.proofs.Once.{OneAnswer, OneContent}
-use Rattle.rows.proofs.wide16.Kinds as wide16-kinds
-use Rattle.rows.proofs.wide16.Reads as wide16
-use Rattle.rows.proofs.wide64.Kinds as wide64-kinds
-use Rattle.rows.proofs.wide64.Reads as wide64
-use Rattle.rows.proofs.wide.Kinds as wide-kinds
-use Rattle.rows.proofs.wide.Reads as wide
+use Rattle.lists.proofs.Once.{OneView, OneAnswer, OneContent}
 use Rattle.rows.proofs.byte_of.Kinds as byte-of-kinds
 use Rattle.rows.proofs.byte_of.Reads as byte_of
 use Rattle.rows.proofs.byte_at.Kinds as byte-at-kinds
@@ -26,15 +20,8 @@ use Rattle.rows.proofs.put_number.Kinds as put-number-kinds
 use Rattle.rows.proofs.put_number.Reads as put-number
 use Rattle.rows.proofs.put_bytes.Kinds as put-bytes-kinds
 use Rattle.rows.proofs.put_bytes.Reads as put-bytes
-
-pub wide16-once : OneAnswer 0 wide16-kinds.ps wide16-kinds.r wide16.Post
-wide16-once κs a x y s t p q = p.is ∙ sym q.is
-
-pub wide64-once : OneAnswer 0 wide64-kinds.ps wide64-kinds.r wide64.Post
-wide64-once κs a x y s t p q = p.is ∙ sym q.is
-
-pub wide-once : OneAnswer 0 wide-kinds.ps wide-kinds.r wide.Post
-wide-once κs a x y s t p q = p.is ∙ sym q.is
+use Rattle.rows.proofs.bytes_from.Kinds as bytes-from-kinds
+use Rattle.rows.proofs.bytes_from.Reads as bytes-from
 
 pub byte-of-once : OneAnswer 0 byte-of-kinds.ps byte-of-kinds.r byte_of.Post
 byte-of-once κs a x y s t p q = p ∙ sym q
@@ -62,3 +49,6 @@ put-number-once κs a x y s t p q = p ∙ sym q
 
 pub put-bytes-once : OneContent 2 put-bytes-kinds.ps put-bytes-kinds.r put-bytes.Post (λ κs s. s.0.now)
 put-bytes-once κs a x y s t p q = p ∙ sym q
+
+pub bytes-from-once : OneView 1 bytes-from-kinds.ps bytes-from-kinds.r bytes-from.Post (λ κs x. x.now)
+bytes-from-once κs a x y s t p q = p ∙ sym q

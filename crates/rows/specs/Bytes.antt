@@ -1,5 +1,5 @@
 -- Bytes and numbers. A number of several bytes is little endian, at every width. The laws are in `proofs/Bytes.antt`.
-use Rattle.std.specs.Prelude.{ℕ, zero, suc, ◌+◌, ◌*◌, ◌/◌, ◌%◌, ◌<◌, ◌≡◌, Bool, cond, List, [], ◌∷◌, eqb, ltb, leb, get_or, take, drop}
+use Rattle.std.specs.Prelude.{ℕ, zero, suc, ◌+◌, ◌*◌, ◌/◌, ◌%◌, ◌<◌, Bool, cond, List, [], ◌∷◌, eqb, ltb, leb, get_or, take, drop}
 
 -- each element is a byte
 abbrev pub Bytes : List ℕ → Type 0
@@ -34,8 +34,3 @@ width_of width = cond (leb width 8) width 8
 -- a number in one byte. One that a byte does not hold is 255, which is out of the range of every field and argument: so it stands for no other
 unfoldable pub byte_of : ℕ → ℕ
 byte_of n = cond (ltb n 256) n 255
-
--- a byte in a wider type
-pub record Widened (x r : ℕ) : Type 0 where
-  pub is : r ≡ x
-  pub small : r < 256

@@ -1,29 +1,29 @@
 -- The laws that close the needs of this crate's functions by `search rules`: each premise is as a place's record has it.
 -- Assumes nothing.
-use Prim.Native.Nat.{ℕ, zero, suc, ◌+◌, ◌-◌, ◌*◌, ◌<◌, ◌≤◌, ◌%◌}
+use Prim.Native.Nat.{ℕ, zero, suc, min, ◌+◌, ◌-◌, ◌*◌, ◌<◌, ◌≤◌, ◌%◌}
 use mathlib.Core.Path.{◌≡◌, refl, sym, ap, ◌∙◌}
-use mathlib.Core.Bool.{Bool, true, false, cond, ◌&&◌, ◌||◌, not}
+use mathlib.Core.Bool.{Bool, true, false, ◌&&◌, ◌||◌, not}
 use mathlib.Core.List.{List, [], ◌∷◌, map}
 use native.Mathlib.Omega.{arith}
 use native.Mathlib.Nat.{add-zero}
 use native.Mathlib.Numerals.{add-one}
 use borrow.Author.Rules.{rules as std_rules}
-use borrow.Author.Tests.{eqb-true, eqb-false, eq-eqb, ne_eqb, le-leb, lt-leb, leb-true, not-true, not-false}
-use lib.Dec.{eqb, leb}
-use lib.ListN.{length, take, drop, get_or, get_or-eq_default, length-map, drop_of_length-le, replicate, length-replicate, set, length-set}
-use lib.Seq.{get_or-drop, get_or-take, get_or-set_same, get_or-set_other, drop-cons, drop-drop}
-use Rattle.rows.specs.Bytes.{is_zero, number_at, Widened}
+use borrow.Author.Tests.{eqb-true, eqb-false, eq-eqb, ne_eqb, le-leb, le-ltb, lt-leb, leb-true, not-true, not-false}
+use lib.Dec.{eqb, leb, ltb}
+use lib.ListN.{length, drop, get_or, get_or-eq_default, length-map, drop_of_length-le, replicate, length-replicate, set, length-set}
+use lib.Seq.{get_or-drop, get_or-take, get_or-set_same, get_or-set_other, drop-cons}
+use Rattle.rows.specs.Bytes.{is_zero, number_at}
 use Rattle.lists.proofs.Lists.{length-mapped}
 use Rattle.lists.proofs.Tests.{split, below, clash, and_left, and_right, and_both, or-false}
 use Rattle.rows.specs.Rows.{rows, every, pairwise}
-use Rattle.rows.proofs.Rows.{rows-length, rows_take, map-take, row-at}
+use Rattle.rows.proofs.Rows.{rows-length, rows_take, map-take}
 use Rattle.rows.proofs.Loops.{map-part, and-false, and_assoc}
 use Rattle.names.specs.Names.{user_type, elevation_type, saved_type, last_type, kind_numbered}
 use Rattle.names.proofs.Laws.{kind-saved}
 use Rattle.table.specs.Table.{standing, is_user, is_elevation, is_active, is_active_in, places}
 use Rattle.module_state.specs.Module.{closed_session, unprovisioned, provisioned, phase_of, is_chosen, session_count, credential_count, last_session, last_credential}
 use Rattle.module_state.specs.declared.Grants.{Grants}
-use Rattle.state_layout.specs.Layout.{credential_size, owner_at, kind_at, session_at, next_at, next_size, place_size, chosen_byte, set_flag, sessions_at, session_size, credentials_at, count_at, places_at, state_length, phase_from, session_from, grants_from, kind_fits, process_from, process_fits, count_in, places_in, state_of, is_owned, are_rivals, rest_is_free, owners_fit, shaped}
+use Rattle.state_layout.specs.Layout.{credential_size, owner_at, kind_at, session_at, next_at, next_size, place_size, chosen_byte, set_flag, sessions_at, session_size, credentials_at, places_at, state_length, phase_from, session_from, grants_from, kind_fits, process_from, process_fits, count_in, places_in, state_of, is_owned, are_rivals, rest_is_free, owners_fit, shaped}
 use Rattle.state_fields.specs.Keys.{user_keys, no_key, key_count, key_numbered, key_of, Key}
 use Rattle.state_fields.specs.Stands.{stands, no_rivals, stand_together, all_fit}
 use Rattle.state_layout.proofs.Laws.{state-in}
@@ -70,29 +70,29 @@ chosen_of (suc zero) = refl
 chosen_of (suc (suc zero)) = refl
 chosen_of (suc (suc (suc n))) = sym (ne_eqb (suc (suc (suc n))) chosen_byte (λ e. omega arith))
 
-module _ (s x : List ℕ) (long : length s ≡ state_length) {c : ℕ} (w : Widened (get_or x owner_at 0) c) where
+module _ (s x : List ℕ) (long : length s ≡ state_length) {c : ℕ} (w : c ≡ get_or x owner_at 0) where
   grants-long : length (map grants_from (rows credential_count credential_size (drop credentials_at s))) ≡ credential_count
   grants-long = length-map (rows credential_count credential_size (drop credentials_at s)) grants_from ∙ rows-length credential_count credential_size (drop credentials_at s)
 
-  pub owner-none : credential_count ≤ c → false ≡ is_owned (state_of s) (process_from x)
+  pub owner-none : {v : Bool} → v ≡ false → credential_count ≤ c → v ≡ is_owned (state_of s) (process_from x)
   unfolding is_owned process_from provisioned
-  owner-none h =
+  owner-none f h =
       let e : get_or (map grants_from (rows credential_count credential_size (drop credentials_at s))) (get_or x owner_at 0) unprovisioned ≡ unprovisioned =
-      get_or-eq_default (map grants_from (rows credential_count credential_size (drop credentials_at s))) unprovisioned (omega (arith, grants-long, w.is))
+      get_or-eq_default (map grants_from (rows credential_count credential_size (drop credentials_at s))) unprovisioned (omega (arith, grants-long, w))
       in
       let none : (get_or (map grants_from (rows credential_count credential_size (drop credentials_at s))) (get_or x owner_at 0) unprovisioned).provisioned ≡ false = ap (λ (g : Grants). g.provisioned) e in
-      rw (state-in s long, none)
+      rw (f, state-in s long, none)
 
   flag : c < credential_count → (get_or (map grants_from (rows credential_count credential_size (drop credentials_at s))) (get_or x owner_at 0) unprovisioned).provisioned ≡ eqb (get_or s (credentials_at + c * credential_size) 0) set_flag
   unfolding grants_from
   flag h =
       let p : 0 < credentials_at + c * credential_size + credential_size - (credentials_at + c * credential_size) = omega arith in
-      rw (← w.is, map-part grants_from credential_count credential_size credentials_at s c unprovisioned h, get_or-take (credentials_at + c * credential_size + credential_size - (credentials_at + c * credential_size)) (drop (credentials_at + c * credential_size) s) 0 0 p, get_or-drop (credentials_at + c * credential_size) s 0 0, add-zero)
+      rw (← w, map-part grants_from credential_count credential_size credentials_at s c unprovisioned h, get_or-take (credentials_at + c * credential_size + credential_size - (credentials_at + c * credential_size)) (drop (credentials_at + c * credential_size) s) 0 0 p, get_or-drop (credentials_at + c * credential_size) s 0 0, add-zero)
 
   module _ (h : c < credential_count) where
-    pub owner-not : (get_or s (credentials_at + c * credential_size) 0 ≡ set_flag → ⊥) → false ≡ is_owned (state_of s) (process_from x)
+    pub owner-not : {v : Bool} → v ≡ false → v ≡ eqb (get_or s (credentials_at + c * credential_size) 0) set_flag → v ≡ is_owned (state_of s) (process_from x)
     unfolding is_owned process_from provisioned
-    owner-not n = rw (state-in s long, flag h, ne_eqb (get_or s (credentials_at + c * credential_size) 0) set_flag n)
+    owner-not f e = rw (f, state-in s long, flag h, ← e, f)
 
     module _ (f : get_or s (credentials_at + c * credential_size) 0 ≡ set_flag) where
       pub owner-saved : saved_type ≤ get_or x kind_at 0 → true ≡ is_owned (state_of s) (process_from x)
@@ -104,20 +104,20 @@ module _ (s x : List ℕ) (long : length s ≡ state_length) {c : ℕ} (w : Wide
       active (suc zero) l = refl
       active (suc (suc k)) l = absurd (omega arith)
 
-      module _ (k : get_or x kind_at 0 < saved_type) {t : ℕ} (u : Widened (get_or x session_at 0) t) where
+      module _ (k : get_or x kind_at 0 < saved_type) {t : ℕ} (u : t ≡ get_or x session_at 0) where
         active-there : is_owned (state_of s) (process_from x) ≡ is_chosen (get_or (map session_from (rows session_count session_size s)) (get_or x session_at 0) closed_session).phase
         unfolding is_owned process_from provisioned is_active_in phase_of
         active-there =
             rw (state-in s long, flag h, eq-eqb (get_or s (credentials_at + c * credential_size) 0) set_flag f, active (get_or x kind_at 0) k, eq-eqb (get_or x session_at 0) (get_or x session_at 0) refl)
 
-        pub owner-nowhere : session_count ≤ t → false ≡ is_owned (state_of s) (process_from x)
+        pub owner-nowhere : session_count ≤ t → ltb t session_count ≡ is_owned (state_of s) (process_from x)
         unfolding is_chosen
         owner-nowhere z =
             let l : length (map session_from (rows session_count session_size s)) ≡ session_count = length-map (rows session_count session_size s) session_from ∙ rows-length session_count session_size s in
             let e : get_or (map session_from (rows session_count session_size s)) (get_or x session_at 0) closed_session ≡ closed_session =
-            get_or-eq_default (map session_from (rows session_count session_size s)) closed_session (omega (arith, l, u.is))
+            get_or-eq_default (map session_from (rows session_count session_size s)) closed_session (omega (arith, l, u))
             in
-            sym (active-there ∙ rw e)
+            le-ltb t session_count z ∙ sym (active-there ∙ rw e)
 
         pub owner-there : t < session_count → eqb (get_or s t 0) chosen_byte ≡ is_owned (state_of s) (process_from x)
         unfolding session_from
@@ -125,19 +125,19 @@ module _ (s x : List ℕ) (long : length s ≡ state_length) {c : ℕ} (w : Wide
             let p : 0 < sessions_at + t * session_size + session_size - (sessions_at + t * session_size) = omega arith in
             let q : sessions_at + t * session_size ≡ t = omega arith in
             let e : (get_or (map session_from (rows session_count session_size s)) (get_or x session_at 0) closed_session).phase ≡ phase_from (get_or s t 0) =
-            rw (← u.is, map-part session_from session_count session_size sessions_at s t closed_session z, get_or-take (sessions_at + t * session_size + session_size - (sessions_at + t * session_size)) (drop (sessions_at + t * session_size) s) 0 0 p, get_or-drop (sessions_at + t * session_size) s 0 0, q, add-zero)
+            rw (← u, map-part session_from session_count session_size sessions_at s t closed_session z, get_or-take (sessions_at + t * session_size + session_size - (sessions_at + t * session_size)) (drop (sessions_at + t * session_size) s) 0 0 p, get_or-drop (sessions_at + t * session_size) s 0 0, q, add-zero)
             in
             sym (active-there ∙ rw e (chosen_of (get_or s t 0)))
 
 -- ---- each place by itself
 module _ (s x : List ℕ) {p : Bool} (e : p ≡ process_fits x) where
-  pub stands-out : not p ≡ true → false ≡ stands s x
+  pub stands-out : p ≡ false → p ≡ stands s x
   unfolding stands
-  stands-out t = rw (← e, not-true p t)
+  stands-out t = rw (← e, t)
 
-  pub stands-owned : not p ≡ false → {q : Bool} → q ≡ is_owned (state_of s) (process_from x) → q ≡ stands s x
+  pub stands-owned : p ≡ true → {q : Bool} → q ≡ is_owned (state_of s) (process_from x) → q ≡ stands s x
   unfolding stands
-  stands-owned t f = f ∙ rw (← e, not-false p t)
+  stands-owned t f = f ∙ rw (← e, t)
 
 -- ---- two places. The test of rivals, by the types' numbers and whether the sessions and the credentials agree
 abbrev rivalry : ℕ → ℕ → Bool → Bool → Bool
@@ -149,14 +149,14 @@ unfolding are_rivals process_from is_active
 rivals-are a b = refl
 
 -- ---- keys: by the type
-module _ (row : List ℕ) {s : ℕ} (t : Widened (get_or row session_at 0) s) where
-  pub key-user : {c : ℕ} → Widened (get_or row owner_at 0) c → get_or row kind_at 0 ≡ user_type → Key (key_of row) (s % session_count * credential_count + c % credential_count)
+module _ (row : List ℕ) {s : ℕ} (t : s ≡ get_or row session_at 0) where
+  pub key-user : {c : ℕ} → c ≡ get_or row owner_at 0 → get_or row kind_at 0 ≡ user_type → Key (key_of row) (s % session_count * credential_count + c % credential_count)
   unfolding key_of
-  key-user {c} w e = record { is = rw (e, t.is, w.is); small = omega arith }
+  key-user {c} w e = record { is = rw (e, t, w); small = omega arith }
 
   pub key-elevation : get_or row kind_at 0 ≡ elevation_type → Key (key_of row) (user_keys + s % session_count)
   unfolding key_of
-  key-elevation e = record { is = rw (e, t.is); small = omega arith }
+  key-elevation e = record { is = rw (e, t); small = omega arith }
 
 pub key-saved : (row : List ℕ) → (get_or row kind_at 0 ≡ user_type → ⊥) → (get_or row kind_at 0 ≡ elevation_type → ⊥) → Key (key_of row) no_key
 unfolding key_of
@@ -247,47 +247,30 @@ met-key s row (x ∷ l) p q h u =
     (λ e. rw (met-key s row l p (and_right (stands s x) (every (stands s) l) q) h (rw e at u)) (and-false (no_rivals (process_from row) (process_from x))))
 
 -- ---- the places from i on: they stand together, and the marks tell their keys
-abbrev mark : Bool → ℕ
-mark free = cond free 0 1
-
-mark-none : (free : Bool) → mark free ≡ 0 → free ≡ true
-mark-none true e = refl
-mark-none false e = absurd (omega arith)
-
-mark-some : (free : Bool) → (mark free ≡ 0 → ⊥) → free ≡ false
-mark-some true n = absurd (n refl)
-mark-some false n = refl
-
-pub record StandTo (s : List ℕ) (n : ℕ) (taken : List ℕ) (i : ℕ) : Type 0 where
-  pub low : i ≤ n
-  pub few : n ≤ places
+pub record StandTo (s : List ℕ) (l : List (List ℕ)) (taken : List Bool) (i : ℕ) : Type 0 where
+  pub low : i ≤ length l
   pub long : length taken ≡ key_count
-  pub clear : get_or taken no_key 0 ≡ 0
-  pub marks : (k : ℕ) → k < no_key → get_or taken k 0 ≡ mark (unkeyed k (drop i (rows n place_size (drop places_at s))))
-  pub passed : stand_together s (drop i (rows n place_size (drop places_at s))) ≡ true
+  pub clear : get_or taken no_key false ≡ false
+  pub marks : (k : ℕ) → k < no_key → get_or taken k false ≡ not (unkeyed k (drop i l))
+  pub passed : stand_together s (drop i l) ≡ true
 
-same_at : (z n k : ℕ) → get_or (replicate n z) k z ≡ z
+same_at : (z : Bool) (n k : ℕ) → get_or (replicate n z) k z ≡ z
 same_at z zero k = refl
 same_at z (suc n) zero = refl
 same_at z (suc n) (suc k) = same_at z n k
 
-pub stand-begin : (s : List ℕ) (n : ℕ) → n ≤ places → StandTo s n (replicate key_count 0) n
+pub stand-begin : (s : List ℕ) (l : List (List ℕ)) → StandTo s l (replicate key_count false) (length l)
 unfolding stand_together every pairwise
-stand-begin s n h =
-    let l : length (rows n place_size (drop places_at s)) ≤ n = omega (arith, rows-length n place_size (drop places_at s)) in
-    let z : ℕ = 0 in
+stand-begin s l =
+    let z : Bool = false in
+    let none : drop (length l) l ≡ [] = drop_of_length-le l (omega arith) in
     record {
       low = omega arith;
-      few = h;
       long = length-replicate key_count z;
       clear = same_at z key_count no_key;
-      marks = λ k m. rw (drop_of_length-le (rows n place_size (drop places_at s)) l) (same_at z key_count k);
-      passed = rw (drop_of_length-le (rows n place_size (drop places_at s)) l);
+      marks = λ k m. rw none (same_at z key_count k);
+      passed = rw none;
     }
-
--- the row of the place before those
-abbrev row_at : List ℕ → ℕ → List ℕ
-row_at s i = take (places_at + i * place_size + place_size - (places_at + i * place_size)) (drop (places_at + i * place_size) s)
 
 -- a test of all that fails from an index on fails
 every-from : {A : Type 0} (f : A → Bool) (i : ℕ) (l : List A) → every f (drop i l) ≡ false → every f l ≡ false
@@ -302,75 +285,68 @@ pairs-from f g zero l e = e
 pairs-from f g (suc i) [] e = e
 pairs-from f g (suc i) (x ∷ l) e = rw (pairs-from f g i l e) (and-false (every (f (g x)) (map g l)))
 
-module _ {s : List ℕ} {n : ℕ} {taken : List ℕ} {left : ℕ} (v : StandTo s n taken left) (h : 0 < left) where
-  abbrev all : List (List ℕ)
-  all = rows n place_size (drop places_at s)
-
+module _ {s : List ℕ} {l : List (List ℕ)} {taken : List Bool} {left : ℕ} (v : StandTo s l taken left) (h : 0 < left) where
   abbrev row : List ℕ
-  row = row_at s (left - 1)
+  row = get_or l (left - 1) []
 
-  row_before : drop (left - 1) all ≡ row ∷ drop left all
+  row_before : drop (left - 1) l ≡ row ∷ drop left l
   row_before =
       let back : left - 1 + 1 ≡ left = omega arith in
-      let before : left - 1 < n = omega (arith, v.low) in
-      let k : left - 1 < length all = omega (arith, rows-length n place_size (drop places_at s), before) in
-      let w : places_at + (left - 1) * place_size + place_size - (places_at + (left - 1) * place_size) ≡ place_size = omega arith in
-      drop-cons all (left - 1) [] k ∙ rw (← add-one (left - 1), back, w, row-at n place_size (drop places_at s) (left - 1) [] before, drop-drop ((left - 1) * place_size) places_at s)
+      drop-cons l (left - 1) [] (omega (arith, v.low)) ∙ rw (← add-one (left - 1), back)
 
-  later-stand : every (stands s) (drop left all) ≡ true
+  later-stand : every (stands s) (drop left l) ≡ true
   unfolding stand_together
-  later-stand = and_left (every (stands s) (drop left all)) (pairwise no_rivals (map process_from (drop left all))) v.passed
+  later-stand = and_left (every (stands s) (drop left l)) (pairwise no_rivals (map process_from (drop left l))) v.passed
 
-  later-apart : pairwise no_rivals (map process_from (drop left all)) ≡ true
+  later-apart : pairwise no_rivals (map process_from (drop left l)) ≡ true
   unfolding stand_together
-  later-apart = and_right (every (stands s) (drop left all)) (pairwise no_rivals (map process_from (drop left all))) v.passed
+  later-apart = and_right (every (stands s) (drop left l)) (pairwise no_rivals (map process_from (drop left l))) v.passed
 
   module _ {b : Bool} (e : b ≡ stands s row) where
-    pub stand-out : not b ≡ true → false ≡ stand_together s all
+    pub stand-out : b ≡ false → false ≡ stand_together s l
     unfolding stand_together every
     stand-out q =
-        let here : every (stands s) (drop (left - 1) all) ≡ false = rw (row_before, ← e, not-true b q) in
-        sym (rw (every-from (stands s) (left - 1) all here))
+        let here : every (stands s) (drop (left - 1) l) ≡ false = rw (row_before, ← e, q) in
+        sym (rw (every-from (stands s) (left - 1) l here))
 
-    module _ (q : not b ≡ false) {x : ℕ} (p : Key (key_of row) x) where
+    module _ (q : b ≡ true) {x : ℕ} (p : Key (key_of row) x) where
       stood : stands s row ≡ true
-      stood = sym e ∙ not-false b q
+      stood = sym e ∙ q
 
-      pub stand-rival : (get_or taken x 0 ≡ 0 → ⊥) → false ≡ stand_together s all
+      pub stand-rival : get_or taken x false ≡ true → false ≡ stand_together s l
       unfolding stand_together pairwise
       stand-rival m =
           below x no_key
           (λ k.
-          let met : unkeyed (key_of row) (drop left all) ≡ false = rw (← p.is) (mark-some (unkeyed x (drop left all)) (λ z. m (v.marks x k ∙ z))) in
-          let rivals : every (no_rivals (process_from row)) (map process_from (drop left all)) ≡ false = met-key s row (drop left all) stood later-stand (rw (← p.is) k) met in
-          let here : pairwise no_rivals (map process_from (drop (left - 1) all)) ≡ false = rw (row_before, rivals) in
-          sym (rw (pairs-from no_rivals process_from (left - 1) all here) (and-false (every (stands s) all))))
-          (λ k. let z : x ≡ no_key = omega (arith, p.small) in absurd (m (rw z v.clear)))
+          let met : unkeyed (key_of row) (drop left l) ≡ false = rw (← p.is) (not-true (unkeyed x (drop left l)) (sym (v.marks x k) ∙ m)) in
+          let rivals : every (no_rivals (process_from row)) (map process_from (drop left l)) ≡ false = met-key s row (drop left l) stood later-stand (rw (← p.is) k) met in
+          let here : pairwise no_rivals (map process_from (drop (left - 1) l)) ≡ false = rw (row_before, rivals) in
+          sym (rw (pairs-from no_rivals process_from (left - 1) l here) (and-false (every (stands s) l))))
+          (λ k. let z : x ≡ no_key = omega (arith, p.small) in clash m (rw z v.clear))
 
-      pub stand-on : get_or taken x 0 ≡ 0 → StandTo s n (set (set taken x 1) no_key 0) (left - 1)
+      pub stand-on : get_or taken x false ≡ false → StandTo s l (set (set taken x true) no_key false) (left - 1)
       unfolding stand_together every pairwise
       stand-on m =
           let in_taken : x < length taken = omega (arith, v.long, p.small) in
-          let room : no_key < length (set taken x 1) = omega (arith, length-set taken x 1, v.long) in
+          let room : no_key < length (set taken x true) = omega (arith, length-set taken x true, v.long) in
           record {
             low = omega (arith, v.low);
-            few = v.few;
-            long = length-set (set taken x 1) no_key 0 ∙ length-set taken x 1 ∙ v.long;
-            clear = get_or-set_same (set taken x 1) no_key 0 0 room;
+            long = length-set (set taken x true) no_key false ∙ length-set taken x true ∙ v.long;
+            clear = get_or-set_same (set taken x true) no_key false false room;
             marks = λ k l.
                 let other : k ≡ no_key → ⊥ = (λ z. omega arith) in
-                get_or-set_other (set taken x 1) no_key k 0 0 other
+                get_or-set_other (set taken x true) no_key k false false other
                 ∙ split (eqb x k)
-                (λ t. let z : x ≡ k = eqb-true x k t in rw (row_before, ← p.is, t, ← z) (get_or-set_same taken x 1 0 in_taken))
-                (λ t. get_or-set_other taken x k 1 0 (λ z. eqb-false x k t (sym z)) ∙ v.marks k l ∙ rw (row_before, ← p.is, t));
+                (λ t. let z : x ≡ k = eqb-true x k t in rw (row_before, ← p.is, t, ← z) (get_or-set_same taken x true false in_taken))
+                (λ t. get_or-set_other taken x k true false (λ z. eqb-false x k t (sym z)) ∙ v.marks k l ∙ rw (row_before, ← p.is, t));
             passed =
-                let free : key_of row < no_key → unkeyed (key_of row) (drop left all) ≡ true =
-                (λ k. rw (← p.is) (mark-none (unkeyed x (drop left all)) (sym (v.marks x (rw p.is k)) ∙ m)))
+                let free : key_of row < no_key → unkeyed (key_of row) (drop left l) ≡ true =
+                (λ k. rw (← p.is) (not-false (unkeyed x (drop left l)) (sym (v.marks x (rw p.is k)) ∙ m)))
                 in
-                rw row_before (and_both (and_both stood later-stand) (and_both (free-key row (drop left all) free) later-apart));
+                rw row_before (and_both (and_both stood later-stand) (and_both (free-key row (drop left l) free) later-apart));
           }
 
-pub stand-all : {s : List ℕ} {n : ℕ} {taken : List ℕ} {left : ℕ} → StandTo s n taken left → left ≤ 0 → true ≡ stand_together s (rows n place_size (drop places_at s))
+pub stand-all : {s : List ℕ} {l : List (List ℕ)} {taken : List Bool} {left : ℕ} → StandTo s l taken left → left ≤ 0 → true ≡ stand_together s l
 stand-all {left = left} v h = let z : left ≡ 0 = omega arith in sym (rw z at v.passed)
 
 -- ---- each place by itself, in two tests
@@ -387,7 +363,7 @@ stand-both s (x ∷ l) =
     ∙ interchange (process_fits x) (is_owned (state_of s) (process_from x)) (every process_fits l) (every (is_owned (state_of s)) (map process_from l))
 
 -- ---- all together, the cheapest tests first: the first that fails, and the last
-module _ (b : List ℕ) {z : Bool} (i : z ≡ rest_is_free b) where
+module _ (b : List ℕ) where
   abbrev fit : Bool
   fit = every process_fits (rows (count_in b) place_size (drop places_at b))
 
@@ -398,45 +374,34 @@ module _ (b : List ℕ) {z : Bool} (i : z ≡ rest_is_free b) where
   unfolding all_fit shaped
   tests = and_assoc (rest_is_free b) (owners_fit b && fit) owned ∙ ap (λ (x : Bool). rest_is_free b && x) (and_assoc (owners_fit b) fit owned)
 
-  pub fit_free : not z ≡ true → false ≡ all_fit b
-  fit_free y = sym (tests ∙ rw (← i, not-true z y))
+  pub fit-short : (length b ≡ state_length → ⊥) → false ≡ all_fit b
+  unfolding rest_is_free
+  fit-short n = sym (tests ∙ rw (ne_eqb (length b) state_length n))
 
-  module _ (y : not z ≡ false) where
-    free : rest_is_free b ≡ true
-    free = sym i ∙ not-false z y
+  module _ {z : Bool} (i : z ≡ rest_is_free b) where
+    pub fit_free : z ≡ false → z ≡ all_fit b
+    fit_free y = rw y (sym (tests ∙ rw (← i, y)))
 
-    -- the tests behind that of the length
-    abbrev behind : Bool
-    behind = leb (count_in b) places && every is_zero (drop (places_at + count_in b * place_size) b)
+    module _ (y : z ≡ true) {p : Bool} (e : p ≡ owners_fit b) where
+      pub fit-owners : p ≡ false → p ≡ all_fit b
+      fit-owners t = rw t (sym (tests ∙ rw (← i, y, ← e, t)))
 
-    pub fit-long : length b ≡ state_length
-    unfolding rest_is_free
-    fit-long = eqb-true (length b) state_length (and_left (eqb (length b) state_length) behind free)
+      -- the count is in its range, so that no place is left out
+      few : count_in b ≤ places
+      unfolding rest_is_free
+      few =
+          let behind : Bool = every is_zero (drop (places_at + count_in b * place_size) b) in
+          leb-true (count_in b) places (and_left (leb (count_in b) places) behind (and_right (eqb (length b) state_length) (leb (count_in b) places && behind) (sym i ∙ y)))
 
-    pub fit-counted : count_at < length b
-    fit-counted = omega (arith, fit-long)
+      pub fit-places : p ≡ true → length b ≡ state_length → {r : Bool} → r ≡ stand_together b (rows (min (count_in b) places) place_size (drop places_at b)) → r ≡ all_fit b
+      unfolding stand_together count_in standing places_in
+      fit-places t long g =
+          let all : List (List ℕ) = rows (count_in b) place_size (drop places_at b) in
+          let apart : Bool = pairwise no_rivals (map process_from all) in
+          let every_one : min (count_in b) places ≡ count_in b = omega (arith, few) in
+          rw every_one at g
+          ∙ ap (λ (x : Bool). x && apart) (stand-both b all)
+          ∙ and_assoc (every process_fits all) (every (is_owned (state_of b)) (map process_from all)) apart
+          ∙ sym (tests ∙ rw (← i, y, ← e, t, state-in b long, map-take process_from (count_in b) (rows places place_size (drop places_at b)), rows_take (count_in b) places place_size (drop places_at b) few))
 
-    module _ {p : Bool} (e : p ≡ owners_fit b) where
-      pub fit-owners : not p ≡ true → false ≡ all_fit b
-      fit-owners t = sym (tests ∙ rw (← i, not-false z y, ← e, not-true p t))
-
-      module _ {n : ℕ} (w : Widened (get_or b count_at 0) n) where
-        pub fit-few : n ≤ places
-        unfolding rest_is_free count_in
-        fit-few =
-            let room : leb (count_in b) places ≡ true =
-            and_left (leb (count_in b) places) (every is_zero (drop (places_at + count_in b * place_size) b)) (and_right (eqb (length b) state_length) behind free)
-            in
-            rw w.is (leb-true (get_or b count_at 0) places room)
-
-        pub fit-places : not p ≡ false → {r : Bool} → r ≡ stand_together b (rows n place_size (drop places_at b)) → r ≡ all_fit b
-        unfolding stand_together count_in standing places_in
-        fit-places t g =
-            let all : List (List ℕ) = rows n place_size (drop places_at b) in
-            let apart : Bool = pairwise no_rivals (map process_from all) in
-            g
-            ∙ ap (λ (x : Bool). x && apart) (stand-both b all)
-            ∙ and_assoc (every process_fits all) (every (is_owned (state_of b)) (map process_from all)) apart
-            ∙ sym (tests ∙ rw (← i, not-false z y, ← e, not-false p t, state-in b fit-long, ← w.is, map-take process_from n (rows places place_size (drop places_at b)), rows_take n places place_size (drop places_at b) fit-few))
-
-pub ruleset rules = (std_rules, length-mapped, process-credential, process-type, process-session, process-user, process-elevation, process-somewhere, process-saved, owner-none, owner-not, owner-saved, owner-nowhere, owner-there, place-part, stands-out, stands-owned, key-user, key-elevation, key-saved, stand-begin, stand-out, stand-rival, stand-on, stand-all, fit_free, fit-long, fit-counted, fit-owners, fit-few, fit-places)
+pub ruleset rules = (std_rules, length-mapped, process-credential, process-type, process-session, process-user, process-elevation, process-somewhere, process-saved, owner-none, owner-not, owner-saved, owner-nowhere, owner-there, place-part, stands-out, stands-owned, key-user, key-elevation, key-saved, stand-begin, stand-out, stand-rival, stand-on, stand-all, fit-short, fit_free, fit-owners, fit-places)

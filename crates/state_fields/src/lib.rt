@@ -1,18 +1,16 @@
 // Whether the fields of a slice are in their ranges, each place may stand by itself, and no two are rivals, tested where they lie. docs/STATE.md draws the layout.
-#![tactic(auto)]
+#![tactic(auto, using(crate::proofs::Rules::rules))]
 
-ghost use Rattle.std.specs.Prelude.{◌≡◌, ◌≤◌, length, drop};
-ghost use Rattle.rows.specs.Rows.{rows};
-ghost use Rattle.table.specs.Table.{places};
-ghost use Rattle.state_layout.specs.Layout.{place_size, places_at, state_length, process_from, process_fits, state_of, is_owned};
+ghost use Rattle.std.specs.Prelude.{◌≡◌};
+ghost use Rattle.state_layout.specs.Layout.{process_from, process_fits, state_of, is_owned};
 ghost use Rattle.state_fields.specs.Keys.{key_of, Key};
 ghost use Rattle.state_fields.specs.Stands.{stands, stand_together, all_fit};
 
 use module_state::{CREDENTIALS, LAST_CREDENTIAL, LAST_SESSION, SESSIONS};
-use names::{ELEVATION_TYPE, LAST_TYPE, SAVED_TYPE, USER_TYPE};
+use names::{ELEVATION_TYPE, SAVED_TYPE, USER_TYPE};
 use state_layout::{
-    CHOSEN_BYTE, COUNT_AT, CREDENTIAL_SIZE, CREDENTIALS_AT, KIND_AT, NEXT_AT, OWNER_AT, PLACE_SIZE,
-    PLACES_AT, SESSION_AT, SET_FLAG,
+    CHOSEN_BYTE, CREDENTIAL_SIZE, CREDENTIALS_AT, KIND_AT, NEXT_AT, OWNER_AT, PLACE_SIZE,
+    SESSION_AT, SET_FLAG, STATE_LENGTH,
 };
 
 // ---- a place by itself
@@ -20,68 +18,36 @@ use state_layout::{
 // A credential is a byte there.
 const LAST_OWNER: u8 = LAST_CREDENTIAL as u8;
 
-fn process_fits(place: &[u8]) -> bool
-    requires { length place.now ≡ place_size }
+fn process_fits(place: &[u8; PLACE_SIZE]) -> bool
     ensures { result ≡ process_fits place.now }
 {
-    let kind = place[KIND_AT];
     let session = place[SESSION_AT];
-    if LAST_OWNER < place[OWNER_AT] {
-        return false;
-    }
-    if LAST_SESSION < session {
-        return false;
-    }
-    if kind == USER_TYPE {
-        return true;
-    }
-    if LAST_TYPE < kind {
-        return false;
-    }
-    let next = rows::number16(place, NEXT_AT);
-    if kind == ELEVATION_TYPE {
-        return next == 0;
-    }
-    if 0 < session {
-        return false;
-    }
-    1 <= next
+    place[OWNER_AT] <= LAST_OWNER
+        && session <= LAST_SESSION
+        && match place[KIND_AT] {
+            USER_TYPE => true,
+            ELEVATION_TYPE => rows::number16(place, NEXT_AT) == 0,
+            SAVED_TYPE => session == 0 && 1 <= rows::number16(place, NEXT_AT),
+            _ => false,
+        }
 }
 
 // Whether the owner of a place is provisioned, and its session open with version 1.0 where it is active.
-fn is_owned<'a>(s: &'a [u8], place: &'a [u8]) -> bool
-    requires s_len { length s.now ≡ state_length }
-    requires place_len { length place.now ≡ place_size }
+fn is_owned<'a>(s: &'a [u8; STATE_LENGTH], place: &'a [u8; PLACE_SIZE]) -> bool
     ensures { result ≡ is_owned (state_of s.now) (process_from place.now) }
 {
-    let credential = rows::wide(place[OWNER_AT]);
-    let kind = place[KIND_AT];
-    let session = rows::wide(place[SESSION_AT]);
-    if CREDENTIALS <= credential {
-        return false;
-    }
-    if s[CREDENTIALS_AT + credential * CREDENTIAL_SIZE] != SET_FLAG {
-        return false;
-    }
-    if SAVED_TYPE <= kind {
-        return true;
-    }
-    if SESSIONS <= session {
-        return false;
-    }
-    s[session] == CHOSEN_BYTE
+    let credential = usize::from(place[OWNER_AT]);
+    let session = usize::from(place[SESSION_AT]);
+    credential < CREDENTIALS
+        && s[CREDENTIALS_AT + credential * CREDENTIAL_SIZE] == SET_FLAG
+        && (SAVED_TYPE <= place[KIND_AT] || session < SESSIONS && s[session] == CHOSEN_BYTE)
 }
 
 // Whether a place may stand by itself: its fields in their ranges, its owner and its session as they must be.
-fn stands<'a>(s: &'a [u8], place: &'a [u8]) -> bool
-    requires s_len { length s.now ≡ state_length }
-    requires place_len { length place.now ≡ place_size }
+fn stands<'a>(s: &'a [u8; STATE_LENGTH], place: &'a [u8; PLACE_SIZE]) -> bool
     ensures { result ≡ stands s.now place.now }
 {
-    if !process_fits(place) {
-        return false;
-    }
-    is_owned(s, place)
+    process_fits(place) && is_owned(s, place)
 }
 
 // ---- all places: rivals by their keys
@@ -95,44 +61,34 @@ const NO_KEY: usize = USER_KEYS + SESSIONS;
 const KEY_COUNT: usize = NO_KEY + 1;
 
 // The key of a place, by remainders, so that any bytes have one.
-fn key_of(place: &[u8]) -> usize
-    requires { length place.now ≡ place_size }
+fn key_of(place: &[u8; PLACE_SIZE]) -> usize
     ensures { Key (key_of place.now) result }
 {
-    let kind = place[KIND_AT];
-    let session = rows::wide(place[SESSION_AT]) % SESSIONS;
-    if kind == USER_TYPE {
-        return session * CREDENTIALS + rows::wide(place[OWNER_AT]) % CREDENTIALS;
+    let session = usize::from(place[SESSION_AT]) % SESSIONS;
+    match place[KIND_AT] {
+        USER_TYPE => session * CREDENTIALS + usize::from(place[OWNER_AT]) % CREDENTIALS,
+        ELEVATION_TYPE => USER_KEYS + session,
+        _ => NO_KEY,
     }
-    if kind == ELEVATION_TYPE {
-        return USER_KEYS + session;
-    }
-    NO_KEY
 }
 
 // Whether each place may stand, and no two are rivals. It goes from the last place to the first, so that the keys of the later ones are taken; once over all of
 // them for both, since most of the time of an entry is the test of its slice.
-fn all_stand(s: &[u8], n: usize) -> bool
-    requires s_len { length s.now ≡ state_length }
-    requires n_le_places { n ≤ places }
-    ensures { result ≡ stand_together s.now (rows n place_size (drop places_at s.now)) }
+fn all_stand<'a>(s: &'a [u8; STATE_LENGTH], places: &'a [[u8; PLACE_SIZE]]) -> bool
+    ensures { result ≡ stand_together s.now places.now }
 {
-    let mut taken: [u8; KEY_COUNT] = [0; KEY_COUNT];
-    let mut left = n;
-    while 0 < left {
-        let i = left - 1;
-        let a = PLACES_AT + i * PLACE_SIZE;
-        let e = a + PLACE_SIZE;
-        if !stands(s, &s[a..e]) {
+    let mut taken = [false; KEY_COUNT];
+    for i in (0..places.len()).rev() {
+        let place = &places[i];
+        if !stands(s, place) {
             return false;
         }
-        let key = key_of(&s[a..e]);
-        if taken[key] != 0 {
+        let key = key_of(place);
+        if taken[key] {
             return false;
         }
-        taken[key] = 1;
-        taken[NO_KEY] = 0;
-        left = i;
+        taken[key] = true;
+        taken[NO_KEY] = false;
     }
     true
 }
@@ -142,11 +98,10 @@ fn all_stand(s: &[u8], n: usize) -> bool
 pub fn all_fit(s: &[u8]) -> bool
     ensures { result ≡ all_fit s.now }
 {
-    if !state_ranges::rest_is_free(s) {
+    let Ok(state) = <&[u8; STATE_LENGTH]>::try_from(s) else {
         return false;
-    }
-    if !state_ranges::owners_fit(s) {
-        return false;
-    }
-    all_stand(s, rows::wide(s[COUNT_AT]))
+    };
+    state_ranges::rest_is_free(s)
+        && state_ranges::owners_fit(s)
+        && all_stand(state, state_ranges::standing(state))
 }

@@ -1,184 +1,139 @@
 // The check of a claim on the state that a slice says, where it lies: nothing is read but what its tests come to. docs/STATE.md draws the layout.
-#![tactic(auto)]
+#![tactic(auto, using(crate::proofs::Rules::rules))]
 
-ghost use Rattle.std.specs.Prelude.{◌≡◌, ◌<◌, length};
-ghost use Rattle.table.specs.Table.{places, size, is_active, find_active, process_at};
-ghost use Rattle.module_state.specs.Module.{phase_of, grants_of};
-ghost use Rattle.module_state.specs.Claim.{checked};
-ghost use Rattle.state_layout.specs.Layout.{place_size, state_length, process_from, state_of};
-ghost use Rattle.state_find.specs.Checks.{claim_place, checked_place, tested};
+ghost use Rattle.std.specs.Prelude.{◌≡◌, drop};
+ghost use Rattle.rows.specs.Rows.{rows};
+ghost use Rattle.table.specs.Table.{places, size, is_active, find_active};
+ghost use Rattle.module_state.specs.Module.{phase_of, grants_of, credential_count};
+ghost use Rattle.module_state.specs.Claim.{admitted};
+ghost use Rattle.module_state.specs.Refusals.{refusal_number, placed_in};
+ghost use Rattle.state_layout.specs.Layout.{place_size, places_at, credential_size, credentials_at, nothing_held, process_from, state_of};
+ghost use Rattle.state_find.specs.Checks.{claim_place, checked_place, tested, tested_in};
 
-use module_state::{
-    ARGUMENT, CREDENTIAL, CREDENTIALS, Checked, Claim, DONE, Grants, NO_PROCESS, Phase, Placed,
-    SESSIONS, UNPROVISIONED, UserClaim,
-};
+use module_state::{Claim, ClaimCheck, Grants, Phase, Refusal, SESSIONS, UNPROVISIONED, UserClaim};
 use names::{Credential, ELEVATION_TYPE, Session, USER_TYPE};
 use state_layout::{
     COUNT_AT, CREDENTIAL_SIZE, CREDENTIALS_AT, KIND_AT, NEXT_AT, OWNER_AT, PLACE_SIZE, PLACES_AT,
     SESSION_AT, STATE_LENGTH,
 };
-use table::{Active, Found, PLACES};
-
-// What the check of a claim comes to: the number that refuses it, or what a call goes on with.
-#[derive(Clone, Copy)]
-pub enum Tested {
-    Refused(u8),
-    Passed(Checked),
-}
+use table::{Active, PLACES};
 
 // ---- sessions and credentials
 
-// The phase of a session; closed where there is no such session, and in a slice of another length. No claim passes that, so what is asked after it has no such
-// slice.
-fn phase_of(s: &[u8], session: Session) -> Phase
+// The phase of a session; closed where there is no such session.
+fn phase_of(s: &[u8; STATE_LENGTH], session: Session) -> Phase
     ensures { result ≡ phase_of (state_of s.now) session }
 {
-    if s.len() != STATE_LENGTH {
-        return Phase::Closed;
+    match s[..SESSIONS].get(usize::from(session.0)) {
+        Some(byte) => state_read::phase_from(*byte),
+        None => Phase::Closed,
     }
-    let at = session.0 as usize;
-    if SESSIONS <= at {
-        return Phase::Closed;
-    }
-    state_read::phase_from(s[at])
+}
+
+fn credentials(s: &[u8; STATE_LENGTH]) -> &[[u8; CREDENTIAL_SIZE]]
+    ensures { result.now ≡ rows credential_count credential_size (drop credentials_at s.now) }
+{
+    let (credentials, _) = s[CREDENTIALS_AT..COUNT_AT].as_chunks::<CREDENTIAL_SIZE>();
+    credentials
 }
 
 // The grants of a credential; not provisioned, where there is no such credential.
-fn grants_of(s: &[u8], c: Credential) -> Grants
-    requires { length s.now ≡ state_length }
+fn grants_of(s: &[u8; STATE_LENGTH], c: Credential) -> Grants
     ensures { result ≡ grants_of (state_of s.now) c }
 {
-    let at = c.0 as usize;
-    if CREDENTIALS <= at {
-        return UNPROVISIONED;
+    match credentials(s).get(usize::from(c.0)) {
+        Some(credential) => state_read::grants_from(credential),
+        None => UNPROVISIONED,
     }
-    let a = CREDENTIALS_AT + at * CREDENTIAL_SIZE;
-    let e = a + CREDENTIAL_SIZE;
-    state_read::grants_from(&s[a..e])
 }
 
 // ---- processes
 
-// How many processes stand: a count past 12 says that all 12 do.
-fn size_in(s: &[u8]) -> usize
-    requires { length s.now ≡ state_length }
-    ensures { result ≡ size (state_of s.now).table }
+fn places(s: &[u8; STATE_LENGTH]) -> &[[u8; PLACE_SIZE]]
+    ensures { result.now ≡ rows places place_size (drop places_at s.now) }
 {
-    let count = rows::wide(s[COUNT_AT]);
-    if count < PLACES { count } else { PLACES }
+    let (places, _) = s[PLACES_AT..].as_chunks::<PLACE_SIZE>();
+    places
 }
 
-fn is_active(place: &[u8], which: Active) -> bool
-    requires { length place.now ≡ place_size }
+// How many processes stand: a count past 12 says that all 12 do.
+fn size_in(s: &[u8; STATE_LENGTH]) -> usize
+    ensures { result ≡ size (state_of s.now).table }
+{
+    usize::from(s[COUNT_AT]).min(PLACES)
+}
+
+fn is_active(place: &[u8; PLACE_SIZE], which: Active) -> bool
     ensures { result ≡ is_active which (process_from place.now) }
 {
-    let kind = place[KIND_AT];
-    let session = place[SESSION_AT];
     match which {
         Active::UserOf(s, c) => {
-            if kind != USER_TYPE {
-                return false;
-            }
-            if session != s.0 {
-                return false;
-            }
-            rows::wide16(place[OWNER_AT]) == c.0
+            place[KIND_AT] == USER_TYPE
+                && place[SESSION_AT] == s.0
+                && u16::from(place[OWNER_AT]) == c.0
         }
-        Active::ElevationIn(s) => {
-            if kind != ELEVATION_TYPE {
-                return false;
-            }
-            session == s.0
-        }
+        Active::ElevationIn(s) => place[KIND_AT] == ELEVATION_TYPE && place[SESSION_AT] == s.0,
     }
 }
 
-// The first process that is active so.
-fn find_active(s: &[u8], which: Active) -> Found
-    requires { length s.now ≡ state_length }
+// The first process that is active so. Document 01 names the form of a search: a loop whose break carries the place found, or the count where none is.
+fn find_active(s: &[u8; STATE_LENGTH], which: Active) -> Option<usize>
     ensures { result ≡ find_active (state_of s.now).table which }
 {
-    let n = size_in(s);
+    let places = places(s);
+    let count = size_in(s);
     let mut i: usize = 0;
     let at = loop {
-        if n <= i {
-            break n;
-        }
-        let a = PLACES_AT + i * PLACE_SIZE;
-        let e = a + PLACE_SIZE;
-        if is_active(&s[a..e], which) {
+        if count <= i || is_active(&places[i], which) {
             break i;
         }
         i += 1;
     };
-    if at < n {
-        Found::At(at)
-    } else {
-        Found::Nothing
-    }
+    if at < count { Some(at) } else { None }
 }
 
-// The next number of the process at a place.
-fn next_number(s: &[u8], at: usize) -> u16
-    requires { (length s.now ≡ state_length) × (at < places) × (at < size (state_of s.now).table) }
-    ensures { result ≡ (process_at (state_of s.now).table at).next }
+// The next number of a process.
+fn next_number(place: &[u8; PLACE_SIZE]) -> u16
+    ensures { result ≡ (process_from place.now).next }
 {
-    rows::number16(s, PLACES_AT + at * PLACE_SIZE + NEXT_AT)
+    rows::number16(place, NEXT_AT)
 }
 
-// The credential of the process at a place.
-fn credential_at(s: &[u8], at: usize) -> Credential
-    requires { (length s.now ≡ state_length) × (at < places) × (at < size (state_of s.now).table) }
-    ensures { result ≡ (process_at (state_of s.now).table at).credential }
+// The credential of a process.
+fn credential_of(place: &[u8; PLACE_SIZE]) -> Credential
+    ensures { result ≡ (process_from place.now).credential }
 {
-    let a = PLACES_AT + at * PLACE_SIZE;
-    Credential(rows::wide16(s[a + OWNER_AT]))
+    Credential(u16::from(place[OWNER_AT]))
 }
 
 // ---- the check of a claim, in the order of its tests
 
-fn elevated_place(s: &[u8], session: Session) -> Placed
-    requires { length s.now ≡ state_length }
-    ensures { result ≡ claim_place (state_of s.now) session Claim.Elevated }
+fn elevated_place(s: &[u8; STATE_LENGTH], session: Session) -> Result<usize, Refusal>
+    ensures { placed_in result ≡ claim_place (state_of s.now) session Claim.Elevated }
 {
-    let found = find_active(s, claim_check::sought(session, Claim::Elevated));
-    let Found::At(place) = found else {
-        return module_state::refused(NO_PROCESS);
+    let Some(place) = find_active(s, claim_check::sought(session, Claim::Elevated)) else {
+        return Err(Refusal::NoProcess);
     };
-    Placed {
-        number: DONE,
-        place: place,
-    }
+    Ok(place)
 }
 
 // Of a credential that is not provisioned no process is sought.
-fn user_place(s: &[u8], session: Session, u: UserClaim) -> Placed
-    requires { length s.now ≡ state_length }
-    ensures { result ≡ claim_place (state_of s.now) session (Claim.ByUser u) }
+fn user_place(s: &[u8; STATE_LENGTH], session: Session, u: UserClaim) -> Result<usize, Refusal>
+    ensures { placed_in result ≡ claim_place (state_of s.now) session (Claim.ByUser u) }
 {
-    let c = u.credential;
-    let grants = grants_of(s, c);
-    if !grants.provisioned {
-        return module_state::refused(CREDENTIAL);
+    if !grants_of(s, u.credential).provisioned {
+        return Err(Refusal::Credential);
     }
-    let found = find_active(s, claim_check::sought(session, Claim::ByUser(u)));
-    let Found::At(place) = found else {
-        return module_state::refused(NO_PROCESS);
+    let Some(place) = find_active(s, claim_check::sought(session, Claim::ByUser(u))) else {
+        return Err(Refusal::NoProcess);
     };
-    let turn = claim_check::turn_number(next_number(s, place), u);
-    if turn != DONE {
-        return module_state::refused(turn);
-    }
-    Placed {
-        number: DONE,
-        place: place,
-    }
+    claim_check::turn_number(next_number(&places(s)[place]), u)?;
+    Ok(place)
 }
 
 // The tests of the claim itself.
-fn claim_place(s: &[u8], session: Session, claim: Claim) -> Placed
-    requires { length s.now ≡ state_length }
-    ensures { result ≡ claim_place (state_of s.now) session claim }
+fn claim_place(s: &[u8; STATE_LENGTH], session: Session, claim: Claim) -> Result<usize, Refusal>
+    ensures { placed_in result ≡ claim_place (state_of s.now) session claim }
 {
     match claim {
         Claim::Elevated => elevated_place(s, session),
@@ -186,44 +141,43 @@ fn claim_place(s: &[u8], session: Session, claim: Claim) -> Placed
     }
 }
 
-// All of them: the number, and the place of the claim's process where that is 0.
-fn checked_place(s: &[u8], session: Session, claim: Claim) -> Placed
-    ensures { result ≡ checked_place (state_of s.now) session claim }
+// All of them, and the place of the claim's process.
+fn checked_place(s: &[u8; STATE_LENGTH], session: Session, claim: Claim) -> Result<usize, Refusal>
+    ensures { placed_in result ≡ checked_place (state_of s.now) session claim }
 {
     if !claim_check::is_in_range(claim) {
-        return module_state::refused(ARGUMENT);
+        return Err(Refusal::Argument);
     }
-    let entry = module_state::phase_number(session, phase_of(s, session));
-    if entry != DONE {
-        return module_state::refused(entry);
-    }
+    module_state::phase_number(session, phase_of(s, session))?;
     claim_place(s, session, claim)
 }
 
-// What a call goes on with whose claim passed.
-fn passed(s: &[u8], session: Session, claim: Claim, at: Placed) -> Checked
-    requires { (at ≡ checked_place (state_of s.now) session claim) × (at.number ≡ 0) }
-    ensures { result ≡ checked (state_of s.now) session claim }
+// Why a claim is refused on a slice of another length: no session is open there.
+fn refusal_elsewhere(session: Session, claim: Claim) -> Refusal
+    ensures { refusal_number result ≡ admitted nothing_held session claim }
 {
-    let next = next_number(s, at.place);
-    let c = claim_check::speaks_for(claim, credential_at(s, at.place));
-    let grants = grants_of(s, c);
-    Checked {
-        claim: claim,
-        number: DONE,
-        place: at.place,
-        next: next,
-        credential: c,
-        grants: grants,
+    if claim_check::is_in_range(claim) && module_state::is_session(session) {
+        Refusal::Session
+    } else {
+        Refusal::Argument
     }
 }
 
-pub fn check(s: &[u8], session: Session, claim: Claim) -> Tested
-    ensures { result ≡ tested (state_of s.now) session claim }
+// What a call goes on with whose claim passed, or why the claim is refused.
+pub fn check(s: &[u8], session: Session, claim: Claim) -> Result<ClaimCheck, Refusal>
+    ensures { tested_in result ≡ tested (state_of s.now) session claim }
 {
-    let at = checked_place(s, session, claim);
-    if at.number != DONE {
-        return Tested::Refused(at.number);
-    }
-    Tested::Passed(passed(s, session, claim, at))
+    let Ok(s) = <&[u8; STATE_LENGTH]>::try_from(s) else {
+        return Err(refusal_elsewhere(session, claim));
+    };
+    let place = checked_place(s, session, claim)?;
+    let process = &places(s)[place];
+    let credential = claim_check::speaks_for(claim, credential_of(process));
+    Ok(ClaimCheck {
+        claim,
+        place: Ok(place),
+        next: next_number(process),
+        credential,
+        grants: grants_of(s, credential),
+    })
 }

@@ -1,26 +1,30 @@
 -- The laws that close the needs of this crate's functions by `search rules`: each premise is as a place's record has it.
 -- Assumes nothing.
-use Prim.Native.Nat.{ℕ, zero, suc, ◌+◌, ◌-◌, ◌*◌, ◌/◌, ◌<◌, ◌≤◌}
+use Prim.Native.Nat.{ℕ, zero, suc, min, ◌+◌, ◌-◌, ◌*◌, ◌/◌, ◌<◌, ◌≤◌}
 use mathlib.Core.Path.{◌≡◌, refl, sym, ap, ◌∙◌}
-use mathlib.Core.Bool.{Bool, true, false, ◌&&◌, not}
+use mathlib.Core.Bool.{Bool, true, false, ◌&&◌}
 use mathlib.Core.List.{List, [], ◌∷◌, ◌++◌}
 use native.Mathlib.Omega.{arith}
 use native.Mathlib.Nat.{add-zero}
 use borrow.Author.Rules.{rules as std_rules}
-use borrow.Author.Tests.{eqb-true, eqb-false, eq-eqb, ne_eqb, le-leb, lt-leb, not-true, not-false}
+use borrow.Author.Tests.{eqb-true, eqb-false, eq-eqb, ne_eqb, le-leb, lt-leb}
 use lib.Bits.{bit_or}
 use lib.Dec.{eqb, leb}
 use lib.ListN.{length, take, drop, get_or, drop_of_length-le, length-drop}
-use lib.Seq.{drop-cons, drop-drop, get_or-drop, get_or-take, take_all}
-use Rattle.rows.specs.Bytes.{is_zero, number_of, number_at, Widened}
+use lib.Seq.{drop-cons, drop-drop, take_all}
+use Rattle.rows.specs.Bytes.{is_zero, number_of, number_at}
 use Rattle.lists.proofs.Lists.{length-mapped}
 use Rattle.lists.proofs.Tests.{split}
 use Rattle.rows.specs.Rows.{rows, every}
 use Rattle.rows.proofs.Bytes.{part-front}
-use Rattle.rows.proofs.Loops.{RowsTo, rows-begin, rows_on, rows-fail, rows_all, or-zero, and_assoc, and-true, and-false}
+use Rattle.rows.proofs.Rows.{rows_take}
+use Rattle.rows.proofs.Loops.{or-zero, and_assoc, and-true, and-false}
+use Rattle.std.specs.List.{list_all}
+use Rattle.std.specs.Simd.{first_chunks}
+use Rattle.rows.proofs.Chunks.{chunks_rows, all_every, rows_front}
 use Rattle.table.specs.Table.{places}
 use Rattle.module_state.specs.Module.{session_count, credential_count, word_size}
-use Rattle.state_layout.specs.Layout.{last_phase, set_flag, flag_at, word_at, second_at, credential_size, place_size, sessions_at, session_size, credentials_at, count_at, places_at, state_length, session_fits, grants_fit, count_in, rest_is_free, owners_fit}
+use Rattle.state_layout.specs.Layout.{last_phase, set_flag, flag_at, word_at, second_at, credential_size, place_size, session_size, credentials_at, count_at, places_at, state_length, session_fits, grants_fit, count_in, rest_is_free, owners_fit}
 use Rattle.state_layout.proofs.Parts.{grants-part}
 
 -- ---- tests in another order
@@ -126,19 +130,26 @@ parted-all {s} {first} {part} {second} {d} {i} v h =
     let l : length s ≤ second + i = omega (arith, v.end) in
     sym (v.rest ∙ rw (e, drop_of_length-le s l) (and-true (is_zero d)))
 
--- ---- the count, and what is behind it
+-- ---- the count, and the places that stand
+pub standing-rows : (b : List ℕ) {f n k : ℕ} {l : List (List ℕ)} → f ≡ get_or b count_at 0 → n ≡ min f places → l ≡ first_chunks place_size k (take (state_length - places_at) (drop places_at b)) → k ≡ places → take n l ≡ rows (min (count_in b) places) place_size (drop places_at b)
+unfolding count_in
+standing-rows b {f} {n} {k} e m g h =
+    let low : min (get_or b count_at 0) places ≤ places = omega arith in
+    rw (m, e, g, h, chunks_rows, rows_front places place_size (state_length - places_at) (drop places_at b) (omega arith)) (rows_take (min (get_or b count_at 0) places) places place_size (drop places_at b) low)
+
+-- ---- what is behind them
 pub rest-short : (b : List ℕ) → (length b ≡ state_length → ⊥) → false ≡ rest_is_free b
 unfolding rest_is_free
 rest-short b n = rw (ne_eqb (length b) state_length n)
 
-module _ (b : List ℕ) (h : length b ≡ state_length) {n : ℕ} (w : Widened (get_or b count_at 0) n) where
-  pub rest-many : places < n → false ≡ rest_is_free b
+module _ (b : List ℕ) (h : length b ≡ state_length) where
+  pub rest-many : places < get_or b count_at 0 → false ≡ rest_is_free b
   unfolding rest_is_free count_in
-  rest-many k = rw (eq-eqb (length b) state_length h, ← w.is, lt-leb n places k)
+  rest-many k = rw (eq-eqb (length b) state_length h, lt-leb (get_or b count_at 0) places k)
 
-  pub rest-free : n ≤ places → {z : Bool} → z ≡ every is_zero (drop (places_at + n * place_size) b) → z ≡ rest_is_free b
+  pub rest-free : get_or b count_at 0 ≤ places → {z : Bool} → z ≡ every is_zero (drop (places_at + get_or b count_at 0 * place_size) b) → z ≡ rest_is_free b
   unfolding rest_is_free count_in
-  rest-free k i = i ∙ rw (eq-eqb (length b) state_length h, ← w.is, le-leb n places k)
+  rest-free k i = i ∙ rw (eq-eqb (length b) state_length h, le-leb (get_or b count_at 0) places k)
 
 -- ---- a credential's row
 zero-digits : (x n : ℕ) → is_zero (n * 256 + x) ≡ (is_zero x && is_zero n)
@@ -185,36 +196,28 @@ module _ (x : List ℕ) where
         let second : eqb (number_of (drop second_at x)) 0 ≡ every is_zero (drop second_at x) = zero_number (drop second_at x) in
         rw (q, take_all word_size (drop second_at x) few) (second ∙ rw (eq-eqb w 0 z) at words-tested)
 
--- ---- the rows of a slice of a state's length
-module _ {s : List ℕ} {i : ℕ} (v : RowsTo session_fits session_count session_size sessions_at s i) (h : i < session_count) where
-  at_row : session_fits (take (sessions_at + i * session_size + session_size - (sessions_at + i * session_size)) (drop (sessions_at + i * session_size) s)) ≡ leb (get_or s i 0) last_phase
-  unfolding session_fits
-  at_row =
-      let p : 0 < sessions_at + i * session_size + session_size - (sessions_at + i * session_size) = omega arith in
-      let q : sessions_at + i * session_size ≡ i = omega arith in
-      rw (get_or-take (sessions_at + i * session_size + session_size - (sessions_at + i * session_size)) (drop (sessions_at + i * session_size) s) 0 0 p, get_or-drop (sessions_at + i * session_size) s 0 0, q, add-zero)
+-- ---- the sessions and the credentials, of a slice of a state's length
+phases : (n : ℕ) (b : List ℕ) → n ≤ length b → list_all (λ (x : ℕ). leb x last_phase) (take n b) ≡ every session_fits (rows n session_size b)
+unfolding rows every session_fits
+phases zero b h = refl
+phases (suc n) [] h = absurd (omega arith)
+phases (suc n) (x ∷ b) h = ap (λ (t : Bool). leb x last_phase && t) (phases n b (omega arith))
 
-  pub session-on : get_or s i 0 ≤ last_phase → RowsTo session_fits session_count session_size sessions_at s (i + 1)
-  session-on k = rows_on {b = true} v h (sym (at_row ∙ le-leb (get_or s i 0) last_phase k)) refl
+module _ (b : List ℕ) (h : length b ≡ state_length) {p : Bool} (e : p ≡ list_all (λ (x : ℕ). leb x last_phase) (take session_count b)) where
+  tested : p ≡ every session_fits (rows session_count session_size b)
+  tested = e ∙ phases session_count b (omega arith)
 
-  pub session-fail : last_phase < get_or s i 0 → false ≡ every session_fits (rows session_count session_size s)
-  session-fail k = rows-fail {b = false} v h (sym (at_row ∙ lt-leb (get_or s i 0) last_phase k)) refl
+  pub owners-sessions : p ≡ false → p ≡ owners_fit b
+  unfolding owners_fit
+  owners-sessions t = rw (eq-eqb (length b) state_length h, ← tested, t)
 
-pub session-all : {s : List ℕ} {i : ℕ} → RowsTo session_fits session_count session_size sessions_at s i → session_count ≤ i → true ≡ every session_fits (rows session_count session_size s)
-session-all v h = rows_all v h
+  pub owners-credentials : p ≡ true → {m : ℕ} → m ≡ credential_count → {q : Bool} → q ≡ list_all grants_fit (first_chunks credential_size m (take (count_at - credentials_at) (drop credentials_at b))) → q ≡ owners_fit b
+  unfolding owners_fit
+  owners-credentials t l f =
+      f ∙ rw (eq-eqb (length b) state_length h, ← tested, t, l, all_every, chunks_rows, rows_front credential_count credential_size (count_at - credentials_at) (drop credentials_at b) (omega arith))
 
--- ---- sessions and credentials together
 pub owners-short : (b : List ℕ) → (length b ≡ state_length → ⊥) → false ≡ owners_fit b
 unfolding owners_fit
 owners-short b n = rw (ne_eqb (length b) state_length n)
 
-module _ (b : List ℕ) (h : length b ≡ state_length) {p : Bool} (e : p ≡ every session_fits (rows session_count session_size b)) where
-  pub owners-sessions : not p ≡ true → false ≡ owners_fit b
-  unfolding owners_fit
-  owners-sessions t = rw (eq-eqb (length b) state_length h, ← e, not-true p t)
-
-  pub owners-credentials : not p ≡ false → {q : Bool} → q ≡ every grants_fit (rows credential_count credential_size (drop credentials_at b)) → q ≡ owners_fit b
-  unfolding owners_fit
-  owners-credentials t f = f ∙ rw (eq-eqb (length b) state_length h, ← e, not-false p t)
-
-pub ruleset rules = (std_rules, length-mapped, parted-begin, parted-on, parted-all, rest-short, rest-many, rest-free, grants-high, grants-on, grants-word, grants-off, grants-part, session-on, session-fail, session-all, rows-begin, rows_on, rows-fail, rows_all, owners-short, owners-sessions, owners-credentials)
+pub ruleset rules = (std_rules, length-mapped, parted-begin, parted-on, parted-all, standing-rows, rest-short, rest-many, rest-free, grants-high, grants-on, grants-word, grants-off, grants-part, owners-short, owners-sessions, owners-credentials)

@@ -1,11 +1,11 @@
 // The state that a slice says, read into a value. docs/STATE.md draws the layout.
-#![tactic(auto)]
+#![tactic(auto, using(crate::proofs::Rules::rules))]
 
-ghost use Rattle.std.specs.Prelude.{◌≡◌, map, length, drop};
+ghost use Rattle.std.specs.Prelude.{◌≡◌, map, drop};
 ghost use Rattle.rows.specs.Rows.{rows};
 ghost use Rattle.names.specs.Names.{kind_numbered};
-ghost use Rattle.module_state.specs.Module.{closed_session, unprovisioned, session_count, credential_count};
-ghost use Rattle.state_layout.specs.Layout.{credential_size, place_size, session_size, credentials_at, state_length, phase_from, session_from, grants_from, process_from, places_in, nothing_held, state_of};
+ghost use Rattle.module_state.specs.Module.{session_count, credential_count};
+ghost use Rattle.state_layout.specs.Layout.{credential_size, session_size, credentials_at, phase_from, session_from, grants_from, process_from, places_in, nothing_held, state_of};
 
 use module_state::{
     CREDENTIALS, Grants, Phase, SESSIONS, SessionState, State, UNPROVISIONED, Words,
@@ -16,6 +16,7 @@ use state_layout::{
     OPENED_BYTE, OWNER_AT, PLACE_SIZE, PLACES_AT, SECOND_AT, SESSION_AT, SET_FLAG, STATE_LENGTH,
     WORD_AT,
 };
+use std::array;
 use table::{PLACES, Process, Table};
 
 // ---- a session
@@ -24,35 +25,19 @@ use table::{PLACES, Process, Table};
 pub fn phase_from(byte: u8) -> Phase
     ensures { result ≡ phase_from byte }
 {
-    if byte == OPENED_BYTE {
-        return Phase::Opened;
-    }
-    if byte == CHOSEN_BYTE {
-        return Phase::Chosen;
-    }
-    Phase::Closed
-}
-
-fn closed_session() -> SessionState
-    ensures { result ≡ closed_session }
-{
-    SessionState {
-        phase: Phase::Closed,
+    match byte {
+        OPENED_BYTE => Phase::Opened,
+        CHOSEN_BYTE => Phase::Chosen,
+        _ => Phase::Closed,
     }
 }
 
-fn read_sessions(s: &[u8]) -> [SessionState; SESSIONS]
-    requires { length s.now ≡ state_length }
+fn read_sessions(s: &[u8; STATE_LENGTH]) -> [SessionState; SESSIONS]
     ensures { result ≡ map session_from (rows session_count session_size s.now) }
 {
-    let mut out = [closed_session(); SESSIONS];
-    let mut i: usize = 0;
-    while i < SESSIONS {
-        let phase = phase_from(s[i]);
-        out[i] = SessionState { phase: phase };
-        i += 1;
-    }
-    out
+    array::from_fn(|i| SessionState {
+        phase: phase_from(s[i]),
+    })
 }
 
 // ---- a credential's grants
@@ -70,20 +55,11 @@ pub fn grants_from(part: &[u8]) -> Grants
     }
 }
 
-fn read_credentials(s: &[u8]) -> [Grants; CREDENTIALS]
-    requires { length s.now ≡ state_length }
+fn read_credentials(s: &[u8; STATE_LENGTH]) -> [Grants; CREDENTIALS]
     ensures { result ≡ map grants_from (rows credential_count credential_size (drop credentials_at s.now)) }
 {
-    let mut out = [UNPROVISIONED; CREDENTIALS];
-    let mut i: usize = 0;
-    while i < CREDENTIALS {
-        let a = CREDENTIALS_AT + i * CREDENTIAL_SIZE;
-        let e = a + CREDENTIAL_SIZE;
-        let grants = grants_from(&s[a..e]);
-        out[i] = grants;
-        i += 1;
-    }
-    out
+    let (credentials, _) = s[CREDENTIALS_AT..].as_chunks::<CREDENTIAL_SIZE>();
+    array::from_fn(|i| grants_from(&credentials[i]))
 }
 
 // ---- a place
@@ -95,40 +71,23 @@ fn kind_numbered(number: u8) -> Kind
     names::kind_of(names::type_numbered(number))
 }
 
-fn process_of(place: &[u8]) -> Process
-    requires { length place.now ≡ place_size }
+fn process_of(place: &[u8; PLACE_SIZE]) -> Process
     ensures { result ≡ process_from place.now }
 {
-    let credential = rows::wide16(place[OWNER_AT]);
-    let kind = kind_numbered(place[KIND_AT]);
-    let session = place[SESSION_AT];
-    let next = rows::number16(place, NEXT_AT);
-    let read = names::read_name(&place[NAME_AT..PLACE_SIZE]);
-    let name = read.name;
     Process {
-        credential: Credential(credential),
-        kind: kind,
-        session: Session(session),
-        next: next,
-        name: name,
+        credential: Credential(u16::from(place[OWNER_AT])),
+        kind: kind_numbered(place[KIND_AT]),
+        session: Session(place[SESSION_AT]),
+        next: rows::number16(place, NEXT_AT),
+        name: names::read_name(&place[NAME_AT..]).unwrap(),
     }
 }
 
-fn read_places(s: &[u8]) -> [Process; PLACES]
-    requires { length s.now ≡ state_length }
+fn read_places(s: &[u8; STATE_LENGTH]) -> [Process; PLACES]
     ensures { result ≡ places_in s.now }
 {
-    let empty = table::empty();
-    let mut out = empty.places;
-    let mut i: usize = 0;
-    while i < PLACES {
-        let a = PLACES_AT + i * PLACE_SIZE;
-        let e = a + PLACE_SIZE;
-        let p = process_of(&s[a..e]);
-        out[i] = p;
-        i += 1;
-    }
-    out
+    let (places, _) = s[PLACES_AT..].as_chunks::<PLACE_SIZE>();
+    array::from_fn(|i| process_of(&places[i]))
 }
 
 // ---- the whole
@@ -143,19 +102,15 @@ fn nothing_held() -> State
 pub fn read(s: &[u8]) -> State
     ensures { result ≡ state_of s.now }
 {
-    if s.len() != STATE_LENGTH {
+    let Ok(s) = <&[u8; STATE_LENGTH]>::try_from(s) else {
         return nothing_held();
-    }
-    let sessions = read_sessions(s);
-    let credentials = read_credentials(s);
-    let places = read_places(s);
-    let count = rows::wide(s[COUNT_AT]);
+    };
     State {
-        sessions: sessions,
-        credentials: credentials,
+        sessions: read_sessions(s),
+        credentials: read_credentials(s),
         table: Table {
-            places: places,
-            count: count,
+            places: read_places(s),
+            count: usize::from(s[COUNT_AT]),
         },
     }
 }

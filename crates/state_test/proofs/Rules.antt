@@ -1,67 +1,62 @@
 -- The laws that close the needs of this crate's functions by `search rules`: each premise is as a place's record has it.
 -- Assumes nothing.
-use Prim.Native.Nat.{ℕ, suc, ◌+◌, ◌-◌, ◌*◌, ◌%◌, ◌<◌, ◌≤◌}
+use Prim.Native.Nat.{ℕ, suc, min, ◌+◌, ◌-◌, ◌%◌, ◌<◌, ◌≤◌}
 use mathlib.Core.Path.{◌≡◌, refl, sym, ap, ◌∙◌}
 use mathlib.Core.Bool.{Bool, true, false, ◌&&◌, ◌||◌, not}
 use mathlib.Core.List.{List, [], ◌∷◌, map}
 use native.Mathlib.Omega.{arith}
 use borrow.Author.Count.{below_more}
 use borrow.Author.Rules.{rules as std_rules}
-use borrow.Author.Tests.{eqb-false, not-true, not-false}
-use lib.Dec.{eqb}
-use lib.ListN.{length, take, drop, get_or, length-map, replicate, length-replicate, set, length-set}
+use borrow.Author.Tests.{eqb-false, ne_eqb, lt-ltb}
+use lib.Dec.{eqb, ltb}
+use lib.ListN.{length, take, drop, get_or, length-map, get_or-map, replicate, length-replicate, set, length-set, length-drop}
 use lib.Seq.{get_or-set_same, get_or-set_other, take_all}
-use Rattle.rows.specs.Bytes.{Widened}
 use Rattle.lists.proofs.Lists.{length-mapped}
 use Rattle.lists.proofs.Tests.{split, below, clash, and_left, and_both}
 use Rattle.rows.specs.Rows.{rows, every, pairwise}
 use Rattle.rows.proofs.Rows.{rows-length, rows_take, map-take}
-use Rattle.rows.proofs.Loops.{LaterTo, later-begin, later-on, later-fail, later-all, map-part, and_assoc, paired-begin, paired-on, paired-fail, paired-all}
+use Rattle.rows.proofs.Loops.{PairsTo, pairs-begin, pairs-on, pairs-fail, pairs-all, and_assoc}
+use Rattle.lists.proofs.Lists.{get_d_any}
+use Rattle.rows.proofs.Chunks.{all_every}
 use Rattle.names.specs.declared.Name.{Name}
-use Rattle.names.specs.declared.NameRead.{NameRead}
-use Rattle.names.specs.Names.{same_name, read_name}
+use Rattle.names.specs.Names.{same_name}
 use Rattle.names.specs.Words.{digest_of}
-use Rattle.names.proofs.Laws.{same→name, name-last}
+use Rattle.names.proofs.Laws.{same→name}
 use Rattle.table.specs.Table.{standing, free_place, places}
 use Rattle.table.specs.declared.Process.{Process}
-use Rattle.state_layout.specs.Layout.{name_at, place_size, count_at, places_at, state_length, process_from, count_in, places_in, state_of, is_owned, are_apart, sound, shaped, holds_state}
-use Rattle.state_test.specs.Digests.{sum_of, again, round, standing_in, Digests, Sums, Behind, other_names, Unless}
+use Rattle.state_layout.specs.Layout.{name_at, place_size, places_at, state_length, process_from, count_in, places_in, state_of, is_owned, are_apart, sound, shaped, rest_is_free, holds_state}
+use Rattle.state_test.specs.Digests.{sum_of, again, round, standing_in, Digests, Sums, Behind, other_names, Unless, later_others}
 use Rattle.state_fields.specs.Stands.{no_rivals, all_fit}
 use Rattle.state_fields.proofs.Rules.{interchange}
 use Rattle.state_layout.proofs.Laws.{Shape, shape, state-in}
-use Rattle.state_layout.proofs.Parts.{place-part}
 
 -- ---- names: each as it stands
-pub name-stands : (row : List ℕ) {r : NameRead} → length row ≡ place_size → r ≡ read_name (take (place_size - name_at) (drop name_at row)) → r.name ≡ (process_from row).name
+pub name-stands : (row : List ℕ) {b : List ℕ} → length row ≡ place_size → b ≡ take (place_size - name_at) (drop name_at row) → record { bytes = b } ≡ (process_from row).name
 unfolding process_from
-name-stands row h e = rw e (name-last row name_at h)
+name-stands row h e = ap (λ (l : List ℕ). record { bytes = l }) (e ∙ take_all (place_size - name_at) (drop name_at row) (simp length-drop (omega arith)))
 
 -- ---- their digests
--- the row of a place
-abbrev row_at : List ℕ → ℕ → List ℕ
-row_at s i = take (places_at + i * place_size + place_size - (places_at + i * place_size)) (drop (places_at + i * place_size) s)
-
-pub record DigestsTo (s : List ℕ) (n : ℕ) (d : List ℕ) (i : ℕ) : Type 0 where
-  pub few : n ≤ places
+pub record DigestsTo (l : List (List ℕ)) (d : List ℕ) (i : ℕ) : Type 0 where
   pub long : length d ≡ places
-  pub each : (k : ℕ) → k < i → get_or d k 0 ≡ digest_of (get_or (standing_in s n) k free_place).name
+  pub each : (k : ℕ) → k < i → get_or d k 0 ≡ digest_of (get_or (standing_in l) k free_place).name
 
-pub digests-begin : (s : List ℕ) (n : ℕ) (d : List ℕ) → n ≤ places → length d ≡ places → DigestsTo s n d 0
-digests-begin s n d h k = record { few = h; long = k; each = λ i l. absurd (omega arith) }
+pub digests-begin : (l : List (List ℕ)) (d : List ℕ) → length d ≡ places → DigestsTo l d 0
+digests-begin l d k = record { long = k; each = λ i l. absurd (omega arith) }
 
-pub digests-on : {s : List ℕ} {n : ℕ} {d : List ℕ} {i r : ℕ} {name : Name} → DigestsTo s n d i → i < n → name ≡ (process_from (row_at s i)).name → r ≡ digest_of name → DigestsTo s n (set d i r) (i + 1)
-digests-on {s} {n} {d} {i} {r} {name} v h e f =
-    let k : i < length d = omega (arith, v.long, v.few) in
+pub digests-on : {l : List (List ℕ)} {d : List ℕ} {i r : ℕ} {name : Name} → DigestsTo l d i → length l ≤ places → i < length l → name ≡ (process_from (get_or l i [])).name → r ≡ digest_of name → DigestsTo l (set d i r) (i + 1)
+digests-on {l} {d} {i} {r} {name} v few h e f =
+    let k : i < length d = omega (arith, v.long) in
+    let there : i < length (standing_in l) = rw length-map h in
+    let stands : get_or (standing_in l) i free_place ≡ process_from (get_or l i []) = get_d_any (standing_in l) i free_place (process_from []) there ∙ get_or-map process_from l i [] in
     record {
-      few = v.few;
       long = length-set d i r ∙ v.long;
       each =
           below_more _ _
           (λ j l. get_or-set_other d i j r 0 (λ q. omega arith) ∙ v.each j l)
-          (get_or-set_same d i r 0 k ∙ rw (map-part process_from n place_size places_at s i free_place h, ← e) f);
+          (get_or-set_same d i r 0 k ∙ rw (stands, ← e) f);
     }
 
-pub digests-all : {s : List ℕ} {n : ℕ} {d : List ℕ} {i : ℕ} → DigestsTo s n d i → n ≤ i → Digests s n d
+pub digests-all : {l : List (List ℕ)} {d : List ℕ} {i : ℕ} → DigestsTo l d i → length l ≤ i → Digests l d
 digests-all v h = record { at = λ k l. v.each k (omega arith) }
 
 -- ---- their sums
@@ -136,12 +131,12 @@ pairwise-places f z (x ∷ l) h =
     (pairwise-places f z l (λ i j k m. h (suc i) (suc j) (omega arith) (omega arith)))
 
 -- of each two places one stands at most six behind the other, around the end too
-module _ {s digests sums : List ℕ} {n : ℕ} {met : Bool} {behind : ℕ} (h : n ≤ places) (g : Digests s n digests) (u : Sums digests sums) (v : RoundTo sums met behind) (k : again < behind) (e : met ≡ false) where
+module _ {l : List (List ℕ)} {digests sums : List ℕ} {met : Bool} {behind : ℕ} (h : length l ≤ places) (g : Digests l digests) (u : Sums digests sums) (v : RoundTo sums met behind) (k : again < behind) (e : met ≡ false) where
   sum-at : (i j : ℕ) → i < round → i % places ≡ j → get_or sums i 0 ≡ sum_of (get_or digests j 0)
   sum-at i j l q = u.at i l ∙ rw q
 
-  others : (a b : ℕ) → a < b → b < n → get_or digests a 0 ≡ get_or digests b 0 → ⊥
-  others a b l m q =
+  others : (a b : ℕ) → a < b → b < length l → get_or digests a 0 ≡ get_or digests b 0 → ⊥
+  others a b o m q =
       below again (b - a)
       (λ far.
       let around : b + (places - (b - a)) ≡ a + places = omega arith in
@@ -152,19 +147,19 @@ module _ {s digests sums : List ℕ} {n : ℕ} {met : Bool} {behind : ℕ} (h : 
       v.other e (b - a) (omega arith) (omega arith) a (omega arith)
       (sum-at a a (omega arith) (omega arith) ∙ ap sum_of q ∙ sym (rw there (sum-at b b (omega arith) (omega arith)))))
 
-  other-names : true ≡ pairwise other_names (standing_in s n)
+  other-names : true ≡ pairwise other_names (standing_in l)
   other-names =
       sym
-      (pairwise-places other_names free_place (standing_in s n)
-      (λ a b l m.
-      let c : b < n = rw (length-map, rows-length) at m in
-      let p : Process = get_or (standing_in s n) a free_place in
-      let q : Process = get_or (standing_in s n) b free_place in
+      (pairwise-places other_names free_place (standing_in l)
+      (λ a b o m.
+      let c : b < length l = rw length-map at m in
+      let p : Process = get_or (standing_in l) a free_place in
+      let q : Process = get_or (standing_in l) b free_place in
       split (same_name p.name q.name)
-      (λ f. absurd (others a b l c (g.at a (omega arith) ∙ ap digest_of (same→name p.name q.name f) ∙ sym (g.at b c))))
+      (λ f. absurd (others a b o c (g.at a (omega arith) ∙ ap digest_of (same→name p.name q.name f) ∙ sym (g.at b c))))
       (λ f. rw f)))
 
-pub round-all : {s digests sums : List ℕ} {n : ℕ} {met : Bool} {behind : ℕ} → n ≤ places → Digests s n digests → Sums digests sums → RoundTo sums met behind → again < behind → Unless met (pairwise other_names (standing_in s n))
+pub round-all : {l : List (List ℕ)} {digests sums : List ℕ} {met : Bool} {behind : ℕ} → length l ≤ places → Digests l digests → Sums digests sums → RoundTo sums met behind → again < behind → Unless met (pairwise other_names (standing_in l))
 round-all h g u v k = record { passes = λ e. other-names h g u v k e }
 
 -- ---- pairs
@@ -172,18 +167,44 @@ pub names-other : (a b : List ℕ) {x y : Name} {m : Bool} → x ≡ (process_fr
 names-other a b p q f = rw (f, p, q)
 
 -- no digest met, or each pair compared
-pub differ-digests : (l : List Process) {m : Bool} → Unless m (pairwise other_names l) → not m ≡ true → true ≡ pairwise other_names l
-differ-digests l {m} v p = v.passes (not-true m p)
+pub differ-digests : (l : List Process) {m : Bool} → Unless m (pairwise other_names l) → m ≡ false → true ≡ pairwise other_names l
+differ-digests l v p = v.passes p
 
--- a place with the later ones
-pub differ-fail : {n : ℕ} {s : List ℕ} {d : Process} {i j : ℕ} {b : Bool} → LaterTo other_names process_from n place_size places_at s d i j → i < n → j < n
-    → b ≡ other_names (process_from (take (places_at + i * place_size + place_size - (places_at + i * place_size)) (drop (places_at + i * place_size) s))) (process_from (take (places_at + j * place_size + place_size - (places_at + j * place_size)) (drop (places_at + j * place_size) s)))
-    → not b ≡ true → false ≡ every (other_names (get_or (map process_from (rows n place_size (drop places_at s))) i d)) (drop (i + 1) (map process_from (rows n place_size (drop places_at s))))
-differ-fail v l h e q = later-fail v l h e q
+-- each with the later ones
+abbrev other_rows : List ℕ → List ℕ → Bool
+other_rows a b = other_names (process_from a) (process_from b)
 
-pub differ-all : {n : ℕ} {s : List ℕ} {d : Process} {i j : ℕ} → LaterTo other_names process_from n place_size places_at s d i j → n ≤ j
-    → true ≡ every (other_names (get_or (map process_from (rows n place_size (drop places_at s))) i d)) (drop (i + 1) (map process_from (rows n place_size (drop places_at s))))
-differ-all v h = later-all v h
+every-map : {A B : Type 0} (f : B → Bool) (g : A → B) (l : List A) → every f (map g l) ≡ every (λ (x : A). f (g x)) l
+unfolding every
+every-map f g [] = refl
+every-map f g (x ∷ l) = ap (λ (b : Bool). f (g x) && b) (every-map f g l)
+
+rows-pairs : (l : List (List ℕ)) → pairwise other_names (standing_in l) ≡ pairwise other_rows l
+unfolding pairwise
+rows-pairs [] = refl
+rows-pairs (x ∷ l) = rw (every-map (other_names (process_from x)) process_from l, rows-pairs l)
+
+pub record DifferTo (l : List (List ℕ)) (i : ℕ) : Type 0 where
+  pub passed : PairsTo other_rows l i
+
+pub differ-begin : (l : List (List ℕ)) → DifferTo l 0
+differ-begin l = record { passed = pairs-begin other_rows l }
+
+module _ {l : List (List ℕ)} {i : ℕ} (v : DifferTo l i) where
+  module _ (h : i < length l) {b : Bool} (e : b ≡ later_others (get_or l i []) (take (length l - (i + 1)) (drop (i + 1) l))) where
+    later : every (other_rows (get_or l i [])) (drop (i + 1) l) ≡ b
+    later =
+        let few : length (drop (i + 1) l) ≤ length l - (i + 1) = simp length-drop (omega arith) in
+        sym (e ∙ rw (take_all (length l - (i + 1)) (drop (i + 1) l) few) (all_every (other_rows (get_or l i [])) (drop (i + 1) l)))
+
+    pub differ-on : b ≡ true → DifferTo l (i + 1)
+    differ-on q = record { passed = pairs-on [] v.passed h (later ∙ q) }
+
+    pub differ-fail : b ≡ false → false ≡ pairwise other_names (standing_in l)
+    differ-fail q = sym (rows-pairs l ∙ pairs-fail [] v.passed h (later ∙ q))
+
+  pub differ-all : length l ≤ i → true ≡ pairwise other_names (standing_in l)
+  differ-all h = sym (rows-pairs l ∙ pairs-all v.passed h)
 
 -- ---- all together
 few-apart : {A : Type 0} (f : A → A → Bool) (l : List A) → length l < 2 → pairwise f l ≡ true
@@ -219,38 +240,31 @@ module _ (b : List ℕ) {t : Bool} (e : t ≡ all_fit b) where
       ap (λ (x : Bool). shaped b && (owned && x)) (pairwise-both no_rivals other_names (standing (state_of b).table))
       ∙ sym (and_assoc (shaped b) (owned && unrivalled) named ∙ ap (λ (x : Bool). shaped b && x) (and_assoc owned unrivalled named))
 
-  pub holds-unfit : not t ≡ true → false ≡ holds_state b
-  holds-unfit u = sym (by_two ∙ rw (← e, not-true t u))
+  pub holds-short : (length b ≡ state_length → ⊥) → false ≡ holds_state b
+  unfolding all_fit shaped rest_is_free
+  holds-short n = sym (by_two ∙ rw (ne_eqb (length b) state_length n))
 
-  module _ (u : not t ≡ false) where
+  pub holds-unfit : t ≡ false → t ≡ holds_state b
+  holds-unfit u = rw u (sym (by_two ∙ rw (← e, u)))
+
+  module _ (u : t ≡ true) {l : List (List ℕ)} (r : l ≡ rows (min (count_in b) places) place_size (drop places_at b)) where
     fits : Shape b
     unfolding all_fit
-    fits = shape b (and_left (shaped b) (owned && unrivalled) (sym e ∙ not-false t u))
+    fits = shape b (and_left (shaped b) (owned && unrivalled) (sym e ∙ u))
 
-    pub fit-counted : count_at < length b
-    fit-counted = omega (arith, fits.long)
+    last : pairwise other_names (standing_in l) ≡ holds_state b
+    unfolding standing places_in
+    last =
+        let every_one : min (count_in b) places ≡ count_in b = omega (arith, fits.room) in
+        sym (by_two ∙ rw (← e, u, state-in b fits.long, r, every_one, map-take process_from (count_in b) (rows places place_size (drop places_at b)), rows_take (count_in b) places place_size (drop places_at b) fits.room))
 
-    pub fit-whole : length (take (length b - 0) (drop 0 b)) ≡ state_length
-    fit-whole = rw (take_all (length b - 0) b (omega arith)) fits.long
+    pub holds-few : length l < 2 → ltb (length l) 2 ≡ holds_state b
+    holds-few m = let few : length (standing_in l) < 2 = rw length-map m in lt-ltb (length l) 2 m ∙ sym (few-apart other_names (standing_in l) few) ∙ last
 
-    module _ {n : ℕ} (w : Widened (get_or b count_at 0) n) where
-      pub fit-few : n ≤ places
-      unfolding count_in
-      fit-few = rw w.is fits.room
+    pub holds-pairs : {a : Bool} → a ≡ pairwise other_names (standing_in l) → a ≡ holds_state b
+    holds-pairs m = m ∙ last
 
-      last : pairwise other_names (map process_from (rows n place_size (drop places_at b))) ≡ holds_state b
-      unfolding count_in standing places_in
-      last =
-          sym (by_two ∙ rw (← e, not-false t u, state-in b fits.long, ← w.is, map-take process_from n (rows places place_size (drop places_at b)), rows_take n places place_size (drop places_at b) fit-few))
+pub rows-few : (b : List ℕ) {l : List (List ℕ)} → l ≡ rows (min (count_in b) places) place_size (drop places_at b) → length l ≤ places
+rows-few b r = rw (r, rows-length) (omega arith)
 
-      pub holds-few : n < 2 → true ≡ holds_state b
-      holds-few l =
-          let m : length (map process_from (rows n place_size (drop places_at b))) < 2 = rw (length-map, rows-length) l in
-          sym (few-apart other_names (map process_from (rows n place_size (drop places_at b))) m) ∙ last
-
-      pub holds-pairs : {a : Bool} → a ≡ pairwise other_names (map process_from (rows n place_size (drop places_at (take (length b - 0) (drop 0 b))))) → a ≡ holds_state b
-      holds-pairs m =
-          let all : take (length b - 0) b ≡ b = take_all (length b - 0) b (omega arith) in
-          m ∙ ap (λ (l : List ℕ). pairwise other_names (map process_from (rows n place_size (drop places_at l)))) all ∙ last
-
-pub ruleset rules = (std_rules, length-mapped, names-other, place-part, later-begin, later-on, differ-fail, differ-all, holds-pairs, holds-few, paired-begin, paired-on, paired-fail, paired-all, name-stands, digests-begin, digests-on, digests-all, sums-begin, sums_on, sums-all, behind-begin, behind-on, behind-all, round-begin, round-on, round-all, differ-digests, holds-unfit, fit-counted, fit-whole, fit-few)
+pub ruleset rules = (std_rules, length-mapped, name-stands, names-other, digests-begin, digests-on, digests-all, sums-begin, sums_on, sums-all, behind-begin, behind-on, behind-all, round-begin, round-on, round-all, differ-digests, differ-begin, differ-on, differ-fail, differ-all, holds-short, holds-unfit, holds-few, holds-pairs, rows-few)

@@ -1,20 +1,20 @@
 -- A number of a place: its name's digest. Equal names have one digest, and one sum of its halves. So where no two places share a sum their names differ, and
 -- only where two do are the names themselves compared.
-use Rattle.std.specs.Prelude.{ℕ, ◌+◌, ◌*◌, ◌/◌, ◌%◌, ◌^◌, ◌<◌, ◌≡◌, Bool, true, false, not, List, map, drop, get_or}
-use Rattle.rows.specs.Rows.{rows, every}
+use Rattle.std.specs.Prelude.{ℕ, ◌+◌, ◌*◌, ◌/◌, ◌%◌, ◌^◌, ◌<◌, ◌≡◌, Bool, true, false, not, List, map, length, get_or}
+use Rattle.std.specs.List.{list_all}
 use Rattle.names.specs.Names.{same_name}
 use Rattle.names.specs.Words.{digest_of}
 use Rattle.table.specs.Table.{free_place, places}
 use Rattle.table.specs.declared.Process.{Process}
-use Rattle.state_layout.specs.Layout.{place_size, places_at, process_from}
+use Rattle.state_layout.specs.Layout.{process_from}
 
--- the processes that stand in the first n places
-abbrev pub standing_in : List ℕ → ℕ → List Process
-standing_in s n = map process_from (rows n place_size (drop places_at s))
+-- the processes that stand in rows of places
+abbrev pub standing_in : List (List ℕ) → List Process
+standing_in l = map process_from l
 
--- the digests of their names; what stands past the n is nobody's
-pub record Digests (s : List ℕ) (n : ℕ) (d : List ℕ) : Type 0 where
-  pub at : (i : ℕ) → i < n → get_or d i 0 ≡ digest_of (get_or (standing_in s n) i free_place).name
+-- the digests of their names; what stands behind them is nobody's
+pub record Digests (l : List (List ℕ)) (d : List ℕ) : Type 0 where
+  pub at : (i : ℕ) → i < length l → get_or d i 0 ≡ digest_of (get_or (standing_in l) i free_place).name
 
 -- a sum of a digest's two halves: three times the lower, and the upper
 abbrev pub half : ℕ
@@ -44,6 +44,6 @@ other_names p q = not (same_name p.name q.name)
 pub record Unless (met test : Bool) : Type 0 where
   pub passes : met ≡ false → true ≡ test
 
--- the name at i is another than each later one of the first n
-abbrev pub later_others : List ℕ → ℕ → ℕ → Bool
-later_others s n i = every (other_names (get_or (standing_in s n) i free_place)) (drop (i + 1) (standing_in s n))
+-- the name at a place is another than each of the later ones
+abbrev pub later_others : List ℕ → List (List ℕ) → Bool
+later_others row later = list_all (λ other. other_names (process_from row) (process_from other)) later

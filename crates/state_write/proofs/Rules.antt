@@ -1,98 +1,95 @@
 -- The laws that close the needs of this crate's functions by `search rules`: each premise is as a place's record has it.
 -- Assumes nothing.
-use Prim.Native.Nat.{ℕ, ◌+◌, ◌-◌, ◌*◌, ◌<◌, ◌≤◌}
-use mathlib.Core.Path.{◌≡◌, sym, ap, ◌∙◌}
+use Rattle.std.specs.Array.{IsMapOf, MapsFrom}
+use Rattle.std.specs.Fn.{Mut, Called}
+use Rattle.std.specs.Int.{from_bool}
+use Rattle.std.proofs.lemmas.List.{ext_get_or}
+use Rattle.lists.proofs.Tests.{split}
+use borrow.Author.Tests.{eqb-true, eqb-false}
+use lib.Dec.{eqb}
+use Prim.Native.Nat.{ℕ, zero, suc, ◌+◌, ◌-◌, ◌*◌, ◌<◌, ◌≤◌}
+use mathlib.Core.Path.{◌≡◌, refl, sym, ap, subst, ◌∙◌}
 use mathlib.Core.Bool.{Bool, true, false}
-use mathlib.Core.List.{List, [], ◌∷◌, map, append_assoc}
+use mathlib.Core.List.{List, [], ◌∷◌, ◌++◌, map, append_assoc}
 use native.Mathlib.Omega.{arith}
 use borrow.Author.Rules.{rules as std_rules}
 use borrow.Rule.Slice.PartMut.{put_mid}
-use lib.ListN.{length, take, drop, get_or, set, length-set, length-drop, length-append}
+use lib.ListN.{length, take, drop, get_or, set, replicate, length-map, get_or-map, length-drop, length-append}
 use lib.Seq.{length-take-le}
 use Rattle.lists.specs.Lists.{join}
 use Rattle.rows.specs.Bytes.{bytes_of, byte_of}
-use Rattle.lists.proofs.Lists.{length-mapped}
 use Rattle.rows.specs.Rows.{over, Put}
 use Rattle.rows.proofs.Bytes.{length-bytes}
-use Rattle.rows.proofs.Over.{over-length, over-room, over-part, over-set, put_byte, put-length, put_next, put_whole}
-use Rattle.rows.proofs.Loops.{Wrote, wrote-begin, wrote-length, wrote-part, wrote_on, wrote-all}
-use Rattle.module_state.specs.Module.{closed_session, unprovisioned, session_count, credential_count, word_size}
+use Rattle.rows.proofs.Over.{over-room, put_byte, put-length, put_next, put_whole}
+use Rattle.rows.proofs.Loops.{Wrote, wrote-begin, wrote_on, wrote-all}
+use Rattle.module_state.specs.Module.{unprovisioned, session_count, credential_count, word_size}
 use Rattle.module_state.specs.declared.Grants.{Grants}
 use Rattle.module_state.specs.declared.SessionState.{SessionState}
 use Rattle.module_state.specs.declared.State.{State}
-use Rattle.state_layout.specs.Layout.{set_flag, flag_at, word_at, second_at, credential_size, place_size, sessions_at, session_size, credentials_at, count_at, count_size, state_length, phase_byte, session_bytes, flag_number, grants_bytes, process_bytes, state_bytes, state_written}
+use Rattle.state_layout.specs.Layout.{flag_at, word_at, second_at, credential_size, place_size, sessions_at, session_size, credentials_at, count_at, count_size, state_length, phase_byte, session_bytes, flag_number, grants_bytes, process_bytes, state_bytes, state_written}
 use Rattle.state_layout.proofs.Laws.{state-written, state-not-written}
 use Rattle.table.specs.Table.{places}
 
--- ---- a flag
-pub flag_true : (f : Bool) → f ≡ true → set_flag ≡ flag_number f
-flag_true f e = rw e
+-- ---- the sessions
+-- what an array is mapped to by a closure that no call changes
+module _ {F A B : Type 0} (g : Mut F (A × Unit {0}) B) (f : F) (h : A → B) (xs : List A) (d : A)
+    (answers : (x : A) (y : B) (f' : F) → Called g f (x, tt) y f' → (y ≡ h x) × (f' ≡ f)) where
+  mapped_from : (ys : List B) (i m : ℕ) (p : F) → p ≡ f → MapsFrom g p xs ys i m → (j : ℕ) → i ≤ j → j < i + m → get_or ys j (h d) ≡ h (get_or xs j d)
+  mapped_from ys i zero p same v j low high = absurd (omega arith)
+  mapped_from ys i (suc m) p same v j low high =
+      let one = answers v.1 v.2 v.0 (subst (λ (c : F). Called g c (v.1, tt) v.2 v.0) same v.5) in
+      split (eqb i j)
+      (λ e. rw (← eqb-true i j e) (v.4.1 (h d) ∙ one.0 ∙ ap h (sym (v.3.1 d))))
+      (λ e. mapped_from ys (i + 1) m v.0 one.1 v.6 j (omega (arith, eqb-false i j e)) (omega arith))
 
-pub flag-false : (f : Bool) → f ≡ false → 0 ≡ flag_number f
-flag-false f e = rw e
+  pub mapped : {ys : List B} {n : ℕ} → length xs ≡ n → IsMapOf g f xs ys n → ys ≡ map h xs
+  mapped {ys} {n} long v =
+      ext_get_or (h d) ys (map h xs) (v.long ∙ sym (length-map xs h ∙ long))
+      (λ j k. mapped_from ys 0 n f refl v.each j (omega arith) (omega (arith, v.long)) ∙ sym (get_or-map h xs j d))
 
--- ---- a row: its fields, written one after another
-word-put : (at word : ℕ) (old : List ℕ) {new : List ℕ} → new ≡ over at word_size (bytes_of word_size word) old → Put at word_size (bytes_of word_size word) old new
-word-put at word old p = record { long = length-bytes word_size word; is = p }
+-- the bytes of the sessions, one for each
+session-bytes : (l : List SessionState) → map (λ (x : SessionState). phase_byte x.phase) l ≡ join (map session_bytes l)
+unfolding session_bytes join
+session-bytes [] = refl
+session-bytes (x ∷ xs) = ap (λ (rest : List ℕ). phase_byte x.phase ∷ rest) (session-bytes xs)
 
-word_same : (at word : ℕ) (old : List ℕ) {new : List ℕ} → new ≡ over at word_size (bytes_of word_size word) old → length new ≡ length old
-word_same at word old p = ap length p ∙ over-length at word_size (bytes_of word_size word) old (length-bytes word_size word)
+pub sessions-put : (l : List SessionState) (old : List ℕ) {phases bytes : List ℕ} → length l ≡ session_count → length old ≡ state_length
+    → phases ≡ map (λ (x : SessionState). phase_byte x.phase) l → bytes ≡ phases
+    → Put sessions_at (session_count * session_size) (join (map session_bytes l)) old (bytes ++ drop (session_count * session_size) old)
+sessions-put l old {phases} {bytes} h k e q =
+    let is : bytes ≡ join (map session_bytes l) = q ∙ e ∙ session-bytes l in
+    let long : length bytes ≡ session_count * session_size = ap length (q ∙ e) ∙ length-map l (λ (x : SessionState). phase_byte x.phase) ∙ h in
+    record { long = rw (← is) long; is = rw is (sym (over-room sessions_at (session_count * session_size) (join (map session_bytes l)) old (omega arith))) }
 
-module _ (part : List ℕ) (g : Grants) (f : ℕ) (h : length part ≡ credential_size) where
-  pub grants-same : {first new : List ℕ} → first ≡ over word_at word_size (bytes_of word_size g.words.grant) (set part flag_at f) → new ≡ over second_at word_size (bytes_of word_size g.words.second) first → length new ≡ length part
-  grants-same {first} p q = word_same second_at g.words.second first q ∙ word_same word_at g.words.grant (set part flag_at f) p ∙ length-set part flag_at f
+-- ---- a credential: its fields, written one after another over zeros
+flag-number : (f : Bool) → from_bool f ≡ flag_number f
+flag-number true = refl
+flag-number false = refl
 
-  pub grants-put : {first new : List ℕ} → f ≡ flag_number g.provisioned
-      → first ≡ over word_at word_size (bytes_of word_size g.words.grant) (set part flag_at f) → new ≡ over second_at word_size (bytes_of word_size g.words.second) first
-      → new ≡ grants_bytes g
-  unfolding grants_bytes
-  grants-put {first} e p q =
-      let flag-put : Put flag_at 1 (f ∷ []) part (set part flag_at f) = put_byte flag_at f part (omega arith) in
-      let words-put = put_next (word-put word_at g.words.grant (set part flag_at f) p) (word-put second_at g.words.second first q) (omega (arith, length-set part flag_at f)) in
-      put_whole (put_next flag-put words-put (omega arith)) h ∙ rw e
+pub grants-put : (g : Grants) {f : ℕ} {first new : List ℕ} → f ≡ from_bool g.provisioned
+    → first ≡ over word_at word_size (bytes_of word_size g.words.grant) (set (replicate credential_size 0) flag_at f)
+    → new ≡ over second_at word_size (bytes_of word_size g.words.second) first
+    → new ≡ grants_bytes g
+unfolding grants_bytes
+grants-put g {f} {first} {new} e p q =
+    let zeros : List ℕ = replicate credential_size 0 in
+    let flag : Put flag_at 1 (f ∷ []) zeros (set zeros flag_at f) = put_byte flag_at f zeros (omega arith) in
+    let word : Put word_at word_size (bytes_of word_size g.words.grant) (set zeros flag_at f) first = record { long = length-bytes word_size g.words.grant; is = p } in
+    let second : Put second_at word_size (bytes_of word_size g.words.second) first new = record { long = length-bytes word_size g.words.second; is = q } in
+    put_whole (put_next flag (put_next word second (omega arith)) (omega arith)) refl ∙ rw (e, flag-number)
 
--- ---- the rows of an array
-pub sessions-begin : (l : List SessionState) (old : List ℕ) → length l ≡ session_count → length old ≡ state_length → Wrote session_bytes session_size sessions_at l old old 0
-sessions-begin l old h k = wrote-begin session_bytes session_size sessions_at l old (rw h (omega arith))
-
-module _ {l : List SessionState} {old new : List ℕ} {i : ℕ} (v : Wrote session_bytes session_size sessions_at l old new i) (h : length l ≡ session_count) where
-  pub sessions-room : length old ≡ state_length → i < session_count → i < length new
-  sessions-room q k = omega (arith, wrote-length v)
-
-  pub sessions-next : i < session_count → {b : ℕ} → b ≡ phase_byte (get_or l i closed_session).phase → Wrote session_bytes session_size sessions_at l old (set new i b) (i + 1)
-  unfolding session_bytes
-  sessions-next k {b} e =
-      let n : sessions_at + i * session_size ≡ i = omega arith in
-      let m : i + 1 - i ≡ 1 = omega arith in
-      let r : i < length new = omega (arith, v.room, wrote-length v, rw h at v.room) in
-      let j : i < length l = rw h k in
-      let x : b ∷ [] ≡ session_bytes (get_or l i closed_session) = rw e in
-      let w : Wrote session_bytes session_size sessions_at l old (put_mid (sessions_at + i * session_size) (sessions_at + i * session_size + session_size - (sessions_at + i * session_size)) new (b ∷ [])) (i + 1) =
-      wrote_on v closed_session j x (sym (wrote-part v j))
-      in
-      let q : put_mid (sessions_at + i * session_size) (sessions_at + i * session_size + session_size - (sessions_at + i * session_size)) new (b ∷ []) ≡ set new i b = rw (n, m, over-part i 1 (b ∷ []) new (omega arith)) (sym (over-set i b new r)) in
-      rw q at w
-
-  pub sessions-all : session_count ≤ i → Put sessions_at (session_count * session_size) (join (map session_bytes l)) old new
-  sessions-all k = rw h at (wrote-all v (rw h k))
-
+-- ---- the credentials
 pub credentials-begin : (l : List Grants) (old : List ℕ) → length l ≡ credential_count → length old ≡ state_length → Wrote grants_bytes credential_size credentials_at l old old 0
 credentials-begin l old h k = wrote-begin grants_bytes credential_size credentials_at l old (rw h (omega arith))
 
-module _ {l : List Grants} {old new : List ℕ} {i : ℕ} (v : Wrote grants_bytes credential_size credentials_at l old new i) where
-  pub credentials-end : length old ≡ state_length → i < credential_count → credentials_at + i * credential_size + credential_size ≤ length new
-  credentials-end h k = omega (arith, wrote-length v)
+module _ {l : List Grants} {old new : List ℕ} {i : ℕ} (v : Wrote grants_bytes credential_size credentials_at l old new i) (h : length l ≡ credential_count) where
+  pub credentials-next : {bytes ys : List ℕ} → i < credential_count → bytes ≡ grants_bytes (get_or l i unprovisioned) → ys ≡ bytes
+      → length ys ≡ length (take (credentials_at + i * credential_size + credential_size - (credentials_at + i * credential_size)) (drop (credentials_at + i * credential_size) new))
+      → Wrote grants_bytes credential_size credentials_at l old (put_mid (credentials_at + i * credential_size) (credentials_at + i * credential_size + credential_size - (credentials_at + i * credential_size)) new ys) (i + 1)
+  credentials-next k b e g = wrote_on v unprovisioned (rw h k) (e ∙ b) g
 
-  module _ (h : length l ≡ credential_count) where
-    pub credentials-part : i < credential_count → length (take (credentials_at + i * credential_size + credential_size - (credentials_at + i * credential_size)) (drop (credentials_at + i * credential_size) new)) ≡ credential_size
-    credentials-part k = wrote-part v (rw h k)
-
-    pub credentials-next : {ys : List ℕ} → i < credential_count → ys ≡ grants_bytes (get_or l i unprovisioned) → length ys ≡ length (take (credentials_at + i * credential_size + credential_size - (credentials_at + i * credential_size)) (drop (credentials_at + i * credential_size) new))
-        → Wrote grants_bytes credential_size credentials_at l old (put_mid (credentials_at + i * credential_size) (credentials_at + i * credential_size + credential_size - (credentials_at + i * credential_size)) new ys) (i + 1)
-    credentials-next k e g = wrote_on v unprovisioned (rw h k) e g
-
-    pub credentials-all : credential_count ≤ i → Put credentials_at (credential_count * credential_size) (join (map grants_bytes l)) old new
-    credentials-all k = rw h at (wrote-all v (rw h k))
+  pub credentials-all : credential_count ≤ i → Put credentials_at (credential_count * credential_size) (join (map grants_bytes l)) old new
+  credentials-all k = rw h at (wrote-all v (rw h k))
 
 -- ---- the parts, one after the other
 
@@ -113,4 +110,4 @@ unfolding state_bytes
 written_all old st h p q t m =
     put_whole (put_next (put_next p q (omega arith)) (same-put t m (omega (arith, put-length p, put-length q))) (omega arith)) h ∙ rw (state-written old st h) (simp append_assoc)
 
-pub ruleset rules = (std_rules, length-mapped, flag_true, flag-false, grants-same, grants-put, wrote-length, sessions-begin, sessions-room, sessions-next, sessions-all, credentials-begin, credentials-end, credentials-part, credentials-next, credentials-all, written-other, written_all)
+pub ruleset rules = (std_rules, credentials-begin, credentials-all, written-other, written_all)

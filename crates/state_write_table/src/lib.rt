@@ -1,13 +1,13 @@
 // The table of a state, written into a slice: all of it, or the next number of one place. docs/STATE.md draws the layout.
-#![tactic(auto)]
+#![tactic(auto, using(crate::proofs::Rules::rules))]
 
-ghost use Rattle.std.specs.Prelude.{◌≡◌, map, [], ◌∷◌, ◌+◌, ◌*◌, ◌≤◌, length};
+ghost use Rattle.std.specs.Prelude.{◌≡◌, map, ◌∷◌, ◌+◌, ◌*◌};
 ghost use Rattle.lists.specs.Lists.{join};
 ghost use Rattle.rows.specs.Bytes.{byte_of};
 ghost use Rattle.rows.specs.Rows.{over, Put};
 ghost use Rattle.names.specs.Names.{kind_number};
 ghost use Rattle.table.specs.Table.{places};
-ghost use Rattle.state_layout.specs.Layout.{place_size, count_at, count_size, places_at, state_length, process_bytes, next_written};
+ghost use Rattle.state_layout.specs.Layout.{place_size, count_at, count_size, places_at, process_bytes, next_written};
 
 use names::Kind;
 use state_layout::{
@@ -24,49 +24,36 @@ fn kind_number(kind: Kind) -> u8
     names::type_number(names::type_of(kind))
 }
 
-fn put_process(part: &mut [u8], p: Process)
-    requires { length part.old ≡ place_size }
-    ensures { part.new ≡ process_bytes p }
+fn process_bytes(p: Process) -> [u8; PLACE_SIZE]
+    ensures { result ≡ process_bytes p }
 {
-    let kind = p.kind;
-    part[OWNER_AT] = rows::byte_of(p.credential.0 as usize);
-    part[KIND_AT] = kind_number(kind);
-    part[SESSION_AT] = p.session.0;
-    rows::put_number16(part, NEXT_AT, p.next);
-    names::put_name(&mut part[NAME_AT..PLACE_SIZE], p.name);
+    let mut place = [0; PLACE_SIZE];
+    place[OWNER_AT] = rows::byte_of(usize::from(p.credential.0));
+    place[KIND_AT] = kind_number(p.kind);
+    place[SESSION_AT] = p.session.0;
+    rows::put_number16(&mut place, NEXT_AT, p.next);
+    place[NAME_AT..].copy_from_slice(&p.name.bytes);
+    place
 }
 
-fn put_places(s: &mut [u8], l: [Process; PLACES])
-    requires { state_length ≤ length s.old }
+fn put_places(s: &mut [u8; STATE_LENGTH], l: [Process; PLACES])
     ensures { Put places_at (places * place_size) (join (map process_bytes l)) s.old s.new }
 {
-    let mut i: usize = 0;
-    while i < PLACES {
-        let p = l[i];
-        let a = PLACES_AT + i * PLACE_SIZE;
-        let e = a + PLACE_SIZE;
-        put_process(&mut s[a..e], p);
-        i += 1;
+    for i in 0..PLACES {
+        let start = PLACES_AT + i * PLACE_SIZE;
+        s[start..start + PLACE_SIZE].copy_from_slice(&process_bytes(l[i]));
     }
 }
 
 // ---- the table
 
-fn put_count(s: &mut [u8], count: usize)
-    requires { state_length ≤ length s.old }
-    ensures { Put count_at count_size (byte_of count ∷ []) s.old s.new }
-{
-    s[COUNT_AT] = rows::byte_of(count);
-}
-
 // The count and the places, in a slice that has room for a state. A shorter one stays.
 pub fn put_table(s: &mut [u8], t: Table)
     ensures { s.new ≡ over count_at (count_size + places * place_size) (byte_of t.count ∷ join (map process_bytes t.places)) s.old }
 {
-    if STATE_LENGTH <= s.len() {
-        let places = t.places;
-        put_count(s, t.count);
-        put_places(s, places);
+    if let Some(s) = s.first_chunk_mut::<STATE_LENGTH>() {
+        s[COUNT_AT] = rows::byte_of(t.count);
+        put_places(s, t.places);
     }
 }
 
@@ -74,10 +61,7 @@ pub fn put_table(s: &mut [u8], t: Table)
 pub fn write_next(s: &mut [u8], at: usize, next: u16)
     ensures { s.new ≡ next_written s.old at next }
 {
-    if s.len() == STATE_LENGTH {
-        if at < PLACES {
-            let a = PLACES_AT + at * PLACE_SIZE;
-            rows::put_number16(s, a + NEXT_AT, next);
-        }
+    if s.len() == STATE_LENGTH && at < PLACES {
+        rows::put_number16(s, PLACES_AT + at * PLACE_SIZE + NEXT_AT, next);
     }
 }

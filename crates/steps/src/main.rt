@@ -2,18 +2,14 @@
 // number of each call. Then step 13 by refusals, and the relay's attack. What it writes is compared with the file stdout beside it.
 #![tactic(auto)]
 
-use module_state::{CREDENTIALS, DONE, NOT_GRANTED, SPENT};
+use module_state::{CREDENTIALS, DONE, Refusal};
 use names::NAME_LENGTH;
 use state_layout::STATE_LENGTH;
 
 // 16 zero bytes, 31 of one value and a last one.
 fn name(most: u8, last: u8) -> [u8; NAME_LENGTH] {
     let mut bytes = [0u8; NAME_LENGTH];
-    let mut i: usize = 16;
-    while i < 47 {
-        bytes[i] = most;
-        i += 1;
-    }
+    bytes[16..47].fill(most);
     bytes[47] = last;
     bytes
 }
@@ -59,7 +55,7 @@ fn end_line(rt: &HostRuntime) {
 
 // Writes the number that an entry answered.
 fn told(rt: &HostRuntime, n: u32) {
-    say(rt, n as u64);
+    say(rt, u64::from(n));
 }
 
 fn open(rt: &HostRuntime, state: &mut [u8], s: u32) {
@@ -206,16 +202,11 @@ fn step10(rt: &HostRuntime, state: &mut [u8]) {
 }
 
 fn next_number(state: &[u8]) -> u64 {
-    let st = state_read::read(state);
-    let t = st.table;
-    let one = table::process_at(t, 0);
-    one.next as u64
+    u64::from(table::process_at(state_read::read(state).table, 0).next)
 }
 
 fn standing(state: &[u8]) -> u64 {
-    let st = state_read::read(state);
-    let t = st.table;
-    table::size(t) as u64
+    table::size(state_read::read(state).table) as u64
 }
 
 // The numbers, and the next number of the one process.
@@ -235,11 +226,9 @@ fn step11(rt: &HostRuntime, state: &mut [u8]) {
 
 // Eleven saved processes of credential 0 beside the active one: twelve stand.
 fn fill(state: &mut [u8]) {
-    let mut i: u8 = 0;
-    while i < 11 {
+    for i in 0..11 {
         entries_unprotected::slavotuk_start(state, PORT, 0, 0, &name(0x33, i));
         entries_protected::slavotuk_end(state, PORT, 0, 0, 0, YES, KEPT);
-        i += 1;
     }
 }
 
@@ -256,12 +245,10 @@ fn step12(rt: &HostRuntime, state: &mut [u8]) {
 // Numbers 0 to 65,534 of credential 1, each in turn, with that class: how many get that number.
 fn spend(rt: &HostRuntime, state: &mut [u8], class: u32, number: u32) {
     let mut got: u64 = 0;
-    let mut i: u16 = 0;
-    while i < 65535 {
+    for i in 0..65535 {
         if entries_protected::slavotuk_record(state, PORT, 0, USER, 1, i, YES, class) == number {
             got += 1;
         }
-        i += 1;
     }
     say(rt, got);
 }
@@ -269,22 +256,18 @@ fn spend(rt: &HostRuntime, state: &mut [u8], class: u32, number: u32) {
 // Then every number: how many get 13.
 fn spent(rt: &HostRuntime, state: &mut [u8]) {
     let mut refused: u64 = 0;
-    let mut i: u16 = 0;
-    loop {
-        if entries_protected::slavotuk_record(state, PORT, 0, USER, 1, i, YES, 4) == SPENT as u32 {
+    for i in 0u64..65536 {
+        let answer = entries_protected::slavotuk_record(state, PORT, 0, USER, 1, i as u16, YES, 4);
+        if answer == Refusal::Spent as u32 {
             refused += 1;
         }
-        if i == 65535 {
-            break;
-        }
-        i += 1;
     }
     say(rt, refused);
 }
 
-fn step13(rt: &HostRuntime, state: &mut [u8], class: u32, number: u8) {
+fn step13(rt: &HostRuntime, state: &mut [u8], class: u32, number: u32) {
     begin(rt, 13);
-    spend(rt, state, class, number as u32);
+    spend(rt, state, class, number);
     spent(rt, state);
     end_line(rt);
 }
@@ -325,8 +308,8 @@ fn main(rt: HostRuntime) {
     steps1_to_6(&rt, &mut state);
     steps7_to_12(&rt, &mut state);
     let mut refused = state;
-    step13(&rt, &mut state, 4, DONE);
-    step13(&rt, &mut refused, 5, NOT_GRANTED);
+    step13(&rt, &mut state, 4, u32::from(DONE));
+    step13(&rt, &mut refused, 5, Refusal::NotGranted as u32);
     fresh(&mut state);
     relay(&rt, &mut state);
 }

@@ -5,12 +5,10 @@ use mathlib.Core.Path.{◌≡◌, refl, sym, ap, ◌∙◌}
 use mathlib.Core.Bool.{false}
 use mathlib.Core.List.{List, [], ◌∷◌, map}
 use native.Mathlib.Omega.{arith}
-use mir.Val.{Fits}
-use mir.Syntax.{w64}
 use borrow.Author.Rules.{rules as std_rules}
-use borrow.Author.Tests.{le-leb, lt-leb}
+use borrow.Author.Tests.{le-leb, lt-leb, lt-ltb, le-ltb}
 use lib.Dec.{eqb}
-use lib.ListN.{length, take, drop, get_or, replicate, length-take, get_or-eq_default}
+use lib.ListN.{length, take, drop, get_or, set, replicate, length-take, get_or-eq_default}
 use lib.Seq.{length-take-le, take_all, take-take}
 use Rattle.lists.specs.Each.{Each, each-cons}
 use Rattle.lists.proofs.Tests.{below}
@@ -27,7 +25,7 @@ use Rattle.store_layout.specs.Layout.{lock_at, length_at, length_size, head_size
 use Rattle.store_layout.specs.declared.Head.{Head}
 use Rattle.store_layout.specs.declared.Heads.{Heads}
 use Rattle.store_layout.proofs.Parts.{store-in, store-not-in, heads-length, rooms-length, rooms-whole, head_at, room_at, helds-length, held_at}
-use Rattle.store_read.specs.Reads.{head_in, length_from, head_from, parameters_over}
+use Rattle.store_read.specs.Reads.{head_in, head_part, length_from, head_from, parameters_over}
 
 -- ---- a head
 module _ (x : List ℕ) {n : ℕ} (e : n ≡ number_at length_size length_at x) where
@@ -42,6 +40,25 @@ module _ (x : List ℕ) {n : ℕ} (e : n ≡ number_at length_size length_at x) 
 pub head_read : (x : List ℕ) {f n : ℕ} → f ≡ get_or x lock_at 0 → n ≡ length_from x → ◌≡◌ {A = Head} (record { locked = eqb f set_flag; length = n }) (head_from x)
 unfolding head_from
 head_read x e q = rw (e, q)
+
+pub part_in : (s : List ℕ) (i : ℕ) {p : List ℕ} → p ≡ head_part s i → i < credential_count → p ≡ head_in s i
+unfolding head_part
+part_in s i e h = e ∙ rw (lt-ltb i credential_count h)
+
+pub part_inside : (s : List ℕ) (i : ℕ) {p : List ℕ} → i < credential_count → p ≡ head_in s i → p ≡ head_part s i
+unfolding head_part
+part_inside s i h e = e ∙ rw (lt-ltb i credential_count h)
+
+pub part_outside : (s : List ℕ) (i : ℕ) → credential_count ≤ i → [] ≡ head_part s i
+unfolding head_part
+part_outside s i h = rw (le-ltb i credential_count h)
+
+pub heads_next : {s p : List ℕ} {out₀ out : List Head} {i : ℕ} {x : Head} → FilledBy head_from credential_count head_size heads_at s out₀ out i → i < credential_count → x ≡ head_from p → p ≡ head_in s i
+    → FilledBy head_from credential_count head_size heads_at s out₀ (set out i x) (i + 1)
+unfolding head_in
+heads_next {i = i} v h e q =
+    let k : heads_at + i * head_size + head_size - (heads_at + i * head_size) ≡ head_size = omega arith in
+    filled_next v h (e ∙ rw (q, k))
 
 pub heads_done : {s : List ℕ} {out₀ out : List Head} {i : ℕ} → FilledBy head_from credential_count head_size heads_at s out₀ out i → credential_count ≤ i → out ≡ map head_from (heads_in s)
 unfolding heads_in
@@ -75,23 +92,12 @@ heads-read s h e =
     rw (store-in s h, e, heads-held (heads_in s) (rooms_in s) same (rooms-whole s h))
 
 -- ---- the parameters of a credential
-pub length_part : (s : List ℕ) (i : ℕ) {n : ℕ} → n ≡ length_from (take (heads_at + i * head_size + head_size - (heads_at + i * head_size)) (drop (heads_at + i * head_size) s)) → n ≡ length_from (head_in s i)
-unfolding head_in
-length_part s i e = let k : heads_at + i * head_size + head_size - (heads_at + i * head_size) ≡ head_size = omega arith in e ∙ rw k
-
-length-room : (x : List ℕ) {n : ℕ} → n ≡ length_from x → n ≤ parameters_size
+pub length-room : (x : List ℕ) {n : ℕ} → n ≡ length_from x → n ≤ parameters_size
 unfolding length_from
 length-room x {n} e =
     below parameters_size (length_in x)
     (λ k. let q : n ≡ parameters_size = e ∙ rw (lt-leb (length_in x) parameters_size k) in omega arith)
     (λ k. let q : n ≡ length_in x = e ∙ rw (le-leb (length_in x) parameters_size k) in omega arith)
-
-module _ (s : List ℕ) {i n : ℕ} (k : i < credential_count) (e : n ≡ length_from (head_in s i)) where
-  pub length-sum : Fits w64 (parameters_at + i * parameters_size + n)
-  length-sum = record { fits = omega (arith, length-room (head_in s i) e) }
-
-  pub length-end : length s ≡ store_length → parameters_at + i * parameters_size + n ≤ length s
-  length-end h = omega (arith, length-room (head_in s i) e)
 
 module _ (s : List ℕ) (c : Credential) (old : List ℕ) where
   none-held : held_of (store_of s) c ≡ nothing → old ≡ parameters_over (held_of (store_of s) c).parameters old
@@ -136,4 +142,4 @@ module _ (s : List ℕ) (c : Credential) (old : List ℕ) where
 pub copy-same : (bytes old : List ℕ) {new : List ℕ} → new ≡ over 0 (length bytes) bytes old → length new ≡ length old
 copy-same bytes old p = ap length p ∙ over-length 0 (length bytes) bytes old refl
 
-pub ruleset rules = (std_rules, length-mapped, length-within, length-past, head_read, filled-begin, filled_next, heads_done, heads-other, heads-read, length_part, length-sum, length-end, copy-other, copy-nowhere, copy-inside, copy-same)
+pub ruleset rules = (std_rules, length-mapped, length-within, length-past, head_read, part_in, part_inside, part_outside, filled-begin, heads_next, heads_done, heads-other, heads-read, length-room, copy-other, copy-nowhere, copy-inside, copy-same)

@@ -1,6 +1,7 @@
 -- What is read of a store: a head by itself, and parameters in a buffer.
-use Rattle.std.specs.Prelude.{ℕ, ◌+◌, ◌*◌, cond, List, eqb, leb, length, take, drop, get_or}
+use Rattle.std.specs.Prelude.{ℕ, ◌+◌, ◌*◌, cond, List, [], eqb, ltb, leb, length, take, drop, get_or}
 use Rattle.rows.specs.Rows.{over}
+use Rattle.module_state.specs.Module.{credential_count}
 use Rattle.state_layout.specs.Layout.{set_flag}
 use Rattle.store_layout.specs.Layout.{lock_at, head_size, heads_at, length_in}
 use Rattle.store_layout.specs.Store.{parameters_size}
@@ -9,6 +10,10 @@ use Rattle.store_layout.specs.declared.Head.{Head}
 -- the bytes of a credential's head
 unfoldable pub head_in : List ℕ → ℕ → List ℕ
 head_in b i = take head_size (drop (heads_at + i * head_size) b)
+
+-- none where there is no such credential
+unfoldable pub head_part : List ℕ → ℕ → List ℕ
+head_part b i = cond (ltb i credential_count) (head_in b i) []
 
 -- the length of the parameters that such bytes say: what is over the room's counts as the room's
 unfoldable pub length_from : List ℕ → ℕ

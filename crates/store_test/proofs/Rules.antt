@@ -20,30 +20,29 @@ use Rattle.module_state.specs.Module.{credential_count}
 use Rattle.module_state.specs.declared.Grants.{Grants}
 use Rattle.state_layout.specs.Layout.{set_flag}
 use Rattle.store_layout.specs.Store.{parameters_size, head_fits, each_fits, fits}
-use Rattle.store_layout.specs.Layout.{lock_at, length_at, length_size, head_size, heads_at, owned_at, parameters_at, store_length, length_in, head_fits_in, room_fits_in, rooms_fit, heads_in, rooms_in, is_store}
+use Rattle.store_layout.specs.Layout.{head_size, heads_at, owned_at, parameters_at, store_length, head_fits_in, room_fits_in, rooms_fit, heads_in, rooms_in, is_store}
 use Rattle.store_layout.specs.declared.Head.{Head}
 use Rattle.store_layout.specs.declared.Heads.{Heads}
+use Rattle.store_read.specs.Reads.{head_in}
+use Rattle.store_read.proofs.Rules.{part_in}
 use Rattle.store_layout.proofs.Parts.{heads-length, rooms-length, head_at, room_at}
 
--- ---- a head
-module _ (x : List ℕ) {f : ℕ} (e : f ≡ get_or x lock_at 0) where
-  pub head-high : set_flag < f → false ≡ head_fits_in x
-  unfolding head_fits_in
-  head-high h = rw (← e, lt-leb f set_flag h)
-
-  pub head-tested : f ≤ set_flag → {n : ℕ} → n ≡ number_at length_size length_at x → leb n parameters_size ≡ head_fits_in x
-  unfolding head_fits_in length_in
-  head-tested h q = rw (← e, le-leb f set_flag h, q)
-
+-- ---- the heads
 pub heads-all : {s : List ℕ} {i : ℕ} → RowsTo head_fits_in credential_count head_size heads_at s i → credential_count ≤ i → true ≡ every head_fits_in (heads_in s)
 unfolding heads_in
 heads-all v h = rows_all v h
 
-module _ {s : List ℕ} {i : ℕ} {b : Bool} (v : RowsTo head_fits_in credential_count head_size heads_at s i) (h : i < credential_count)
-    (e : b ≡ head_fits_in (take (heads_at + i * head_size + head_size - (heads_at + i * head_size)) (drop (heads_at + i * head_size) s))) where
+module _ {s p : List ℕ} {i : ℕ} {b : Bool} (v : RowsTo head_fits_in credential_count head_size heads_at s i) (h : i < credential_count) (e : b ≡ head_fits_in p) (t : p ≡ head_in s i) where
+  head-here : b ≡ head_fits_in (take (heads_at + i * head_size + head_size - (heads_at + i * head_size)) (drop (heads_at + i * head_size) s))
+  unfolding head_in
+  head-here = let m : heads_at + i * head_size + head_size - (heads_at + i * head_size) ≡ head_size = omega arith in e ∙ rw (t, m)
+
+  pub heads-on : not b ≡ false → RowsTo head_fits_in credential_count head_size heads_at s (i + 1)
+  heads-on q = rows_on v h head-here q
+
   pub heads-fail : not b ≡ true → false ≡ every head_fits_in (heads_in s)
   unfolding heads_in
-  heads-fail q = rows-fail v h e q
+  heads-fail q = rows-fail v h head-here q
 
 -- ---- a room: zero bytes from a place on, with no exit
 pub record ClearTo (room : List ℕ) (from d i : ℕ) : Type 0 where
@@ -63,10 +62,6 @@ module _ {room : List ℕ} {from d i : ℕ} (v : ClearTo room from d i) where
   pub clear-all : length room ≤ i → eqb d 0 ≡ every is_zero (drop from room)
   unfolding every
   clear-all h = sym (v.rest ∙ rw (drop_of_length-le room h) (and-true (is_zero d)))
-
-pub room-tested : (head room : List ℕ) {n : ℕ} {b : Bool} → n ≡ number_at length_size length_at head → b ≡ every is_zero (drop n room) → b ≡ room_fits_in head room
-unfolding room_fits_in length_in
-room-tested head room e q = q ∙ rw e
 
 -- ---- two lists tested together, one element of each at a time: the first i passed. `all` is the test of them all, `one` that of two
 module _ {A B : Type 0} where
@@ -112,13 +107,14 @@ module _ {s : List ℕ} {i : ℕ} (v : RoomsTo s i) where
   pub rooms-all : credential_count ≤ i → true ≡ rooms_fit (heads_in s) (rooms_in s)
   rooms-all h = both-all rooms-together v.passed (omega (arith, heads-length s))
 
-  module _ (h : i < credential_count) {p : Bool}
-      (e : p ≡ room_fits_in (take (heads_at + i * head_size + head_size - (heads_at + i * head_size)) (drop (heads_at + i * head_size) s)) (take (parameters_at + i * parameters_size + parameters_size - (parameters_at + i * parameters_size)) (drop (parameters_at + i * parameters_size) s))) where
+  module _ (h : i < credential_count) {head : List ℕ} {p : Bool}
+      (e : p ≡ room_fits_in head (take (parameters_at + i * parameters_size + parameters_size - (parameters_at + i * parameters_size)) (drop (parameters_at + i * parameters_size) s)))
+      (t : head ≡ head_in s i) where
     here : p ≡ room_fits_in (get_or (heads_in s) i []) (get_or (rooms_in s) i [])
+    unfolding head_in
     here =
-        let m : heads_at + i * head_size + head_size - (heads_at + i * head_size) ≡ head_size = omega arith in
         let n : parameters_at + i * parameters_size + parameters_size - (parameters_at + i * parameters_size) ≡ parameters_size = omega arith in
-        e ∙ rw (m, n, head_at s i h, room_at s i h)
+        e ∙ rw (t, n, head_at s i h, room_at s i h)
 
     inside : i < length (heads_in s)
     inside = omega (arith, heads-length s)
@@ -135,35 +131,24 @@ module _ (s : List ℕ) where
   unfolding is_store
   store_other n = rw (ne_eqb (length s) store_length n)
 
-  module _ (h : length s ≡ store_length) where
-    pub store-owned : set_flag < get_or s owned_at 0 → false ≡ is_store s
+  module _ (h : length s ≡ store_length) {x : Bool} where
+    pub store-owned : set_flag < get_or s owned_at 0 → x ≡ false → x ≡ is_store s
     unfolding is_store
-    store-owned k = rw (eq-eqb (length s) store_length h, lt-leb (get_or s owned_at 0) set_flag k)
+    store-owned k e = e ∙ rw (eq-eqb (length s) store_length h, lt-leb (get_or s owned_at 0) set_flag k)
 
-    module _ (k : get_or s owned_at 0 ≤ set_flag) {p : Bool} (e : p ≡ every head_fits_in (heads_in s)) where
-      pub store-heads : not p ≡ true → false ≡ is_store s
-      unfolding is_store
-      store-heads t = rw (eq-eqb (length s) store_length h, le-leb (get_or s owned_at 0) set_flag k, ← e, not-true p t)
+    module _ (k : get_or s owned_at 0 ≤ set_flag) {p : Bool} (e : p ≡ every head_fits_in (heads_in s)) (f : x ≡ p) where
+      heads : x ≡ every head_fits_in (heads_in s)
+      heads = f ∙ e
 
-      pub store-rooms : not p ≡ false → {q : Bool} → q ≡ rooms_fit (heads_in s) (rooms_in s) → q ≡ is_store s
+      pub store-heads : x ≡ false → x ≡ is_store s
       unfolding is_store
-      store-rooms t f = f ∙ rw (eq-eqb (length s) store_length h, le-leb (get_or s owned_at 0) set_flag k, ← e, not-false p t)
+      store-heads n = n ∙ rw (eq-eqb (length s) store_length h, le-leb (get_or s owned_at 0) set_flag k, ← heads, n)
+
+      pub store-rooms : x ≡ true → {q : Bool} → q ≡ rooms_fit (heads_in s) (rooms_in s) → q ≡ is_store s
+      unfolding is_store
+      store-rooms n g = g ∙ rw (eq-eqb (length s) store_length h, le-leb (get_or s owned_at 0) set_flag k, ← heads, n)
 
 -- ---- a head beside a credential's grants
-module _ (g : Grants) (h : Head) where
-  pub grants-provisioned : g.provisioned ≡ true → true ≡ head_fits g h
-  unfolding head_fits
-  grants-provisioned e = rw e
-
-  module _ (e : g.provisioned ≡ false) where
-    pub grants-locked : h.locked ≡ true → false ≡ head_fits g h
-    unfolding head_fits
-    grants-locked l = rw (e, l)
-
-    pub grants-unlocked : h.locked ≡ false → eqb h.length 0 ≡ head_fits g h
-    unfolding head_fits
-    grants-unlocked l = rw (e, l)
-
 each-together : Together head_fits each_fits
 unfolding each_fits
 each-together = record { none = λ ys. refl; more = λ x xs y ys. refl }
@@ -187,4 +172,4 @@ module _ (l : List Grants) (n : length l ≡ credential_count) where
     unfolding fits
     fits-fail heads v h e q = both-fail each-together v.passed a b (omega arith) e q
 
-pub ruleset rules = (std_rules, length-mapped, head-high, head-tested, rows-begin, rows_on, heads-all, heads-fail, clear-begin, clear-on, clear-all, room-tested, rooms-begin, rooms-all, rooms-on, rooms-fail, store_other, store-owned, store-heads, store-rooms, grants-provisioned, grants-locked, grants-unlocked, fits-begin, fits_all, fits_on, fits-fail)
+pub ruleset rules = (std_rules, length-mapped, part_in, rows-begin, heads-on, heads-all, heads-fail, clear-begin, clear-on, clear-all, rooms-begin, rooms-all, rooms-on, rooms-fail, store_other, store-owned, store-heads, store-rooms, fits-begin, fits_all, fits_on, fits-fail)

@@ -9,15 +9,17 @@ use native.Mathlib.Numerals.{add-one}
 use native.Mathlib.Omega.{arith}
 use borrow.Author.Rules.{rules as std_rules}
 use borrow.Author.Tests.{eq-eqb, ne_eqb, le-leb, lt-leb}
+use borrow.Rule.Slice.PartMut.{put_mid}
+use mir.Val.{bool_byte as from_bool}
 use lib.Arith.{digits_div, digits_mod}
-use lib.ListN.{length, drop, get_or, set, replicate, length-set, length-replicate, drop_of_length-le}
+use lib.ListN.{length, take, drop, get_or, set, replicate, length-set, length-replicate, length-take, length-drop, drop_of_length-le}
 use lib.Seq.{drop-cons}
 use Rattle.lists.specs.Lists.{padded}
 use Rattle.lists.proofs.Lists.{length-mapped}
 use Rattle.rows.specs.Bytes.{bytes_of}
 use Rattle.rows.specs.Rows.{over, Put}
 use Rattle.rows.proofs.Bytes.{length-bytes}
-use Rattle.rows.proofs.Over.{over-length, over-short, over-append, over-set, put_byte, put_next, Left, left-all, left-none, left-byte}
+use Rattle.rows.proofs.Over.{over-length, over-short, over-append, over-set, over-part, put_byte, put_next}
 use Rattle.names.specs.declared.Credential.{Credential}
 use Rattle.module_state.specs.Module.{credential_count, is_credential}
 use Rattle.state_layout.specs.Layout.{flag_number}
@@ -26,11 +28,16 @@ use Rattle.store_layout.specs.Layout.{lock_at, length_at, length_size, owned_at,
 use Rattle.store_layout.specs.declared.Head.{Head}
 use Rattle.store_layout.proofs.Written.{can-length, can-low, head-length, room-length, held-length}
 
+-- ---- a flag in a byte
+pub flag-byte : (flag : Bool) → from_bool flag ≡ flag_number flag
+flag-byte true = refl
+flag-byte false = refl
+
 -- ---- ownership
 module _ (b : List ℕ) (owned : Bool) where
-  pub owned-put : {n : ℕ} → length b ≡ store_length → n ≡ flag_number owned → set b owned_at n ≡ owned_written b owned
+  pub owned-put : {n : ℕ} → length b ≡ store_length → n ≡ from_bool owned → set b owned_at n ≡ owned_written b owned
   unfolding owned_written
-  owned-put {n} h e = let k : owned_at < length b = omega arith in over-set owned_at n b k ∙ rw (e, eq-eqb (length b) store_length h)
+  owned-put {n} h e = let k : owned_at < length b = omega arith in over-set owned_at n b k ∙ rw (e, flag-byte owned, eq-eqb (length b) store_length h)
 
   pub owned-other : (length b ≡ store_length → ⊥) → b ≡ owned_written b owned
   unfolding owned_written
@@ -62,7 +69,7 @@ module _ (b : List ℕ) (c : Credential) (h : Head) {t : Bool} (e : t ≡ can_wr
     pub head-sum : head_place c + length_at < 65536
     head-sum = omega (arith, can-low b c can)
 
-    pub head-put : {n : ℕ} {new : List ℕ} → n ≡ flag_number h.locked → new ≡ over (head_place c + length_at) length_size (bytes_of length_size h.length) (set b (head_place c + lock_at) n) → new ≡ head_written b c h
+    pub head-put : {n : ℕ} {new : List ℕ} → n ≡ from_bool h.locked → new ≡ over (head_place c + length_at) length_size (bytes_of length_size h.length) (set b (head_place c + lock_at) n) → new ≡ head_written b c h
     unfolding head_written head_bytes
     head-put {n} {new} p q =
         let z : head_place c + lock_at ≡ head_place c = add-zero (head_place c) in
@@ -71,17 +78,14 @@ module _ (b : List ℕ) (c : Credential) (h : Head) {t : Bool} (e : t ≡ can_wr
         record { long = length-bytes length_size h.length; is = rw z at q }
         in
         let r : head_place c + 1 + length_size ≤ length b = omega (arith, can-length b c can, can-low b c can) in
-        (put_next one two r).is ∙ rw (← p, can)
+        let f : n ≡ flag_number h.locked = p ∙ flag-byte h.locked in
+        (put_next one two r).is ∙ rw (← f, can)
 
 pub head-same : (b : List ℕ) (at n place length' : ℕ) {new : List ℕ} → new ≡ over place length_size (bytes_of length_size length') (set b at n) → length new ≡ length b
 head-same b at n place length' p =
     ap length p ∙ over-length place length_size (bytes_of length_size length') (set b at n) (length-bytes length_size length') ∙ length-set b at n
 
--- ---- zeros: what is left of them
-pub record ZerosTo (at n : ℕ) (old new : List ℕ) (done : ℕ) : Type 0 where
-  pub low : done ≤ n
-  pub remains : Left at n (replicate n 0) old (at + done) (n - done) (replicate (n - done) 0) new
-
+-- ---- zeros
 module _ (at n : ℕ) (old : List ℕ) where
   pub zeros-over : length old < n → old ≡ over at n (replicate n 0) old
   zeros-over h = sym (over-short at n (replicate n 0) old (omega arith))
@@ -90,29 +94,11 @@ module _ (at n : ℕ) (old : List ℕ) where
     pub zeros-short : length old - n < at → old ≡ over at n (replicate n 0) old
     zeros-short k = sym (over-short at n (replicate n 0) old (omega arith))
 
-    pub zeros-begin : at ≤ length old - n → ZerosTo at n old old 0
-    zeros-begin k =
-        let p : at + 0 ≡ at = omega arith in
-        let w : n - 0 ≡ n = omega arith in
-        record { low = omega arith; remains = rw (p, w) (left-all at n (replicate n 0) old (omega arith)) }
-
-module _ {at n : ℕ} {old new : List ℕ} {done : ℕ} (v : ZerosTo at n old new done) where
-  pub zeros-length : length new ≡ length old
-  zeros-length = v.remains.long
-
-  pub zeros-place : done < n → at + done < length new
-  zeros-place h = omega (arith, v.remains.room)
-
-  pub zeros-on : done < n → ZerosTo at n old (set new (at + done) 0) (done + 1)
-  zeros-on h =
-      let w : n - done ≡ 1 + (n - (done + 1)) = omega arith in
-      let z : 1 + (n - (done + 1)) ≡ suc (n - (done + 1)) = omega arith in
-      let p : at + (done + 1) ≡ at + done + 1 = omega arith in
-      let r : ◌≡◌ {A = List ℕ} (replicate (n - done) 0) (0 ∷ replicate (n - (done + 1)) 0) = rw (w, z) in
-      record { low = omega arith; remains = rw p (left-byte (n - (done + 1)) 0 (replicate (n - (done + 1)) 0) (rw (r, w) at v.remains)) }
-
-  pub zeros-end : n ≤ done → new ≡ over at n (replicate n 0) old
-  zeros-end h = let z : n - done ≡ 0 = omega arith in left-none (rw z at v.remains)
+    pub zeros-put : at ≤ length old - n → {zeros : List ℕ} → zeros ≡ replicate (length (take (at + n - at) (drop at old))) 0 → put_mid at (at + n - at) old zeros ≡ over at n (replicate n 0) old
+    zeros-put k e =
+        let w : at + n - at ≡ n = omega arith in
+        let r : length (take n (drop at old)) ≡ n = simp (length-take, length-drop) (omega arith) in
+        rw (e, w, r) (over-part at n (replicate n 0) old (omega arith))
 
 -- ---- a room
 module _ (b : List ℕ) (c : Credential) (p : List ℕ) {t : Bool} (e : t ≡ can_write b c) where
@@ -183,4 +169,4 @@ module _ {gone : List Bool} {old new : List ℕ} {i : ℕ} (v : ClearedTo gone o
   unfolding cleared_from
   cleared-all h n = let k : length gone ≤ i = omega arith in sym (v.rest ∙ rw (drop_of_length-le gone k))
 
-pub ruleset rules = (std_rules, length-mapped, owned-put, owned-other, can-other, can-credential, head-not, lock-place, head-sum, head-put, head-same, zeros-over, zeros-short, zeros-begin, zeros-length, zeros-place, zeros-on, zeros-end, room-not, room-long, room-put, over-same, head-length, room-length, held-length, held-put, cleared-begin, cleared-length, cleared-gone, cleared-kept, cleared-all, length-bytes, length-replicate)
+pub ruleset rules = (std_rules, length-mapped, flag-byte, owned-put, owned-other, can-other, can-credential, head-not, lock-place, head-sum, head-put, head-same, zeros-over, zeros-short, zeros-put, room-not, room-long, room-put, over-same, head-length, room-length, held-length, held-put, cleared-begin, cleared-length, cleared-gone, cleared-kept, cleared-all, length-bytes, length-replicate)

@@ -1,16 +1,14 @@
 // Ownership, and what is held of a credential, written into a store where it lies. docs/STORE.md draws the layout. A slice of another length stays, and so does
 // one where there is no such credential.
-#![tactic(auto)]
+#![tactic(auto, using(crate::proofs::Rules::rules))]
 
-ghost use Rattle.std.specs.Prelude.{◌≡◌, length, replicate};
+ghost use Rattle.std.specs.Prelude.{◌≡◌, replicate};
 ghost use Rattle.rows.specs.Rows.{over};
-ghost use Rattle.state_layout.specs.Layout.{flag_number};
 ghost use Rattle.store_layout.specs.Store.{nothing};
 ghost use Rattle.store_layout.specs.Layout.{can_write, owned_written, head_written, room_written, held_written, cleared_from};
 
 use module_state::CREDENTIALS;
 use names::Credential;
-use state_layout::SET_FLAG;
 use store_layout::{
     HEAD_SIZE, HEADS_AT, Head, LENGTH_AT, LOCK_AT, OWNED_AT, PARAMETERS_AT, PARAMETERS_SIZE,
     STORE_LENGTH,
@@ -18,17 +16,11 @@ use store_layout::{
 
 // ---- ownership
 
-fn flag_number(flag: bool) -> u8
-    ensures { result ≡ flag_number flag }
-{
-    if flag { SET_FLAG } else { 0 }
-}
-
 pub fn put_owned(store: &mut [u8], owned: bool)
     ensures { store.new ≡ owned_written store.old owned }
 {
     if store.len() == STORE_LENGTH {
-        store[OWNED_AT] = flag_number(owned);
+        store[OWNED_AT] = u8::from(owned);
     }
 }
 
@@ -37,18 +29,15 @@ pub fn put_owned(store: &mut [u8], owned: bool)
 fn can_write(store: &[u8], c: Credential) -> bool
     ensures { result ≡ can_write store.now c }
 {
-    if store.len() != STORE_LENGTH {
-        return false;
-    }
-    module_state::is_credential(c)
+    store.len() == STORE_LENGTH && module_state::is_credential(c)
 }
 
 pub fn put_head(store: &mut [u8], c: Credential, head: Head)
     ensures { store.new ≡ head_written store.old c head }
 {
     if can_write(store, c) {
-        let a = HEADS_AT + (c.0 as usize) * HEAD_SIZE;
-        store[a + LOCK_AT] = flag_number(head.locked);
+        let a = HEADS_AT + usize::from(c.0) * HEAD_SIZE;
+        store[a + LOCK_AT] = u8::from(head.locked);
         rows::put_number16(store, a + LENGTH_AT, head.length);
     }
 }
@@ -57,16 +46,8 @@ pub fn put_head(store: &mut [u8], c: Credential, head: Head)
 fn put_zeros(buffer: &mut [u8], at: usize, n: usize)
     ensures { buffer.new ≡ over at n (replicate n 0) buffer.old }
 {
-    if buffer.len() < n {
-        return;
-    }
-    if buffer.len() - n < at {
-        return;
-    }
-    let mut done: usize = 0;
-    while done < n {
-        buffer[at + done] = 0;
-        done += 1;
+    if n <= buffer.len() && at <= buffer.len() - n {
+        buffer[at..at + n].fill(0);
     }
 }
 
@@ -74,13 +55,11 @@ fn put_zeros(buffer: &mut [u8], at: usize, n: usize)
 pub fn put_room(store: &mut [u8], c: Credential, parameters: &[u8])
     ensures { store.new ≡ room_written store.old c parameters.now }
 {
-    if can_write(store, c) {
-        if parameters.len() <= PARAMETERS_SIZE {
-            let a = PARAMETERS_AT + (c.0 as usize) * PARAMETERS_SIZE;
-            let n = parameters.len();
-            rows::put_bytes(store, a, parameters);
-            put_zeros(store, a + n, PARAMETERS_SIZE - n);
-        }
+    let n = parameters.len();
+    if can_write(store, c) && n <= PARAMETERS_SIZE {
+        let a = PARAMETERS_AT + usize::from(c.0) * PARAMETERS_SIZE;
+        rows::put_bytes(store, a, parameters);
+        put_zeros(store, a + n, PARAMETERS_SIZE - n);
     }
 }
 
@@ -90,14 +69,7 @@ pub fn put_held(store: &mut [u8], c: Credential, locked: bool, parameters: &[u8]
 {
     let length = (parameters.len() % 65536) as u16;
     put_room(store, c, parameters);
-    put_head(
-        store,
-        c,
-        Head {
-            locked: locked,
-            length: length,
-        },
-    );
+    put_head(store, c, Head { locked, length });
 }
 
 // ---- nothing held
@@ -112,11 +84,9 @@ fn put_nothing(store: &mut [u8], c: Credential)
 pub fn clear(store: &mut [u8], gone: [bool; CREDENTIALS])
     ensures { store.new ≡ cleared_from 0 gone store.old }
 {
-    let mut i: usize = 0;
-    while i < CREDENTIALS {
+    for i in 0..CREDENTIALS {
         if gone[i] {
             put_nothing(store, Credential(i as u16));
         }
-        i += 1;
     }
 }

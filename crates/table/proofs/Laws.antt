@@ -9,7 +9,8 @@ use borrow.Author.Tests.{lt-ltb}
 use lib.ListN.{length, take, drop, set, length-take, take-append-drop}
 use lib.Seq.{take-append_seam}
 use Rattle.lists.specs.Lists.{reject, remove_at}
-use Rattle.lists.proofs.Lists.{length-select, length-padded, front-padded}
+use Rattle.lists.proofs.Lists.{length-padded, front-padded}
+use Rattle.std.proofs.lemmas.List.Sums.{count_by-le-length}
 use Rattle.names.specs.declared.Session.{Session}
 use Rattle.table.specs.declared.Among.{Among}
 use Rattle.table.specs.declared.Process.{Process}
@@ -42,7 +43,7 @@ module _ (t : Table) (h : length t.places ≡ places) where
 
   pub count-few : (among : Among) → count_among t among ≤ places
   unfolding count_among
-  count-few among = omega (arith, length-select (is_among among) (standing t), standing-few)
+  count-few among = omega (arith, count_by-le-length (is_among among) (standing t), standing-few)
 
 -- ---- what each operation leaves
 module _ (t : Table) where

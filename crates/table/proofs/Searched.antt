@@ -1,15 +1,18 @@
 -- What a search's answer says, and what the tests say: what callers cite.
 -- Assumes nothing.
+use Rattle.std.specs.Prelude.{Some, None}
 use Prim.Native.Nat.{ℕ, ◌<◌, ◌≤◌}
 use mathlib.Core.Path.{◌≡◌, refl, sym, ap, ◌∙◌}
 use mathlib.Core.Bool.{Bool, true, false, ◌&&◌, ◌||◌}
-use mathlib.Core.List.{List}
+use mathlib.Core.List.{List, [], ◌∷◌}
 use native.Mathlib.Omega.{arith}
 use borrow.Author.Tests.{lt-ltb, le-ltb, eqb-true, eq-eqb}
 use lib.ListN.{length}
-use Rattle.lists.specs.Lists.{any, first_index}
+use Rattle.std.specs.List.{position_or_len, filter}
+use Rattle.std.proofs.lemmas.List.Sums.{length-filter}
+use Rattle.lists.specs.Lists.{any, first_index, select}
 use Rattle.lists.proofs.Lists.{first-low, any-inside, any-past}
-use Rattle.lists.proofs.Tests.{below, clash, and_left, and_right}
+use Rattle.lists.proofs.Tests.{split, below, clash, and_left, and_right}
 use Rattle.names.specs.Names.{same_name}
 use Rattle.names.proofs.Laws.{same→name}
 use Rattle.names.specs.declared.Credential.{Credential}
@@ -20,9 +23,9 @@ use Rattle.names.specs.declared.Session.{Session}
 use Rattle.table.specs.declared.Active.TheVariants.{UserOf, ElevationIn}
 use Rattle.table.specs.declared.Among.{Among}
 use Rattle.table.specs.declared.Among.TheVariants.{SavedOf}
-use Rattle.table.specs.declared.Found.TheVariants.{At, Nothing}
 use Rattle.table.specs.declared.Process.{Process}
-use Rattle.table.specs.Table.{is_user, is_elevation, is_saved, is_in, is_of, is_active, is_active_in, is_among, is_named, found_place, first_place}
+use Rattle.table.specs.declared.Table.{Table}
+use Rattle.table.specs.Table.{standing, count_among, is_user, is_elevation, is_saved, is_in, is_of, is_active, is_active_in, is_among, is_named, found_place, first_place}
 
 -- the place found is the first that passes the test, and one does
 pub record FoundAt (f : Process → Bool) (l : List Process) (k : ℕ) : Type 0 where
@@ -34,16 +37,33 @@ pub record FoundNone (f : Process → Bool) (l : List Process) : Type 0 where
   pub past : length l ≤ first_index f l
   pub none : any f l ≡ false
 
+-- the library's words for a search and a choice
+module _ {A : Type 0} (f : A → Bool) where
+  first-prefix : (l : List A) → position_or_len f l ≡ first_index f l
+  unfolding first_index
+  first-prefix [] = refl
+  first-prefix (x ∷ xs) = split (f x) (λ e. rw e) (λ e. rw (e, first-prefix xs) (omega arith))
+
+  filter-select : (l : List A) → filter f l ≡ select f l
+  unfolding select
+  filter-select [] = refl
+  filter-select (x ∷ xs) = split (f x) (λ e. rw (e, filter-select xs)) (λ e. rw (e, filter-select xs))
+
+-- those counted are those chosen
+pub count-chosen : (t : Table) (among : Among) → count_among t among ≡ length (select (is_among among) (standing t))
+unfolding count_among
+count-chosen t among = sym (length-filter (is_among among) (standing t)) ∙ ap length (filter-select (is_among among) (standing t))
+
 module _ (f : Process → Bool) (l : List Process) where
-  first-is : first_index f l < length l → first_place f l ≡ At (first_index f l)
+  pub first-is : first_index f l < length l → first_place f l ≡ Some (first_index f l)
   unfolding first_place
-  first-is h = rw (lt-ltb (first_index f l) (length l) h)
+  first-is h = rw (first-prefix f l, lt-ltb (first_index f l) (length l) h)
 
-  first_past : length l ≤ first_index f l → first_place f l ≡ Nothing
+  pub first_past : length l ≤ first_index f l → first_place f l ≡ None
   unfolding first_place
-  first_past h = rw (le-ltb (first_index f l) (length l) h)
+  first_past h = rw (first-prefix f l, le-ltb (first_index f l) (length l) h)
 
-  pub found_at : {k : ℕ} → first_place f l ≡ At k → FoundAt f l k
+  pub found_at : {k : ℕ} → first_place f l ≡ Some k → FoundAt f l k
   found_at {k} e = below (first_index f l) (length l) hit miss
     where
       hit : first_index f l < length l → FoundAt f l k
@@ -54,7 +74,7 @@ module _ (f : Process → Bool) (l : List Process) where
       miss : length l ≤ first_index f l → FoundAt f l k
       miss h = let z : ◌≡◌ {A = ℕ} 0 1 = cc (first_past h, e) in absurd (omega arith)
 
-  pub found_none : first_place f l ≡ Nothing → FoundNone f l
+  pub found_none : first_place f l ≡ None → FoundNone f l
   found_none e =
       below (first_index f l) (length l) hit (λ h. record { past = h; none = any-past f l h })
     where

@@ -1,7 +1,7 @@
 -- No second answer meets the contract of any public function of this crate.
 -- Assumes nothing.
 use mathlib.Core.Path.{sym, ◌∙◌}
-use Rattle.lists.proofs.Once.{OneAnswer}
+use Rattle.lists.proofs.Once.{OneAnswer, OneView}
 use Rattle.table.proofs.size.Kinds as size-kinds
 use Rattle.table.proofs.size.Reads as size
 use Rattle.table.proofs.free_place.Kinds as free-place-kinds
@@ -18,6 +18,8 @@ use Rattle.table.proofs.is_named.Kinds as is-named-kinds
 use Rattle.table.proofs.is_named.Reads as is-named
 use Rattle.table.proofs.process_at.Kinds as process-at-kinds
 use Rattle.table.proofs.process_at.Reads as process-at
+use Rattle.table.proofs.standing.Kinds as standing-kinds
+use Rattle.table.proofs.standing.Reads as standing
 
 pub size-once : OneAnswer 0 size-kinds.ps size-kinds.r size.Post
 size-once κs a x y s t p q = p ∙ sym q
@@ -42,3 +44,6 @@ is-named-once κs a x y s t p q = p ∙ sym q
 
 pub process-at-once : OneAnswer 0 process-at-kinds.ps process-at-kinds.r process-at.Post
 process-at-once κs a x y s t p q = p ∙ sym q
+
+pub standing-once : OneView 1 standing-kinds.ps standing-kinds.r standing.Post (λ κs x. x.now)
+standing-once κs a x y s t p q = p ∙ sym q

@@ -1,6 +1,7 @@
 -- The process table: what its functions answer.
-use Rattle.std.specs.Prelude.{ℕ, Bool, true, false, cond, ◌&&◌, ◌||◌, List, [], ◌∷◌, ◌++◌, eqb, ltb, length, get_or, take, set}
-use Rattle.lists.specs.Lists.{first_index, reject, select, remove_at, padded}
+use Rattle.std.specs.Prelude.{ℕ, Bool, true, false, cond, ◌&&◌, ◌||◌, List, [], ◌∷◌, ◌++◌, eqb, ltb, length, get_or, take, set, Option, Some, None}
+use Rattle.std.specs.List.{position, count_by}
+use Rattle.lists.specs.Lists.{reject, remove_at, padded}
 use Rattle.names.specs.Names.{same_name, zero_name}
 use Rattle.names.specs.declared.Credential.{Credential}
 use Rattle.names.specs.declared.Kind.{Kind}
@@ -11,8 +12,6 @@ use Rattle.table.specs.declared.Active.{Active}
 use Rattle.table.specs.declared.Active.TheVariants.{UserOf, ElevationIn}
 use Rattle.table.specs.declared.Among.{Among}
 use Rattle.table.specs.declared.Among.TheVariants.{All, Of, SavedOf}
-use Rattle.table.specs.declared.Found.{Found}
-use Rattle.table.specs.declared.Found.TheVariants.{At, Nothing}
 use Rattle.table.specs.declared.Process.{Process}
 use Rattle.table.specs.declared.Table.{Table}
 
@@ -85,26 +84,22 @@ is_named name among p = is_among among p && same_name p.name name
 -- ---- "The search through the table yields the first matching place as soon as it meets one."
 
 -- "the place found, or the count where none is": what each case of a search's answer says, where n stand
-abbrev pub found_place : ℕ → Found → ℕ
-found_place n (At at) = at
-found_place n Nothing = n
+abbrev pub found_place : ℕ → Option ℕ → ℕ
+found_place n (Some at) = at
+found_place n None = n
 
--- and back: a place before n is one that was found; n, the count, says that none was
-abbrev pub found : ℕ → ℕ → Found
-found at n = cond (ltb at n) (At at) Nothing
+unfoldable pub first_place : (Process → Bool) → List Process → Option ℕ
+first_place f l = position f l
 
-unfoldable pub first_place : (Process → Bool) → List Process → Found
-first_place f l = found (first_index f l) (length l)
-
-abbrev pub find_active : Table → Active → Found
+abbrev pub find_active : Table → Active → Option ℕ
 find_active t which = first_place (is_active which) (standing t)
 
-abbrev pub find_named : Table → Name → Among → Found
+abbrev pub find_named : Table → Name → Among → Option ℕ
 find_named t name among = first_place (is_named name among) (standing t)
 
 -- how many stand among those
 unfoldable pub count_among : Table → Among → ℕ
-count_among t among = length (select (is_among among) (standing t))
+count_among t among = count_by (is_among among) (standing t)
 
 -- ---- the operations
 

@@ -1,8 +1,8 @@
 // A table of at most 12 processes, in the order of their starts. It goes in by value and comes back by value.
-#![tactic(auto)]
+#![tactic(auto, using(crate::proofs::Rules::rules), unfolding(crate::specs::Table::is_active, crate::specs::Table::is_active_in, crate::specs::Table::is_among, crate::specs::Table::is_named, crate::specs::Table::size, crate::specs::Table::standing, crate::specs::Table::process_at, crate::specs::Table::table_of, lists::specs::Lists::padded))]
 
 ghost use Rattle.std.specs.Prelude.{◌≡◌, []};
-ghost use Rattle.table.specs.Table.{size, table_of, free_place, is_active, is_active_in, is_among, is_named, process_at};
+ghost use Rattle.table.specs.Table.{standing, size, table_of, free_place, is_active, is_active_in, is_among, is_named, process_at};
 
 use names::{Credential, Kind, NAME_LENGTH, Name, Session};
 
@@ -39,17 +39,19 @@ pub enum Among {
     SavedOf(Credential),
 }
 
-#[derive(Clone, Copy)]
-pub enum Found {
-    At(usize),
-    Nothing,
-}
-
 // How many processes stand.
 pub fn size(t: Table) -> usize
     ensures { result ≡ size t }
 {
-    if t.count < PLACES { t.count } else { PLACES }
+    t.count.min(PLACES)
+}
+
+// The processes that stand, in the order of their starts.
+pub fn standing(t: &Table) -> &[Process]
+    ensures { result.now ≡ standing t.now }
+{
+    let n = size(*t);
+    &t.places[..n]
 }
 
 // What a free place holds.
@@ -80,18 +82,10 @@ pub fn empty() -> Table
 pub fn is_active(p: Process, which: Active) -> bool
     ensures { result ≡ is_active which p }
 {
-    let kind = p.kind;
-    match which {
-        Active::UserOf(s, c) => match kind {
-            Kind::User => p.session.0 == s.0 && p.credential.0 == c.0,
-            Kind::Elevation => false,
-            Kind::Saved => false,
-        },
-        Active::ElevationIn(s) => match kind {
-            Kind::User => false,
-            Kind::Elevation => p.session.0 == s.0,
-            Kind::Saved => false,
-        },
+    match (which, p.kind) {
+        (Active::UserOf(s, c), Kind::User) => p.session == s && p.credential == c,
+        (Active::ElevationIn(s), Kind::Elevation) => p.session == s,
+        _ => false,
     }
 }
 
@@ -99,10 +93,8 @@ pub fn is_active(p: Process, which: Active) -> bool
 pub fn is_active_in(p: Process, session: Session) -> bool
     ensures { result ≡ is_active_in session p }
 {
-    let kind = p.kind;
-    match kind {
-        Kind::User => p.session.0 == session.0,
-        Kind::Elevation => p.session.0 == session.0,
+    match p.kind {
+        Kind::User | Kind::Elevation => p.session == session,
         Kind::Saved => false, // it is in no session
     }
 }
@@ -111,23 +103,18 @@ pub fn is_active_in(p: Process, session: Session) -> bool
 pub fn is_among(p: Process, among: Among) -> bool
     ensures { result ≡ is_among among p }
 {
-    let kind = p.kind;
-    match among {
-        Among::All => true,
-        Among::Of(c) => p.credential.0 == c.0,
-        Among::SavedOf(c) => match kind {
-            Kind::User => false,
-            Kind::Elevation => false,
-            Kind::Saved => p.credential.0 == c.0,
-        },
+    match (among, p.kind) {
+        (Among::All, _) => true,
+        (Among::Of(c), _) => p.credential == c,
+        (Among::SavedOf(c), Kind::Saved) => p.credential == c,
+        (Among::SavedOf(_), _) => false,
     }
 }
 
 pub fn is_named(p: Process, name: Name, among: Among) -> bool
     ensures { result ≡ is_named name among p }
 {
-    let own = p.name;
-    is_among(p, among) && names::same(own, name)
+    is_among(p, among) && names::same(p.name, name)
 }
 
 // The process that stands at a place; what a free place holds, where none does.
@@ -135,8 +122,7 @@ pub fn process_at(t: Table, at: usize) -> Process
     ensures { result ≡ process_at t at }
 {
     if at < size(t) {
-        let places = t.places;
-        places[at]
+        t.places[at]
     } else {
         free_place()
     }

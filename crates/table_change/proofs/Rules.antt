@@ -2,17 +2,15 @@
 -- conclusion is a need's own form. Assumes nothing.
 use Prim.Native.Nat.{ℕ, suc, ◌+◌, ◌-◌, ◌*◌, ◌<◌, ◌≤◌}
 use mathlib.Core.Path.{◌≡◌, sym, ap, ◌∙◌}
-use mathlib.Core.List.{List, [], ◌∷◌, ◌++◌}
+use mathlib.Core.List.{List, [], ◌∷◌, ◌++◌, append-nil}
 use native.Mathlib.Omega.{arith}
-use borrow.Author.Rules.{rules as std_rules}
 use borrow.Author.Tests.{lt-ltb, le-ltb}
 use mir.Val.{Fits}
 use mir.Syntax.{w64}
-use lib.ListN.{length, take, set, replicate, length-append, length-set}
-use lib.Seq.{set-append_seam, set-append_left, append_snoc, set_out}
+use lib.ListN.{length, take, drop, set, replicate, length-append, length-set, length-drop, drop_of_length-le}
+use lib.Seq.{length-take-le, set-append_seam, set-append_left, append_snoc, set_out}
 use Rattle.lists.specs.Lists.{padded}
-use Rattle.lists.proofs.Lists.{length-mapped}
-use Rattle.lists.proofs.Loops.{Cleared, cleared-none, cleared_more, cleared-all}
+use borrow.Rule.Slice.PartMut.{mid_of, put_mid}
 use Rattle.table.specs.declared.Process.{Process}
 use Rattle.table.specs.declared.Table.{Table}
 use Rattle.table.specs.Table.{places, standing, size, free_place, table_of, appended, replaced}
@@ -20,19 +18,22 @@ use Rattle.table.proofs.Laws.{standing-few}
 use Rattle.table.proofs.Rules.{front, small}
 
 -- ---- the free places cleared
-pub clear : (t : Table) {n : ℕ} → n ≡ size t → length t.places ≡ places → Cleared t.places n free_place t.places n
-clear t {n} e h = let k : n ≤ places = small t e h in cleared-none t.places n free_place (omega arith)
+module _ (t : Table) {n : ℕ} (e : n ≡ size t) (h : length t.places ≡ places) where
+  pub few : n ≤ places
+  few = small t e h
 
-pub clear-on : {l₀ : List Process} {n : ℕ} {l : List Process} {i : ℕ} {z : Process}
-    → Cleared l₀ n free_place l i → length l₀ ≡ places → i < places → z ≡ free_place → Cleared l₀ n free_place (set l i z) (i + 1)
-clear-on v h k e = rw e (cleared_more v (omega arith))
+  -- a process has 54 bytes, by which an index is scaled
+  pub few-fits : Fits w64 (n * 54)
+  few-fits = omega (arith, few)
 
-pub clear-all : (t : Table) {n : ℕ} {l : List Process} {i : ℕ}
-    → n ≡ size t → Cleared t.places n free_place l i → length t.places ≡ places → places ≤ i → ◌≡◌ {A = Table} (record { places = l; count = n }) (table_of (standing t))
-unfolding table_of size
-clear-all t {n} {l} v w h k =
-    let e : l ≡ padded (length t.places) free_place (take n t.places) = cleared-all w (omega arith) in
-    rw (e, h, front t v, v)
+  pub cleared : {l : List Process} → l ≡ replicate (length (mid_of n (places - n) t.places)) free_place
+      → ◌≡◌ {A = Table} (record { places = put_mid n (places - n) t.places l; count = n }) (table_of (standing t))
+  unfolding table_of padded size
+  cleared q =
+      let long : length (drop n t.places) ≡ places - n = omega (arith, length-drop n t.places) in
+      let free : length (take (places - n) (drop n t.places)) ≡ places - n = omega (arith, length-take-le (places - n) (drop n t.places) (omega arith)) in
+      let none : drop (places - n) (drop n t.places) ≡ [] = drop_of_length-le (drop n t.places) (omega arith) in
+      rw (q, free, none, append-nil, front t e, e)
 
 -- ---- the changes of a tidied table
 abbrev table_with : List Process → ℕ → Table
@@ -47,7 +48,7 @@ module _ (l : List Process) {u : Table} (p : Process) (e : u ≡ table_of l) whe
   unfolding table_of
   placed = ap (λ (x : Table). x.places) e
 
-  one-more : u.count < places → ◌≡◌ {A = Table} (record { places = set u.places u.count p; count = u.count + 1 }) (table_of (l ++ (p ∷ [])))
+  pub one-more : u.count < places → ◌≡◌ {A = Table} (record { places = set u.places u.count p; count = u.count + 1 }) (table_of (l ++ (p ∷ [])))
   unfolding table_of padded
   one-more k =
       let m : length (l ++ (p ∷ [])) ≡ length l + 1 = length-append l (p ∷ []) in
@@ -71,15 +72,13 @@ module _ (t : Table) (p : Process) {u : Table} (e : u ≡ table_of (standing t))
   unfolding replaced
   replace-in {at} k = one-other (standing t) p e at k
 
-  module _ {at : ℕ} (k : at < u.count) (h : length t.places ≡ places) where
-    pub standing-low : at < places
-    standing-low = omega (arith, counted (standing t) p e, standing-few t h)
-
-    pub standing-fits : Fits w64 (at * 54)
-    standing-fits = omega (arith, standing-low)
-
   pub replace-out : {at : ℕ} → u.count ≤ at → u ≡ replaced t at p
   unfolding replaced
   replace-out {at} k = e ∙ ap table_of (sym (set_out (standing t) at p (omega (arith, counted (standing t) p e))))
 
-pub ruleset rules = (std_rules, length-mapped, clear, clear-on, clear-all, append-room, append-full, replace-in, standing-low, standing-fits, replace-out)
+-- a tidied table's count is that of processes that stand
+pub tidied-few : (t u : Table) → u ≡ table_of (standing t) → length t.places ≡ places → u.count ≤ places
+unfolding table_of
+tidied-few t u e h = let n : u.count ≡ length (standing t) = ap (λ (x : Table). x.count) e in omega (arith, standing-few t h)
+
+pub ruleset rules = (few, few-fits, cleared, append-room, append-full, replace-in, replace-out, tidied-few)

@@ -1,30 +1,25 @@
 // Processes taken out of the table: one, or those that are active in a session.
-#![tactic(auto)]
+#![tactic(auto, using(crate::proofs::Rules::rules))]
 
 ghost use Rattle.std.specs.Prelude.{◌≡◌};
 ghost use Rattle.table.specs.Table.{removed, without_session};
 
 use names::Session;
-use table::{PLACES, Table};
+use table::Table;
 
 // The process at a place taken out, and the gap closed. Where none stands there, they stay.
 pub fn removed(t: Table, at: usize) -> Table
     ensures { result ≡ removed t at }
 {
-    let n = table::size(t);
-    if n <= at {
+    let count = table::size(t);
+    if count <= at {
         return table_change::tidied(t);
     }
     let mut places = t.places;
-    let mut i = at;
-    while i + 1 < n {
-        let p = places[i + 1];
-        places[i] = p;
-        i += 1;
-    }
+    places.copy_within(at + 1..count, at);
     table_change::tidied(Table {
-        places: places,
-        count: n - 1,
+        places,
+        count: count - 1,
     })
 }
 
@@ -32,21 +27,13 @@ pub fn removed(t: Table, at: usize) -> Table
 pub fn without_session(t: Table, s: Session) -> Table
     ensures { result ≡ without_session t s }
 {
-    let n = table::size(t);
-    let places = t.places;
-    let mut out = [table::free_place(); PLACES];
-    let mut k: usize = 0;
-    let mut i: usize = 0;
-    while i < n {
-        let p = places[i];
-        if !table::is_active_in(p, s) {
-            out[k] = p;
-            k += 1;
+    let mut left = table::empty();
+    for p in table::standing(&t) {
+        if table::is_active_in(*p, s) {
+            continue;
         }
-        i += 1;
+        left.places[left.count] = *p;
+        left.count += 1;
     }
-    Table {
-        places: out,
-        count: k,
-    }
+    left
 }

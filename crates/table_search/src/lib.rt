@@ -1,74 +1,48 @@
 // The searches through the table.
-#![tactic(auto)]
+#![tactic(auto, using(crate::proofs::Rules::rules), unfolding(table::specs::Table::count_among))]
 
 ghost use Rattle.std.specs.Prelude.{◌≡◌};
 ghost use Rattle.table.specs.Table.{find_active, find_named, count_among};
 
 use names::Name;
-use table::{Active, Among, Found, Table};
+use table::{Active, Among, Table};
 
-// The first process that is active so.
-pub fn find_active(t: Table, which: Active) -> Found
+// The first process that is active so. Document 01 names the form of a search: a loop whose break carries the place found, or the count where none is.
+pub fn find_active(t: Table, which: Active) -> Option<usize>
     ensures { result ≡ find_active t which }
 {
-    let n = table::size(t);
-    let places = t.places;
+    let count = table::size(t);
     let mut i: usize = 0;
     let at = loop {
-        if n <= i {
-            break n;
-        }
-        let p = places[i];
-        if table::is_active(p, which) {
+        if count <= i || table::is_active(t.places[i], which) {
             break i;
         }
         i += 1;
     };
-    if at < n {
-        Found::At(at)
-    } else {
-        Found::Nothing
-    }
+    if at < count { Some(at) } else { None }
 }
 
 // The first process of a name among those.
-pub fn find_named(t: Table, name: Name, among: Among) -> Found
+pub fn find_named(t: Table, name: Name, among: Among) -> Option<usize>
     ensures { result ≡ find_named t name among }
 {
     let count = table::size(t);
-    let places = t.places;
     let mut i: usize = 0;
     let at = loop {
-        if count <= i {
-            break count;
-        }
-        let p = places[i];
-        if table::is_named(p, name, among) {
+        if count <= i || table::is_named(t.places[i], name, among) {
             break i;
         }
         i += 1;
     };
-    if at < count {
-        Found::At(at)
-    } else {
-        Found::Nothing
-    }
+    if at < count { Some(at) } else { None }
 }
 
 // How many processes are among those.
 pub fn count_among(t: Table, among: Among) -> usize
     ensures { result ≡ count_among t among }
 {
-    let n = table::size(t);
-    let places = t.places;
-    let mut k: usize = 0;
-    let mut i: usize = 0;
-    while i < n {
-        let p = places[i];
-        if table::is_among(p, among) {
-            k += 1;
-        }
-        i += 1;
-    }
-    k
+    table::standing(&t)
+        .iter()
+        .filter(|p| table::is_among(**p, among))
+        .count()
 }

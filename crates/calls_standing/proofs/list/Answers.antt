@@ -2,9 +2,6 @@ use Rattle.calls.specs.Calls.{protection}
 use Rattle.calls_claim.proofs.Rules.{rules}
 use Rattle.calls_standing.proofs.list.Goals as goal
 
-pub returns-then-n-ne-DONE : goal.returns-then-n-ne-DONE
+pub returns-in-Err : goal.returns-in-Err
 unfolding protection
-returns-then-n-ne-DONE c = search rules
-
-pub returns : goal.returns
-returns c = search rules
+returns-in-Err c = search rules

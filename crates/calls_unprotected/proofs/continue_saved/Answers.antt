@@ -1,14 +1,5 @@
-use Rattle.calls_unprotected.proofs.Rules.{rules}
+use Rattle.calls_unprotected.proofs.Rules.{continue-done}
 use Rattle.calls_unprotected.proofs.continue_saved.Goals as goal
 
-pub returns-then-known-ne-DONE : goal.returns-then-known-ne-DONE
-returns-then-known-ne-DONE c = search rules
-
-pub returns-in_default : goal.returns-in_default
-returns-in_default c = search rules
-
-pub returns-in-At-find_active : goal.returns-in-At-find_active
-returns-in-At-find_active c = search rules
-
-pub returns : goal.returns
-returns c = search rules
+pub returns-in-Ok : goal.returns-in-Ok
+returns-in-Ok c = continue-done c.args.st c.args.s c.accepted.ensures c.args.c c.args.name c.continued.ensures c.in-Ok.ensures

@@ -1,11 +1,5 @@
-use Rattle.calls_unprotected.proofs.Rules.{rules}
+use Rattle.calls_unprotected.proofs.Rules.{drop-done}
 use Rattle.calls_unprotected.proofs.drop_elevation.Goals as goal
 
-pub returns-then-entry-ne-DONE : goal.returns-then-entry-ne-DONE
-returns-then-entry-ne-DONE c = search rules
-
-pub returns-in_default : goal.returns-in_default
-returns-in_default c = search rules
-
-pub returns : goal.returns
-returns c = search rules
+pub returns-in-Ok : goal.returns-in-Ok
+returns-in-Ok c = drop-done c.args.st c.args.s c.accepted.ensures c.with_table.ensures c.removed-t.ensures c.in-Ok.ensures

@@ -1,9 +1,6 @@
 use Rattle.entries_image.proofs.Rules.{rules}
 use Rattle.entries_image.proofs.slavotuk_image.Goals as goal
 
-pub returns-then-not-holds : goal.returns-then-not-holds
-returns-then-not-holds c = search rules
-
 pub returns-then-written-eq0 : goal.returns-then-written-eq0
 returns-then-written-eq0 c = search rules
 

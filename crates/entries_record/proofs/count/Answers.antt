@@ -1,5 +1,5 @@
 use Rattle.entries_record.proofs.Rules.{rules}
 use Rattle.entries_record.proofs.count.Goals as goal
 
-pub returns-in-Elevated : goal.returns-in-Elevated
-returns-in-Elevated c = search rules
+pub overflow_add-by : goal.overflow_add-by
+overflow_add-by c = search rules

@@ -1,4 +1,3 @@
-use Prim.Native.Nat.{◌-◌}
 use Rattle.entries_unprotected.proofs.Rules.{rules}
 use Rattle.entries_unprotected.proofs.pairs_of.Goals as goal
 

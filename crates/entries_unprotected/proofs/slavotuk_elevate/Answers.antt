@@ -1,6 +1,9 @@
 use Rattle.entries_unprotected.proofs.Rules.{rules}
 use Rattle.entries_unprotected.proofs.slavotuk_elevate.Goals as goal
 
+pub returns-in_default : goal.returns-in_default
+returns-in_default c = search rules
+
 pub returns-then-not-is_ready : goal.returns-then-not-is_ready
 returns-then-not-is_ready c = search rules
 

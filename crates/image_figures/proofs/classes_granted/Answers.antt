@@ -1,4 +1,3 @@
-use Prim.Native.Nat.{◌-◌}
 use Rattle.image_figures.proofs.Rules.{rules}
 use Rattle.image_figures.proofs.classes_granted.Goals as goal
 

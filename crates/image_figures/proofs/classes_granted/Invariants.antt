@@ -1,5 +1,3 @@
-use Prim.Native.Nat.{◌-◌}
-use Rattle.module_state.specs.Module.{credential_count}
 use Rattle.image.proofs.Rows.{SummedTo}
 use Rattle.image_figures.specs.Figures.{class_count}
 use Rattle.image_figures.proofs.Rules.{held_by}
@@ -7,6 +5,3 @@ use Rattle.image_figures.proofs.classes_granted.Given as goal
 
 abbrev pub invariant-loop-i : goal.invariant-loop-i
 invariant-loop-i l = SummedTo held_by class_count l.grants l.sum l.i
-
-abbrev pub decreases-loop-i : goal.decreases-loop-i
-decreases-loop-i l = credential_count - l.i

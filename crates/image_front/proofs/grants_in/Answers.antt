@@ -1,6 +1,9 @@
-use Prim.Native.Nat.{◌-◌}
+use Rattle.module_state.specs.Module.{unprovisioned}
+use Rattle.image.specs.Image.{grant_in}
 use Rattle.image_front.proofs.Rules.{rules}
+use Rattle.image_front.proofs.Rows.{mapped}
 use Rattle.image_front.proofs.grants_in.Goals as goal
 
-pub loop-i-preserved : goal.loop-i-preserved
-loop-i-preserved c = search rules
+pub returns : goal.returns
+unfolding grant_in
+returns c = mapped _ _ grant_in c.args.l unprovisioned (λ x y f k. search rules) (search rules) c.map.ensures.items

@@ -1,12 +1,6 @@
 use Rattle.image_front.proofs.Rules.{rules}
 use Rattle.image_front.proofs.put_both.Goals as goal
 
-pub put_words-requires : goal.put_words-requires
-put_words-requires c = search rules
-
-pub put_words-requires-then-has_seconds : goal.put_words-requires-then-has_seconds
-put_words-requires-then-has_seconds c = search rules
-
 pub returns-then-has_seconds : goal.returns-then-has_seconds
 returns-then-has_seconds c = search rules
 

@@ -1,4 +1,3 @@
-use Prim.Native.Nat.{◌-◌}
 use Rattle.image_front.proofs.Rules.{rules}
 use Rattle.image_front.proofs.put_words.Goals as goal
 

@@ -1,4 +1,3 @@
-use Prim.Native.Nat.{◌-◌}
 use Rattle.image_head.proofs.Rules.{rules}
 use Rattle.image_head.proofs.grants_said.Goals as goal
 

@@ -1,11 +1,6 @@
-use Rattle.image_read.proofs.Rules.{rules}
+use Rattle.std.proofs.Common.{sym}
+use Rattle.image_read.proofs.Rules.{image-read}
 use Rattle.image_read.proofs.read_image.Goals as goal
 
-pub returns-then-not-tested : goal.returns-then-not-tested
-returns-then-not-tested c = search rules
-
-pub read_saved-saved-requires : goal.read_saved-saved-requires
-read_saved-saved-requires c = search rules
-
-pub returns : goal.returns
-returns c = search rules
+pub returns-in-Ok : goal.returns-in-Ok
+returns-in-Ok c = image-read c.args.b.now (sym c.in-Ok.ensures) c.saved_rows.ensures c.read_saved-saved.ensures c.closed_module.ensures

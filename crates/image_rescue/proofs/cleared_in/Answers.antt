@@ -1,4 +1,3 @@
-use Prim.Native.Nat.{◌-◌}
 use Rattle.image_rescue.proofs.Rules.{rules}
 use Rattle.image_rescue.proofs.cleared_in.Goals as goal
 

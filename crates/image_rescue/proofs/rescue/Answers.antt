@@ -19,8 +19,11 @@ returns-then-buffer-long c = search rules
 pub put_image-requires-clause-offset_value : goal.put_image-requires-clause-offset_value
 put_image-requires-clause-offset_value c = search rules
 
-pub put_image-requires-clause-kept_in_bounds : goal.put_image-requires-clause-kept_in_bounds
-put_image-requires-clause-kept_in_bounds c = search rules
+pub put_image-requires-clause-held_few : goal.put_image-requires-clause-held_few
+put_image-requires-clause-held_few c = search rules
+
+pub put_image-requires-clause-room : goal.put_image-requires-clause-room
+put_image-requires-clause-room c = search rules
 
 pub returns : goal.returns
 returns c = search rules

@@ -1,4 +1,3 @@
-use Prim.Native.Nat.{◌-◌}
 use Rattle.image_rescue.proofs.Rules.{rules}
 use Rattle.image_rescue.proofs.sort_rows.Goals.{then-is_kept, else-is_kept}
 use Rattle.image_rescue.proofs.sort_rows.Goals as goal
@@ -9,8 +8,8 @@ loop-i-init c = search rules
 pub overflow_add-at : goal.overflow_add-at
 overflow_add-at c = search rules
 
-pub is_kept-requires-clause-at_bound : goal.is_kept-requires-clause-at_bound
-is_kept-requires-clause-at_bound c = search rules
+pub is_kept-requires : goal.is_kept-requires
+is_kept-requires c = search rules
 
 pub saved_at-requires : goal.saved_at-requires
 saved_at-requires c = search rules

@@ -1,4 +1,3 @@
-use Prim.Native.Nat.{◌-◌}
 use Rattle.image_write.proofs.Rules.{rules}
 use Rattle.image_write.proofs.put_saved.Goals.{then-is_saved_one, else-is_saved_one}
 use Rattle.image_write.proofs.put_saved.Goals as goal

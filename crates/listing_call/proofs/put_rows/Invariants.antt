@@ -1,9 +1,6 @@
-use Prim.Native.Nat.{◌-◌}
+use lib.ListN.{length}
 use Rattle.listing_call.proofs.Rules.{Writing}
 use Rattle.listing_call.proofs.put_rows.Given as goal
 
-abbrev pub invariant-loop-i : goal.invariant-loop-i
-invariant-loop-i l = Writing l.wanted l.places l.n l.initial.buffer l.buffer l.k l.i
-
-abbrev pub decreases-loop-i : goal.decreases-loop-i
-decreases-loop-i l = l.n - l.i
+abbrev pub invariant-loop-p : goal.invariant-loop-p
+invariant-loop-p l = Writing l.wanted l.p-items (length l.p-items) l.initial.buffer l.buffer l.k l.p-index

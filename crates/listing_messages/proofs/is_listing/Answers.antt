@@ -1,11 +1,7 @@
-use Rattle.listing_messages.proofs.Rules.{rules}
+use Rattle.std.proofs.Common.{◌∙◌}
+use Rattle.listing_messages.proofs.Rules.{listing-rows}
 use Rattle.listing_messages.proofs.is_listing.Goals as goal
 
-pub are_rows-requires : goal.are_rows-requires
-are_rows-requires c = search rules
-
-pub returns-then-is_headed : goal.returns-then-is_headed
-returns-then-is_headed c = search rules
-
-pub returns-else-is_headed : goal.returns-else-is_headed
-returns-else-is_headed c = search rules
+pub returns : goal.returns
+returns c =
+    listing-rows c.args.message.now (c.from.ensures ∙ c.head_number.ensures) c.is_headed.ensures c.if-not-is_headed.false c.as_chunks.ensures.front c.are_rows.ensures

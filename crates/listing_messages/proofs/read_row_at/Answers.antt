@@ -1,14 +1,8 @@
-use Rattle.listing_messages.proofs.Rules.{rules}
+use Rattle.listing_messages.proofs.Rules.{row-past, row-answer}
 use Rattle.listing_messages.proofs.read_row_at.Goals as goal
 
-pub returns-then-number-ne-DONE : goal.returns-then-number-ne-DONE
-returns-then-number-ne-DONE c = search rules
-
-pub returns-then-count-at : goal.returns-then-count-at
-returns-then-count-at c = search rules
-
-pub slice_bounds-read_row-end : goal.slice_bounds-read_row-end
-slice_bounds-read_row-end c = search rules
+pub returns-then-from-at : goal.returns-then-from-at
+returns-then-from-at c = row-past c.args.message.now c.args.at c.in_ok-count.ensures c.from.ensures c.if-from-at.true
 
 pub returns : goal.returns
-returns c = search rules
+returns c = row-answer c.args.message.now c.args.at c.in_ok-count.ensures c.from.ensures c.if-from-at.false c.read_row.ensures c.ok_or.ensures.value

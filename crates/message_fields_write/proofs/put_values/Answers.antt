@@ -1,4 +1,3 @@
-use Prim.Native.Nat.{◌-◌}
 use Rattle.message_fields_write.proofs.Rules.{rules}
 use Rattle.message_fields_write.proofs.put_values.Goals as goal
 
@@ -10,6 +9,3 @@ overflow_add-place c = search rules
 
 pub loop-at-preserved : goal.loop-at-preserved
 loop-at-preserved c = search rules
-
-pub returns : goal.returns
-returns c = search rules

@@ -1,20 +1,11 @@
-use Rattle.state_fields.proofs.Rules.{rules}
+use mathlib.Core.Path.{◌∙◌, sym}
+use Rattle.state_fields.proofs.Rules.{fit_free, fit-owners}
+use Rattle.state_fields.proofs.all_fit.Goals.{then-rest_is_free, else-rest_is_free}
 use Rattle.state_fields.proofs.all_fit.Goals as goal
 
-pub returns-then-not-rest_is_free : goal.returns-then-not-rest_is_free
-returns-then-not-rest_is_free c = search rules
-
-pub returns-then-not-owners_fit : goal.returns-then-not-owners_fit
-returns-then-not-owners_fit c = search rules
-
-pub bounds-s-80 : goal.bounds-s-80
-bounds-s-80 c = search rules
-
-pub all_stand-requires-clause-s_len : goal.all_stand-requires-clause-s_len
-all_stand-requires-clause-s_len c = search rules
-
-pub all_stand-requires-clause-n_le_places : goal.all_stand-requires-clause-n_le_places
-all_stand-requires-clause-n_le_places c = search rules
-
-pub returns : goal.returns
-returns c = search rules
+pub returns-else-owners_fit : goal.returns-else-owners_fit
+returns-else-owners_fit c =
+    elim c.if-rest_is_free.branch [
+      | then-rest_is_free w ↦ w.value-is ∙ fit-owners c.args.s.now c.rest_is_free.ensures w.if-rest_is_free.true w.owners_fit.ensures (sym w.value-is ∙ c.if-owners_fit.false)
+      | else-rest_is_free w ↦ w.value-is ∙ fit_free c.args.s.now c.rest_is_free.ensures w.if-rest_is_free.false
+    ]

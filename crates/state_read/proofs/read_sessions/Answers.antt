@@ -1,9 +1,7 @@
-use Prim.Native.Nat.{◌-◌}
-use Rattle.state_read.proofs.Rules.{rules}
+use Rattle.module_state.specs.Module.{session_count}
+use Rattle.state_layout.specs.Layout.{session_size, session_from}
+use Rattle.state_read.proofs.Rules.{rules, made-rows, session-at}
 use Rattle.state_read.proofs.read_sessions.Goals as goal
 
-pub loop-i-init : goal.loop-i-init
-loop-i-init c = search rules
-
-pub loop-i-preserved : goal.loop-i-preserved
-loop-i-preserved c = search rules
+pub returns : goal.returns
+returns c = made-rows _ _ session_from session_count session_size c.args.s.now (λ i y f h k. search (rules, session-at)) c.from_fn.ensures.items

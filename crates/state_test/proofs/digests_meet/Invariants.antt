@@ -1,10 +1,5 @@
-use Prim.Native.Nat.{◌+◌, ◌-◌}
-use Rattle.state_test.specs.Digests.{again}
 use Rattle.state_test.proofs.Rules.{RoundTo}
 use Rattle.state_test.proofs.digests_meet.Given as goal
 
 abbrev pub invariant-loop-behind : goal.invariant-loop-behind
 invariant-loop-behind l = RoundTo l.sums l.met l.behind
-
-abbrev pub decreases-loop-behind : goal.decreases-loop-behind
-decreases-loop-behind l = again + 1 - l.behind

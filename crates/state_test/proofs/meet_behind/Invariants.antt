@@ -1,10 +1,5 @@
-use Prim.Native.Nat.{◌-◌}
-use Rattle.table.specs.Table.{places}
 use Rattle.state_test.proofs.Rules.{BehindTo}
 use Rattle.state_test.proofs.meet_behind.Given as goal
 
 abbrev pub invariant-loop-i : goal.invariant-loop-i
 invariant-loop-i l = BehindTo l.sums l.behind l.met l.i
-
-abbrev pub decreases-loop-i : goal.decreases-loop-i
-decreases-loop-i l = places - l.i

@@ -1,11 +1,6 @@
 use Rattle.state_layout.specs.Layout.{place_size, places_at, process_bytes}
 use Rattle.rows.proofs.Loops.{Wrote}
-use Prim.Native.Nat.{◌-◌}
-use Rattle.table.specs.Table.{places}
 use Rattle.state_write_table.proofs.put_places.Given as goal
 
 abbrev pub invariant-loop-i : goal.invariant-loop-i
 invariant-loop-i l = Wrote process_bytes place_size places_at l.l l.initial.s l.s l.i
-
-abbrev pub decreases-loop-i : goal.decreases-loop-i
-decreases-loop-i l = places - l.i

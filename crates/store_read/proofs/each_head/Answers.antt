@@ -1,4 +1,3 @@
-use Prim.Native.Nat.{◌-◌}
 use Rattle.store_read.proofs.Rules.{rules}
 use Rattle.store_read.proofs.each_head.Goals as goal
 
@@ -7,6 +6,3 @@ loop-i-init c = search rules
 
 pub loop-i-preserved : goal.loop-i-preserved
 loop-i-preserved c = search rules
-
-pub returns : goal.returns
-returns c = search rules

@@ -1,12 +1,5 @@
-use Prim.Native.Nat.{◌-◌}
 use Rattle.store_test.proofs.Rules.{rules}
 use Rattle.store_test.proofs.heads_fit.Goals as goal
 
-pub returns-then-not-head_fits_in : goal.returns-then-not-head_fits_in
-returns-then-not-head_fits_in c = search rules
-
 pub loop-i-preserved : goal.loop-i-preserved
 loop-i-preserved c = search rules
-
-pub returns : goal.returns
-returns c = search rules

@@ -1,4 +1,3 @@
-use Prim.Native.Nat.{◌-◌}
 use Rattle.store_test.proofs.Rules.{rules}
 use Rattle.store_test.proofs.is_clear.Goals as goal
 

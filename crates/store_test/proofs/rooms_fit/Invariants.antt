@@ -1,10 +1,5 @@
-use Prim.Native.Nat.{◌-◌}
-use Rattle.module_state.specs.Module.{credential_count}
 use Rattle.store_test.proofs.Rules.{RoomsTo}
 use Rattle.store_test.proofs.rooms_fit.Given as goal
 
 abbrev pub invariant-loop-i : goal.invariant-loop-i
 invariant-loop-i l = RoomsTo l.store l.i
-
-abbrev pub decreases-loop-i : goal.decreases-loop-i
-decreases-loop-i l = credential_count - l.i

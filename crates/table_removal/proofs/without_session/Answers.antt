@@ -1,13 +1,9 @@
-use Prim.Native.Nat.{◌-◌}
-use Rattle.table_removal.proofs.Rules.{rules}
-use Rattle.table_removal.proofs.without_session.Goals.{then-not-is_active_in, else-not-is_active_in}
+use Rattle.table.specs.Table.{is_active_in}
+use Rattle.table_removal.proofs.Rules.{rules, kept_none, kept-all}
 use Rattle.table_removal.proofs.without_session.Goals as goal
 
-pub loop-i-init : goal.loop-i-init
-loop-i-init c = search rules
-
-pub loop-i-preserved : goal.loop-i-preserved
-loop-i-preserved c = elim c.if-not-is_active_in.branch [ then-not-is_active_in w ↦ search rules | else-not-is_active_in w ↦ search rules ]
+pub loop-p-init : goal.loop-p-init
+loop-p-init c = kept_none (is_active_in c.args.s) c.args.t c.standing-p-items.ensures (search rules) c.empty-left.ensures
 
 pub returns : goal.returns
-returns c = search rules
+returns c = kept-all c.args.t c.args.s c.loop-p.invariant c.standing-p-items.ensures c.loop-p-test.false

@@ -1,8 +1,0 @@
-use Rattle.claim_check.proofs.Rules.{rules}
-use Rattle.claim_check.proofs.sought.Goals as goal
-
-pub returns-in-Elevated : goal.returns-in-Elevated
-returns-in-Elevated c = search rules
-
-pub returns-in-ByUser : goal.returns-in-ByUser
-returns-in-ByUser c = search rules

@@ -1,5 +1,0 @@
-use Rattle.entries_arguments.proofs.Rules.{rules}
-use Rattle.entries_arguments.proofs.class_of.Goals as goal
-
-pub returns : goal.returns
-returns c = search rules

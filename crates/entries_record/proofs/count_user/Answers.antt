@@ -1,8 +1,0 @@
-use Rattle.entries_record.proofs.Rules.{rules}
-use Rattle.entries_record.proofs.count_user.Goals as goal
-
-pub overflow_add-by : goal.overflow_add-by
-overflow_add-by c = search rules
-
-pub returns : goal.returns
-returns c = search rules

@@ -1,5 +1,0 @@
-use Rattle.image_write.proofs.Rules.{rules}
-use Rattle.image_write.proofs.saved_row.Goals as goal
-
-pub returns : goal.returns
-returns c = search rules

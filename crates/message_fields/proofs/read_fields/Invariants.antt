@@ -1,9 +1,0 @@
-use Prim.Native.Nat.{◌-◌}
-use Rattle.message_fields.proofs.Rules.{Read}
-use Rattle.message_fields.proofs.read_fields.Given as goal
-
-abbrev pub invariant-loop-at : goal.invariant-loop-at
-invariant-loop-at l = Read l.shape l.bytes l.values l.allowed l.place l.at
-
-abbrev pub decreases-loop-at : goal.decreases-loop-at
-decreases-loop-at l = 7 - l.at

@@ -1,5 +1,0 @@
-use Rattle.state_find.proofs.Rules.{rules}
-use Rattle.state_find.proofs.credential_at.Goals as goal
-
-pub returns : goal.returns
-returns c = search rules
