@@ -14,7 +14,7 @@ use Rattle.names.specs.declared.Session.{Session}
 use Rattle.module_state.specs.Numbers as No
 use Rattle.module_state.specs.Numbers.{◌unless◌, ◌▸◌}
 use Rattle.module_state.specs.Claim.{phase_number, claim_view, turn_number, claim_number, check_number, check_of, checked, admitted, grant_number, passed_by}
-use Rattle.module_state.specs.Refusals.{Checked}
+use Rattle.module_state.specs.declared.Checked.{Checked}
 use Rattle.module_state.specs.declared.Claim.{Claim}
 use Rattle.module_state.specs.declared.Claim.TheVariants.{Elevated, ByUser}
 use Rattle.module_state.specs.declared.ClaimView.{ClaimView}

@@ -18,7 +18,7 @@ use Rattle.table.specs.Table.{standing}
 use Rattle.table.specs.declared.Among.TheVariants.{All, Of}
 use Rattle.module_state.specs.Module.{has_bit, both_words, granted, unprovisioned, lookup}
 use Rattle.module_state.specs.Claim.{checked, check_of, lookup_number, grant_number}
-use Rattle.module_state.specs.Refusals.{Checked}
+use Rattle.module_state.specs.declared.Checked.{Checked}
 use Rattle.module_state.specs.declared.Claim.{Claim}
 use Rattle.module_state.specs.declared.Claim.TheVariants.{Elevated, ByUser}
 use Rattle.module_state.specs.declared.Class.{Class}

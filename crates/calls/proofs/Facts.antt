@@ -23,7 +23,7 @@ use Rattle.module_state.specs.Numbers as No
 use Rattle.module_state.specs.Numbers.{◌when◌, ◌unless◌, ◌▸◌}
 use Rattle.module_state.specs.Module.{is_session, closed_session, phase_of, is_closed, is_chosen, provisioned, has_active, active_process, session_count}
 use Rattle.module_state.specs.Claim.{phase_number, entered, sought, speaker, claim_view, is_spent, check_of, checked, admitted, grant_number}
-use Rattle.module_state.specs.Refusals.{Checked}
+use Rattle.module_state.specs.declared.Checked.{Checked}
 use Rattle.module_state.specs.declared.Claim.{Claim}
 use Rattle.module_state.specs.declared.Claim.TheVariants.{Elevated, ByUser}
 use Rattle.module_state.specs.declared.Class.{Class}

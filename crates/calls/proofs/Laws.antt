@@ -8,14 +8,15 @@ use lib.Dec.{eqb}
 use Rattle.lists.proofs.Tests.{split}
 use Rattle.names.specs.declared.Session.{Session}
 use Rattle.module_state.specs.Claim.{checked}
-use Rattle.module_state.specs.Refusals.{Checked}
+use Rattle.module_state.specs.declared.Checked.{Checked}
 use Rattle.module_state.specs.declared.Claim.{Claim}
 use Rattle.module_state.specs.declared.Refusal.{Refusal}
 use Rattle.module_state.specs.declared.State.{State}
 use Rattle.module_state.proofs.Refusals.{refusal-once, refusal-some}
 use Rattle.calls.specs.declared.Answer.TheVariants.{Done}
 use Rattle.calls.specs.declared.Outcome.{Outcome}
-use Rattle.calls.specs.Calls.{Call, Protection, Free, Under, protection, tests, asked, number, effect, left, refusal, answer_number, outcome, Measured, measured_in}
+use Rattle.calls.specs.Calls.{Call, Protection, Free, Under, protection, tests, asked, number, effect, left, refusal, answer_number, outcome, measured_in}
+use Rattle.calls.specs.declared.Measured.{Measured}
 
 -- an accepted call does what it does; a refused one leaves what a refusal leaves
 pub outcome-done : (st : State) (call : Call) → number st call ≡ 0 → outcome st call ≡ record { state = effect st call; answer = Done }

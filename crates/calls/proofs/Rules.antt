@@ -29,7 +29,9 @@ use Rattle.table.proofs.Searched.{found_at, found_none, count-chosen}
 use Rattle.module_state.specs.Numbers.{◌▸◌}
 use Rattle.module_state.specs.Module.{session_count, credential_count, granted, unprovisioned, words_of, closed_module, has_active, active_place, active_process, taken}
 use Rattle.module_state.specs.Claim.{is_spent, sought, placed, checked}
-use Rattle.module_state.specs.Refusals.{Checked, Placed, number_of, placed_in}
+use Rattle.module_state.specs.Refusals.{number_of, placed_in}
+use Rattle.module_state.specs.declared.Checked.{Checked}
+use Rattle.module_state.specs.declared.Placed.{Placed}
 use Rattle.module_state.specs.declared.Claim.{Claim}
 use Rattle.module_state.specs.declared.Claim.TheVariants.{Elevated, ByUser}
 use Rattle.module_state.specs.declared.Class.{Class}
@@ -47,7 +49,8 @@ use Rattle.calls.specs.declared.Listed.{Listed}
 use Rattle.calls.specs.declared.Outcome.{Outcome}
 use Rattle.calls.specs.declared.Wanted.{Wanted}
 use Rattle.calls.specs.Listing.{head_length, among_of, rows_of, message_length}
-use Rattle.calls.specs.Calls.{Call, Open, Close, Select, Start, Continue, Elevate, Drop, End, Record, ListProcesses, Kill, SetWord, is_version, is_full, has_named, named_place, reach, Protection, Free, protection, Tests, end_tests, record_tests, list_tests, kill_tests, set_word_tests, tests, asked, number, with_table, with_phase, with_grants, user_process, elevation, activated, saved, one_more, counted, ended, effect, left, refusal, outcome, Measured, length_in, measured_in, measured, listed, fresh}
+use Rattle.calls.specs.Calls.{Call, Open, Close, Select, Start, Continue, Elevate, Drop, End, Record, ListProcesses, Kill, SetWord, is_version, is_full, has_named, named_place, reach, Protection, Free, protection, Tests, end_tests, record_tests, list_tests, kill_tests, set_word_tests, tests, asked, number, with_table, with_phase, with_grants, user_process, elevation, activated, saved, one_more, counted, ended, effect, left, refusal, outcome, length_in, measured_in, measured, listed, fresh}
+use Rattle.calls.specs.declared.Measured.{Measured}
 use Rattle.calls.proofs.Cut.{left-free}
 use Rattle.calls.proofs.Laws.{outcome-done, outcome-refused, number_by}
 

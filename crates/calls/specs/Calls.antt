@@ -15,7 +15,8 @@ use Rattle.module_state.specs.Numbers as No
 use Rattle.module_state.specs.Numbers.{◌when◌, ◌unless◌, ◌▸◌}
 use Rattle.module_state.specs.Module.{is_session, phase_of, is_closed, is_credential, provisioned, taken, granted, closed_module, has_active, active_place, active_process}
 use Rattle.module_state.specs.Claim.{entered, checked, admitted, grant_number}
-use Rattle.module_state.specs.Refusals.{Checked, number_of}
+use Rattle.module_state.specs.Refusals.{number_of}
+use Rattle.module_state.specs.declared.Checked.{Checked}
 use Rattle.module_state.specs.declared.Claim.{Claim}
 use Rattle.module_state.specs.declared.Claim.TheVariants.{Elevated, ByUser}
 use Rattle.module_state.specs.declared.Class.{Class}
@@ -29,6 +30,7 @@ use Rattle.module_state.specs.declared.Words.{Words}
 use Rattle.calls.specs.declared.Answer.{Answer}
 use Rattle.calls.specs.declared.Answer.TheVariants.{Done, Refused, RefusedClaim}
 use Rattle.calls.specs.declared.Listed.{Listed}
+use Rattle.calls.specs.declared.Measured.{Measured}
 use Rattle.calls.specs.declared.Outcome.{Outcome}
 use Rattle.calls.specs.declared.Wanted.{Wanted}
 use Rattle.calls.specs.declared.Wanted.TheVariants.{Every, Only}
@@ -333,10 +335,6 @@ outcome st call =
     (record { state = left st call; answer = refusal (protection call) (number st call) })
 
 -- "Returns the message's length; 0 on a refusal."
-pub record Measured : Type 0 where
-  pub number : ℕ
-  pub length : ℕ
-
 unfoldable pub measured : ℕ → ℕ → Measured
 measured n length = record { number = n; length = cond (eqb n No.done) length 0 }
 

@@ -34,6 +34,13 @@ pub struct Outcome {
     pub answer: Answer,
 }
 
+// What the tests of a list call come to, for callers that hold numbers: their number, and the length of its message where that is 0.
+#[derive(Clone, Copy)]
+pub struct Measured {
+    pub number: u8,
+    pub length: usize,
+}
+
 // The outcome of a list call, and the length of its message.
 #[derive(Clone, Copy)]
 pub struct Listed {

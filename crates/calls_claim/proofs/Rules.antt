@@ -14,7 +14,8 @@ use Rattle.table.specs.Table.{process_at, replaced, standing, free_place, is_act
 use Rattle.table.specs.declared.Process.{Process}
 use Rattle.table.specs.declared.Table.{Table}
 use Rattle.module_state.specs.Claim.{is_spent, checked, check_of, passed_by, sought, speaks_for, process_found, claim_view}
-use Rattle.module_state.specs.Refusals.{Checked, refusal_number, number_of}
+use Rattle.module_state.specs.Refusals.{refusal_number, number_of}
+use Rattle.module_state.specs.declared.Checked.{Checked}
 use Rattle.module_state.specs.declared.Claim.{Claim}
 use Rattle.module_state.specs.declared.Claim.TheVariants.{Elevated, ByUser}
 use Rattle.module_state.specs.declared.Refusal.{Refusal}

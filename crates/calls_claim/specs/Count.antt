@@ -2,7 +2,7 @@
 use Rattle.std.specs.Prelude.{ℕ, cond}
 use Rattle.table.specs.Table.{process_at, replaced}
 use Rattle.module_state.specs.Claim.{is_spent, passed_by}
-use Rattle.module_state.specs.Refusals.{Checked}
+use Rattle.module_state.specs.declared.Checked.{Checked}
 use Rattle.module_state.specs.declared.Claim.{Claim}
 use Rattle.module_state.specs.declared.Claim.TheVariants.{Elevated, ByUser}
 use Rattle.module_state.specs.declared.State.{State}

@@ -6,7 +6,7 @@ ghost use Rattle.module_state.specs.Claim.{process_found, claim_view, checked};
 ghost use Rattle.module_state.specs.Refusals.{number_of, checked_in};
 ghost use Rattle.calls_claim.specs.Count.{counted_at, counted_by, charged_by};
 
-use module_state::{Claim, ClaimCheck, ClaimView, Refusal, State};
+use module_state::{Checked, Claim, ClaimCheck, ClaimView, Refusal, State};
 use names::Session;
 use table::{Process, Table};
 
@@ -67,11 +67,21 @@ fn counted_by(st: State, claim: Claim, at: usize) -> State
 }
 
 // The state that a protected call goes on with, or leaves where it is refused: the claim is counted where it passed its check.
-pub fn charged_by<T: Copy>(st: State, by: ClaimCheck, answer: Result<T, Refusal>) -> State
+pub fn charged_with<T: Copy>(st: State, by: ClaimCheck, answer: Result<T, Refusal>) -> State
     ensures { result ≡ charged_by st (checked_in by) (number_of answer) }
 {
     match by.place {
-        Ok(place) if claim_check::passed_by(by, answer) => counted_by(st, by.claim, place),
+        Ok(place) if claim_check::passed_with(by, answer) => counted_by(st, by.claim, place),
         _ => st,
     }
+}
+
+// The same by a check and an answer that are told in numbers.
+pub fn charged_by(st: State, by: Checked, n: u8) -> State
+    ensures { result ≡ charged_by st by n }
+{
+    if !claim_check::passed_by(by, n) {
+        return st;
+    }
+    counted_by(st, by.claim, by.place)
 }

@@ -15,8 +15,8 @@ pub fn end(st: State, s: Session, u: UserClaim, keep: bool) -> Outcome
 {
     let claim = Claim::ByUser(u);
     let by = calls_claim::check(st, s, claim);
-    let tested = calls_protected_tests::end_number(by, keep);
-    let counted = calls_claim::charged_by(st, by, tested);
+    let tested = calls_protected_tests::end_test(by, keep);
+    let counted = calls_claim::charged_with(st, by, tested);
     match tested {
         Ok(place) => calls_effects::accepted(calls_effects::ended(counted, place, keep)),
         Err(refusal) => calls_effects::refused_claim(counted, u8::from(refusal), claim),
@@ -29,8 +29,8 @@ pub fn kill(st: State, s: Session, claim: Claim, name: Name) -> Outcome
     ensures { result ≡ outcome st (Kill s claim name) }
 {
     let by = calls_claim::check(st, s, claim);
-    let tested = calls_protected_tests::kill_number(st, by, name);
-    let counted = calls_claim::charged_by(st, by, tested);
+    let tested = calls_protected_tests::kill_test(st, by, name);
+    let counted = calls_claim::charged_with(st, by, tested);
     match tested {
         Ok(place) => calls_effects::accepted(calls_effects::with_table(
             counted,

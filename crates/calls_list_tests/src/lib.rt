@@ -8,8 +8,8 @@ ghost use Rattle.module_state.specs.Refusals.{number_of, checked_in};
 ghost use Rattle.calls.specs.Listing.{among_of, rows_of, message_length};
 ghost use Rattle.calls.specs.Calls.{list_others, is_wanted, is_own, list_tests, asked, measured, measured_in};
 
-use calls::{HEAD_LENGTH, Wanted};
-use module_state::{ClaimCheck, LIST_OTHERS, Refusal, State};
+use calls::{HEAD_LENGTH, Measured, Wanted};
+use module_state::{Checked, ClaimCheck, DONE, LIST_OTHERS, Refusal, State};
 use names::{Credential, ROW_LENGTH};
 use table::Among;
 
@@ -46,7 +46,7 @@ fn others_number(by: ClaimCheck, wanted: Wanted) -> Result<(), Refusal>
     if is_own(by.credential, wanted) {
         return Ok(());
     }
-    module_state::grant_number(by, LIST_OTHERS)
+    module_state::grant_test(by, LIST_OTHERS)
 }
 
 #[tactic(auto, using(calls::proofs::Rules::rules))]
@@ -57,7 +57,7 @@ fn message_length(st: State, wanted: Wanted) -> usize
 }
 
 // The length of the message.
-pub fn list_number(st: State, by: ClaimCheck, wanted: Wanted, room: usize) -> Result<usize, Refusal>
+pub fn list_test(st: State, by: ClaimCheck, wanted: Wanted, room: usize) -> Result<usize, Refusal>
     ensures { measured_in result ≡ measured (asked (list_tests st wanted room) (checked_in by)) (message_length (length (rows_of st wanted))) }
 {
     if !is_wanted(wanted) {
@@ -69,4 +69,39 @@ pub fn list_number(st: State, by: ClaimCheck, wanted: Wanted, room: usize) -> Re
         return Err(Refusal::Room);
     }
     Ok(length)
+}
+
+fn refused(n: u8) -> Measured
+    ensures { result ≡ record { number = n; length = 0 } }
+{
+    Measured {
+        number: n,
+        length: 0,
+    }
+}
+
+// The number, and the length of the message, for callers that hold numbers: what the check of a claim came to is told in them.
+pub fn list_number(st: State, by: Checked, wanted: Wanted, room: usize) -> Measured
+    ensures { result ≡ measured (asked (list_tests st wanted room) by) (message_length (length (rows_of st wanted))) }
+{
+    if !is_wanted(wanted) {
+        return refused(Refusal::Argument as u8);
+    }
+    if by.number != DONE {
+        return refused(by.number);
+    }
+    let passed = ClaimCheck {
+        claim: by.claim,
+        place: Ok(by.place),
+        next: by.next,
+        credential: by.credential,
+        grants: by.grants,
+    };
+    match list_test(st, passed, wanted, room) {
+        Ok(length) => Measured {
+            number: DONE,
+            length,
+        },
+        Err(refusal) => refused(u8::from(refusal)),
+    }
 }

@@ -9,10 +9,13 @@ use Rattle.table.specs.declared.Among.{Among}
 use Rattle.table.proofs.Searched.{FoundAt, found_at, found_none}
 use Rattle.module_state.specs.Numbers.{◌unless◌, ◌▸◌}
 use Rattle.module_state.specs.Claim.{placed}
-use Rattle.module_state.specs.Refusals.{Checked, placed_in, refusal_number}
+use Rattle.module_state.specs.Refusals.{placed_in, refusal_number}
+use Rattle.module_state.specs.declared.Checked.{Checked}
+use Rattle.module_state.specs.declared.Placed.{Placed}
 use Rattle.module_state.specs.declared.Refusal.{Refusal}
 use Rattle.module_state.specs.declared.Refusal.TheVariants.{NoProcess}
 use Rattle.module_state.specs.declared.State.{State}
+use Rattle.module_state.proofs.Laws.{stop}
 use Rattle.module_state.proofs.Refusals.{row-ends, refusal-some}
 use Rattle.calls.specs.Calls.{has_named, named_place, reach, kill_tests, asked}
 use Rattle.calls.proofs.Rules.{rules as call-rules}
@@ -37,4 +40,11 @@ module _ (st : State) (name : Name) (by : Checked) {among : Among} {f : Option �
       let here : FoundAt (is_named name among) (standing st.table) at = found_at (is_named name among) (standing st.table) (sym e ∙ q) in
       rw (← a, here.some, ← here.is, z)
 
-pub ruleset rules = (call-rules, kill-refused, kill-missing, kill-found)
+-- where its claim is refused with a number that a caller holds
+pub kill-stopped : (st : State) (name : Name) (by : Checked) (at : ℕ) → (by.number ≡ 0 → ⊥) → ◌≡◌ {A = Placed} (record { number = by.number; place = 0 }) (placed (asked (kill_tests st name) by) at)
+unfolding placed asked kill_tests ◌▸◌
+kill-stopped st name by at h =
+    let n : by.number ≡ asked (kill_tests st name) by = sym (stop _ h) in
+    rw (← n, ne_eqb by.number 0 h)
+
+pub ruleset rules = (call-rules, kill-refused, kill-missing, kill-found, kill-stopped)

@@ -15,8 +15,8 @@ pub fn list(st: State, s: Session, claim: Claim, wanted: Wanted, room: usize) ->
     ensures { result ≡ listed st s claim wanted room }
 {
     let by = calls_claim::check(st, s, claim);
-    let tested = calls_list_tests::list_number(st, by, wanted, room);
-    let counted = calls_claim::charged_by(st, by, tested);
+    let tested = calls_list_tests::list_test(st, by, wanted, room);
+    let counted = calls_claim::charged_with(st, by, tested);
     match tested {
         Ok(length) => Listed {
             outcome: calls_effects::accepted(counted),
@@ -35,8 +35,8 @@ pub fn set_word(st: State, s: Session, claim: Claim, target: Credential, words: 
     ensures { result ≡ outcome st (SetWord s claim target words) }
 {
     let by = calls_claim::check(st, s, claim);
-    let tested = calls_protected_tests::set_word_number(st, by, target);
-    let counted = calls_claim::charged_by(st, by, tested);
+    let tested = calls_protected_tests::set_word_test(st, by, target);
+    let counted = calls_claim::charged_with(st, by, tested);
     if let Err(refusal) = tested {
         return calls_effects::refused_claim(counted, u8::from(refusal), claim);
     }

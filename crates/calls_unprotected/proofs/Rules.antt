@@ -17,7 +17,8 @@ use Rattle.module_state.specs.Module.{is_credential, provisioned, has_active, ac
 use Rattle.module_state.specs.declared.Refusal.TheVariants as Why
 use Rattle.module_state.proofs.Rules.{when-hit, when-miss, unless-stop, unless-pass}
 use Rattle.module_state.specs.Claim.{entered, placed}
-use Rattle.module_state.specs.Refusals.{placed_in, Placed}
+use Rattle.module_state.specs.Refusals.{placed_in}
+use Rattle.module_state.specs.declared.Placed.{Placed}
 use Rattle.module_state.specs.declared.Refusal.{Refusal}
 use Rattle.module_state.specs.declared.State.{State}
 use Rattle.calls.specs.Calls.{Call, Start, Continue, Elevate, Drop, user_process, elevation, Free, protection, has_named, named_place, number, with_table, activated, outcome}

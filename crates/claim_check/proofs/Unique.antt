@@ -19,6 +19,8 @@ use Rattle.claim_check.proofs.speaks_for.Kinds as speaks-for-kinds
 use Rattle.claim_check.proofs.speaks_for.Reads as speaks-for
 use Rattle.claim_check.proofs.check_claim.Kinds as check-claim-kinds
 use Rattle.claim_check.proofs.check_claim.Reads as check-claim
+use Rattle.claim_check.proofs.passed_with.Kinds as passed-with-kinds
+use Rattle.claim_check.proofs.passed_with.Reads as passed-with
 use Rattle.claim_check.proofs.passed_by.Kinds as passed-by-kinds
 use Rattle.claim_check.proofs.passed_by.Reads as passed-by
 
@@ -40,6 +42,9 @@ speaks-for-once κs a x y s t p q = p ∙ sym q
 pub check-claim-once : OneAnswer 0 check-claim-kinds.ps check-claim-kinds.r check-claim.Post
 check-claim-once κs a x y s t p q = checked-once x y (p ∙ sym q)
 
-pub passed-by-once : (T : RattleType) (laws : Laws T) (copied : IsCopy T) (ghosts : clone.Ghosts T.Denot) (dict : Dict)
-    → OneAnswer 1 (passed-by-kinds.ps T laws copied) (passed-by-kinds.r T laws copied) (passed-by.Post T laws copied ghosts dict)
-passed-by-once T laws copied ghosts dict κs a x y s t p q = p ∙ sym q
+pub passed-with-once : (T : RattleType) (laws : Laws T) (copied : IsCopy T) (ghosts : clone.Ghosts T.Denot) (dict : Dict)
+    → OneAnswer 1 (passed-with-kinds.ps T laws copied) (passed-with-kinds.r T laws copied) (passed-with.Post T laws copied ghosts dict)
+passed-with-once T laws copied ghosts dict κs a x y s t p q = p ∙ sym q
+
+pub passed-by-once : OneAnswer 0 passed-by-kinds.ps passed-by-kinds.r passed-by.Post
+passed-by-once κs a x y s t p q = p ∙ sym q

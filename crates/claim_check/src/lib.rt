@@ -6,7 +6,7 @@ ghost use Rattle.table.specs.Table.{found_place};
 ghost use Rattle.module_state.specs.Claim.{sought, speaks_for, is_in_range, is_spent, turn_number, claim_number, check_number, placed, check_of, passed_by};
 ghost use Rattle.module_state.specs.Refusals.{number_of, placed_in, checked_in};
 
-use module_state::{Claim, ClaimCheck, ClaimView, Refusal, UserClaim};
+use module_state::{Checked, Claim, ClaimCheck, ClaimView, DONE, Refusal, UserClaim};
 use names::{Credential, Session};
 use table::Active;
 
@@ -118,8 +118,15 @@ pub fn check_claim(s: Session, claim: Claim, view: ClaimView) -> ClaimCheck
 }
 
 // Whether a claim passed its check, by what that came to and what its call answers: ahead of a claim a call is refused with 1 alone, and after it never.
-pub fn passed_by<T: Copy>(by: ClaimCheck, answer: Result<T, Refusal>) -> bool
+pub fn passed_with<T: Copy>(by: ClaimCheck, answer: Result<T, Refusal>) -> bool
     ensures { result ≡ passed_by (checked_in by) (number_of answer) }
 {
     by.place.is_ok() && !matches!(answer, Err(Refusal::Argument))
+}
+
+// The same by a check and an answer that are told in numbers.
+pub fn passed_by(by: Checked, n: u8) -> bool
+    ensures { result ≡ passed_by by n }
+{
+    by.number == DONE && n != Refusal::Argument as u8
 }

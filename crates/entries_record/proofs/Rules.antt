@@ -16,7 +16,8 @@ use Rattle.table.specs.declared.Process.{Process}
 use Rattle.module_state.specs.Numbers.{◌unless◌, ◌▸◌}
 use Rattle.module_state.specs.Module.{is_session, active_process}
 use Rattle.module_state.specs.Claim.{is_in_range, sought, checked, admitted}
-use Rattle.module_state.specs.Refusals.{Checked, refusal_number, number_of, place_in, checked_in}
+use Rattle.module_state.specs.Refusals.{refusal_number, number_of, place_in, checked_in}
+use Rattle.module_state.specs.declared.Checked.{Checked}
 use Rattle.module_state.specs.declared.Claim.{Claim}
 use Rattle.module_state.specs.declared.Claim.TheVariants.{Elevated, ByUser}
 use Rattle.module_state.specs.declared.ClaimCheck.{ClaimCheck}

@@ -41,5 +41,5 @@ pub fn record(state: &mut [u8], s: Session, claim: Claim, class: Class) -> Resul
     }
     let by = state_find::check(state, s, claim)?;
     count(state, s, claim, by);
-    calls_protected_tests::record_number(by, class)
+    calls_protected_tests::record_test(by, class)
 }

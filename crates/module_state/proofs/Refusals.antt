@@ -3,7 +3,9 @@
 use Rattle.std.specs.Prelude.{ℕ, [], ◌∷◌, get_or, Result, Ok, Err}
 use Rattle.std.proofs.Common.{◌≡◌, refl, sym, ap, ◌∙◌, arith}
 use Rattle.module_state.specs.Numbers.{◌▸◌}
-use Rattle.module_state.specs.Refusals.{refusal_number, number_of, Placed, placed_in, Checked, checked_in}
+use Rattle.module_state.specs.Refusals.{refusal_number, number_of, placed_in, checked_in}
+use Rattle.module_state.specs.declared.Placed.{Placed}
+use Rattle.module_state.specs.declared.Checked.{Checked}
 use Rattle.module_state.specs.declared.ClaimCheck.{ClaimCheck}
 use Rattle.module_state.specs.declared.Refusal.{Refusal}
 use Rattle.module_state.specs.declared.Refusal.TheVariants as Why

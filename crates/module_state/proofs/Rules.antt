@@ -9,7 +9,7 @@ use lib.ListN.{length, get_or, get_or-eq_default}
 use borrow.Author.Rules.{rules as std_rules}
 use borrow.Author.Tests.{not-true, not-false, le-leb, lt-leb, ne_eqb}
 use Rattle.lists.proofs.Lists.{length-mapped}
-use Rattle.module_state.specs.Refusals.{Checked}
+use Rattle.module_state.specs.declared.Checked.{Checked}
 use Rattle.module_state.specs.declared.Claim.{Claim}
 use Rattle.module_state.specs.declared.Claim.TheVariants.{Elevated, ByUser}
 use Rattle.module_state.specs.declared.Class.{Class}
@@ -17,7 +17,7 @@ use Rattle.module_state.specs.declared.Grants.{Grants}
 use Rattle.module_state.specs.declared.Handle.{Handle}
 use Rattle.module_state.specs.declared.Lookup.{Lookup}
 use Rattle.module_state.specs.declared.Lookup.TheVariants.{NotGranted, Granted, OnlyElevated}
-use Rattle.module_state.specs.Refusals.{Placed}
+use Rattle.module_state.specs.declared.Placed.{Placed}
 use Rattle.module_state.specs.declared.Port.{Port}
 use Rattle.module_state.specs.declared.SessionState.{SessionState}
 use Rattle.module_state.specs.declared.State.{State}

@@ -19,6 +19,8 @@ use Rattle.module_state.proofs.words_of.Kinds as words-of-kinds
 use Rattle.module_state.proofs.words_of.Reads as words_of
 use Rattle.module_state.proofs.closed_module.Kinds as closed-module-kinds
 use Rattle.module_state.proofs.closed_module.Reads as closed-module
+use Rattle.module_state.proofs.grant_test.Kinds as grant-test-kinds
+use Rattle.module_state.proofs.grant_test.Reads as grant-test
 use Rattle.module_state.proofs.grant_number.Kinds as grant-number-kinds
 use Rattle.module_state.proofs.grant_number.Reads as grant-number
 use Rattle.module_state.proofs.phase_number.Kinds as phase-number-kinds
@@ -50,8 +52,11 @@ words-of-once κs a x y s t p q = p ∙ sym q
 pub closed-module-once : OneAnswer 0 closed-module-kinds.ps closed-module-kinds.r closed-module.Post
 closed-module-once κs a x y s t p q = p ∙ sym q
 
+pub grant-test-once : OneAnswer 0 grant-test-kinds.ps grant-test-kinds.r grant-test.Post
+grant-test-once κs a x y s t p q = number-once x y (p ∙ sym q)
+
 pub grant-number-once : OneAnswer 0 grant-number-kinds.ps grant-number-kinds.r grant-number.Post
-grant-number-once κs a x y s t p q = number-once x y (p ∙ sym q)
+grant-number-once κs a x y s t p q = p ∙ sym q
 
 pub phase-number-once : OneAnswer 0 phase-number-kinds.ps phase-number-kinds.r phase-number.Post
 phase-number-once κs a x y s t p q = number-once x y (p ∙ sym q)

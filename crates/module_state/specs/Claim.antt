@@ -7,7 +7,7 @@ use Rattle.table.specs.declared.Active.{Active}
 use Rattle.table.specs.declared.Active.TheVariants.{UserOf, ElevationIn}
 use Rattle.table.specs.declared.Process.{Process}
 use Rattle.table.specs.declared.Table.{Table}
-use Rattle.module_state.specs.Refusals.{Checked}
+use Rattle.module_state.specs.declared.Checked.{Checked}
 use Rattle.module_state.specs.declared.Claim.{Claim}
 use Rattle.module_state.specs.declared.Claim.TheVariants.{Elevated, ByUser}
 use Rattle.module_state.specs.declared.ClaimView.{ClaimView}
@@ -15,7 +15,7 @@ use Rattle.module_state.specs.declared.Class.{Class}
 use Rattle.module_state.specs.declared.Lookup.{Lookup}
 use Rattle.module_state.specs.declared.Lookup.TheVariants.{NotGranted, Granted, OnlyElevated}
 use Rattle.module_state.specs.declared.Phase.{Phase}
-use Rattle.module_state.specs.Refusals.{Placed}
+use Rattle.module_state.specs.declared.Placed.{Placed}
 use Rattle.module_state.specs.declared.State.{State}
 use Rattle.module_state.specs.declared.UserClaim.{UserClaim}
 use Rattle.module_state.specs.Numbers as No

@@ -1,10 +1,9 @@
 -- The numbers as the code has them: a refusal is a value of its own, and what tests answer is done, or the refusal of the first that holds.
 use Rattle.std.specs.Prelude.{ℕ, Result, Ok, Err}
-use Rattle.names.specs.declared.Credential.{Credential}
 use Rattle.module_state.specs.Numbers as No
-use Rattle.module_state.specs.declared.Claim.{Claim}
+use Rattle.module_state.specs.declared.Checked.{Checked}
 use Rattle.module_state.specs.declared.ClaimCheck.{ClaimCheck}
-use Rattle.module_state.specs.declared.Grants.{Grants}
+use Rattle.module_state.specs.declared.Placed.{Placed}
 use Rattle.module_state.specs.declared.Refusal.{Refusal}
 use Rattle.module_state.specs.declared.Refusal.TheVariants as Why
 
@@ -33,10 +32,6 @@ number_of (Ok x) = No.done
 number_of (Err refusal) = refusal_number refusal
 
 -- the number that a call is refused with stands by itself, and beside it what the tests found: 0 where they refuse
-pub record Placed : Type 0 where
-  pub number : ℕ
-  pub place : ℕ
-
 abbrev pub place_in : Result ℕ Refusal → ℕ
 place_in (Ok place) = place
 place_in (Err refusal) = 0
@@ -45,14 +40,6 @@ abbrev pub placed_in : Result ℕ Refusal → Placed
 placed_in answer = record { number = number_of answer; place = place_in answer }
 
 -- what the check of a claim comes to: its number, and what a call goes on with where that is 0
-pub record Checked : Type 0 where
-  pub claim : Claim
-  pub number : ℕ
-  pub place : ℕ
-  pub next : ℕ
-  pub credential : Credential
-  pub grants : Grants
-
 abbrev pub checked_in : ClaimCheck → Checked
 checked_in by =
     record {

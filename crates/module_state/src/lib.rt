@@ -164,6 +164,24 @@ pub struct ClaimCheck {
     pub grants: Grants,
 }
 
+// What the check of a claim comes to, for callers that hold numbers: its number, and what a call goes on with where that is 0.
+#[derive(Clone, Copy)]
+pub struct Checked {
+    pub claim: Claim,
+    pub number: u8,
+    pub place: usize,
+    pub next: u16,
+    pub credential: Credential,
+    pub grants: Grants,
+}
+
+// What tests come to that find a process, for such callers: their number, and the place of the process where that is 0.
+#[derive(Clone, Copy)]
+pub struct Placed {
+    pub number: u8,
+    pub place: usize,
+}
+
 pub fn is_session(s: Session) -> bool
     ensures { result ≡ is_session s }
 {
@@ -267,10 +285,20 @@ fn lookup_number(claim: Claim, answer: Lookup) -> Result<(), Refusal>
 }
 
 // The test that a class is granted, by what the check of a claim came to.
-pub fn grant_number(by: ClaimCheck, class: Class) -> Result<(), Refusal>
+pub fn grant_test(by: ClaimCheck, class: Class) -> Result<(), Refusal>
     ensures { number_of result ≡ grant_number (checked_in by) class }
 {
     lookup_number(by.claim, look_up(by.grants, class))
+}
+
+// The number of that test, for callers that hold numbers.
+pub fn grant_number(by: Checked, class: Class) -> u8
+    ensures { result ≡ grant_number by class }
+{
+    match lookup_number(by.claim, look_up(by.grants, class)) {
+        Ok(()) => DONE,
+        Err(refusal) => u8::from(refusal),
+    }
 }
 
 // The tests that all calls but open, close and select begin with, of a session in a phase.

@@ -13,7 +13,7 @@ use Rattle.table.specs.Table.{standing, is_active}
 use Rattle.table.specs.declared.Active.{Active}
 use Rattle.module_state.specs.Module.{has_active, active_place}
 use Rattle.module_state.specs.Claim.{checked, admitted}
-use Rattle.module_state.specs.Refusals.{Checked}
+use Rattle.module_state.specs.declared.Checked.{Checked}
 use Rattle.module_state.specs.declared.Claim.{Claim}
 use Rattle.module_state.specs.declared.State.{State}
 use Rattle.module_state.proofs.Laws.{checked-number}

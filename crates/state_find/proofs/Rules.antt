@@ -36,7 +36,9 @@ use Rattle.table.proofs.Searched.{FoundAt, found_at}
 use Rattle.table_search.proofs.Rules.{Searching, begin, on, hit, none}
 use Rattle.module_state.specs.Module.{closed_session, phase_of, is_session, unprovisioned, grants_of, session_count, credential_count, active_place, active_process}
 use Rattle.module_state.specs.Claim.{phase_number, sought, speaks_for, speaker, claim_view, is_in_range, turn_number, claim_number, check_number, placed, check_of, checked, admitted}
-use Rattle.module_state.specs.Refusals.{Placed, Checked, refusal_number}
+use Rattle.module_state.specs.Refusals.{refusal_number}
+use Rattle.module_state.specs.declared.Placed.{Placed}
+use Rattle.module_state.specs.declared.Checked.{Checked}
 use Rattle.module_state.specs.declared.Claim.{Claim}
 use Rattle.module_state.specs.declared.Claim.TheVariants.{Elevated, ByUser}
 use Rattle.module_state.specs.declared.ClaimView.{ClaimView}

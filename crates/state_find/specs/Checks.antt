@@ -5,7 +5,9 @@ use Rattle.table.specs.Table.{found_place, find_active}
 use Rattle.module_state.specs.Numbers as No
 use Rattle.module_state.specs.Claim.{sought, claim_view, claim_number, placed, checked, admitted}
 use Rattle.module_state.specs.declared.Claim.{Claim}
-use Rattle.module_state.specs.Refusals.{Placed, Checked, refusal_number, checked_in}
+use Rattle.module_state.specs.Refusals.{refusal_number, checked_in}
+use Rattle.module_state.specs.declared.Placed.{Placed}
+use Rattle.module_state.specs.declared.Checked.{Checked}
 use Rattle.module_state.specs.declared.ClaimCheck.{ClaimCheck}
 use Rattle.module_state.specs.declared.Refusal.{Refusal}
 use Rattle.module_state.specs.declared.State.{State}

@@ -12,4 +12,4 @@ returns-in_err-by c =
 pub returns : goal.returns
 returns c =
     record-passed c.args.state.now c.args.s c.args.claim c.args.class c.are_in_range.ensures c.is_ready.ensures c.if-not-is_ready.false c.check.result c.check.ensures
-    c.in_ok-by.was c.count.ensures c.record_number.ensures
+    c.in_ok-by.was c.count.ensures c.record_test.ensures
