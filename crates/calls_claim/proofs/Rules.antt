@@ -129,13 +129,14 @@ module _ (st : State) (call : Call) {s : Session} {claim : Claim} (w : protectio
       (λ y. q ∙ rw (p, y) (sym (left-stopped st call y)))
 
 -- so of a call that answers why its tests refuse it, with the claim
-pub by-refused-claim : (st : State) {claim : Claim} {why : Refusal} {x : State} {o : Outcome} → o ≡ record { state = x; answer = RefusedClaim (refusal_number why) claim }
-    → {by : Checked} {T : Type 0} {tested : Result T Refusal} → x ≡ charged_by st by (number_of tested) → tested ≡ Err why
+pub by-refused-claim : (st : State) {claim : Claim} {n : ℕ} {x : State} {o : Outcome} → o ≡ record { state = x; answer = RefusedClaim n claim }
+    → {why : Refusal} → n ≡ refusal_number why → {by : Checked} {T : Type 0} {tested : Result T Refusal} → x ≡ charged_by st by (number_of tested) → tested ≡ Err why
     → (call : Call) {s : Session} → by ≡ checked st s claim → number_of tested ≡ number st call → protection call ≡ Under s claim → o ≡ outcome st call
 unfolding refusal
-by-refused-claim st {why = why} w {by} {T} q t call e m p =
+by-refused-claim st {claim} {n} {x} {o} w {why} d {by} {T} q t call e m p =
+    let answered : o ≡ record { state = x; answer = RefusedClaim (refusal_number why) claim } = w ∙ rw d in
     let told : number_of {T = T} (Err why) ≡ number st call = rw t at m in
     let some : refusal_number why ≡ 0 → ⊥ = refusal-some why in
-    refused_as st call told some p (charged-left st call p e told some (q ∙ ap (λ (r : Result T Refusal). charged_by st by (number_of r)) t)) w
+    refused_as st call told some p (charged-left st call p e told some (q ∙ ap (λ (r : Result T Refusal). charged_by st by (number_of r)) t)) answered
 
 pub ruleset rules = (call-rules, count-spent, count_fits, count-more, count-elevated, count-user, charged-done, charge-stopped, charge-passed, by-refused-claim, length-mapped, process-found-at, process-found-none, view-is, checked-is)

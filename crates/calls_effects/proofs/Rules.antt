@@ -1,6 +1,6 @@
 -- The laws that close the goals of this crate's functions. Assumes nothing.
 use Prim.Native.Nat.{ℕ, ◌+◌, ◌<◌, ◌≤◌}
-use mathlib.Core.Path.{◌≡◌, refl, ◌∙◌}
+use mathlib.Core.Path.{◌≡◌, refl, sym, ◌∙◌}
 use mathlib.Core.List.{List, []}
 use native.Mathlib.Omega.{arith}
 use lib.ListN.{length, get_or, set}
@@ -29,8 +29,8 @@ fresh-is v h k e q = q ∙ rw (mapped-all v (omega arith), e)
 pub by-done : (st : State) (call : Call) {x : State} {r : Outcome} → 0 ≡ number st call → r ≡ record { state = x; answer = Done } → x ≡ effect st call → r ≡ outcome st call
 by-done st call e q w = by-effect st call e refl q w
 
-pub by-refused : (st : State) (call : Call) (why : Refusal) {r : Outcome}
-    → refusal_number why ≡ number st call → protection call ≡ Free → r ≡ record { state = st; answer = Refused (refusal_number why) } → r ≡ outcome st call
-by-refused st call why e p q = by-refusal st call e (refusal-some why) p q
+pub by-refused : (st : State) (call : Call) {n : ℕ} {r : Outcome} → r ≡ record { state = st; answer = Refused n }
+    → (why : Refusal) → n ≡ refusal_number why → refusal_number why ≡ number st call → protection call ≡ Free → r ≡ outcome st call
+by-refused st call q why told e p = by-refusal st call (told ∙ e) (λ z. refusal-some why (sym told ∙ z)) p q
 
 pub ruleset rules = (mapped-none, take_on, fresh-is)

@@ -4,10 +4,9 @@
 ghost use Rattle.std.specs.Prelude.{◌≡◌};
 ghost use Rattle.calls.specs.Calls.{with_table, with_phase, with_grants, user_process, elevation, activated, saved, ended, fresh};
 ghost use Rattle.module_state.specs.Module.{taken};
-ghost use Rattle.module_state.specs.Refusals.{refusal_number};
 
 use calls::{Answer, Outcome};
-use module_state::{CREDENTIALS, Claim, Grants, Phase, Refusal, SESSIONS, SessionState, State};
+use module_state::{CREDENTIALS, Claim, Grants, Phase, SESSIONS, SessionState, State};
 use names::{Credential, Kind, Name, Session};
 use table::{Process, Table};
 
@@ -22,21 +21,21 @@ pub fn accepted(st: State) -> Outcome
     }
 }
 
-pub fn refused(st: State, refusal: Refusal) -> Outcome
-    ensures { result ≡ record { state = st; answer = Answer.Refused (refusal_number refusal) } }
+pub fn refused(st: State, n: u8) -> Outcome
+    ensures { result ≡ record { state = st; answer = Answer.Refused n } }
 {
     Outcome {
         state: st,
-        answer: Answer::Refused(refusal as u8),
+        answer: Answer::Refused(n),
     }
 }
 
-pub fn refused_claim(st: State, refusal: Refusal, claim: Claim) -> Outcome
-    ensures { result ≡ record { state = st; answer = Answer.RefusedClaim (refusal_number refusal) claim } }
+pub fn refused_claim(st: State, n: u8, claim: Claim) -> Outcome
+    ensures { result ≡ record { state = st; answer = Answer.RefusedClaim n claim } }
 {
     Outcome {
         state: st,
-        answer: Answer::RefusedClaim(refusal as u8, claim),
+        answer: Answer::RefusedClaim(n, claim),
     }
 }
 

@@ -19,7 +19,7 @@ pub fn end(st: State, s: Session, u: UserClaim, keep: bool) -> Outcome
     let counted = calls_claim::charged_by(st, by, tested);
     match tested {
         Ok(place) => calls_effects::accepted(calls_effects::ended(counted, place, keep)),
-        Err(refusal) => calls_effects::refused_claim(counted, refusal, claim),
+        Err(refusal) => calls_effects::refused_claim(counted, u8::from(refusal), claim),
     }
 }
 
@@ -36,6 +36,6 @@ pub fn kill(st: State, s: Session, claim: Claim, name: Name) -> Outcome
             counted,
             table_removal::removed(counted.table, place),
         )),
-        Err(refusal) => calls_effects::refused_claim(counted, refusal, claim),
+        Err(refusal) => calls_effects::refused_claim(counted, u8::from(refusal), claim),
     }
 }

@@ -27,7 +27,7 @@ pub fn open_session(st: State, s: Session) -> Outcome
     ensures { result ≡ outcome st (Open s) }
 {
     if let Err(refusal) = open_number(st, s) {
-        return calls_effects::refused(st, refusal);
+        return calls_effects::refused(st, u8::from(refusal));
     }
     calls_effects::accepted(calls_effects::with_phase(st, s, Phase::Opened))
 }
@@ -51,7 +51,7 @@ pub fn close_session(st: State, s: Session) -> Outcome
     ensures { result ≡ outcome st (Close s) }
 {
     if let Err(refusal) = close_number(st, s) {
-        return calls_effects::refused(st, refusal);
+        return calls_effects::refused(st, u8::from(refusal));
     }
     let left = calls_effects::with_table(st, table_removal::without_session(st.table, s));
     calls_effects::accepted(calls_effects::with_phase(left, s, Phase::Closed))
@@ -80,7 +80,7 @@ pub fn select_version(st: State, s: Session, byte: u8) -> Outcome
     ensures { result ≡ outcome st (Select s byte) }
 {
     if let Err(refusal) = select_number(st, s, byte) {
-        return calls_effects::refused(st, refusal);
+        return calls_effects::refused(st, u8::from(refusal));
     }
     calls_effects::accepted(calls_effects::with_phase(st, s, Phase::Chosen))
 }

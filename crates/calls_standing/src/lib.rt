@@ -23,7 +23,7 @@ pub fn list(st: State, s: Session, claim: Claim, wanted: Wanted, room: usize) ->
             length,
         },
         Err(refusal) => Listed {
-            outcome: calls_effects::refused_claim(counted, refusal, claim),
+            outcome: calls_effects::refused_claim(counted, u8::from(refusal), claim),
             length: 0,
         },
     }
@@ -38,7 +38,7 @@ pub fn set_word(st: State, s: Session, claim: Claim, target: Credential, words: 
     let tested = calls_protected_tests::set_word_number(st, by, target);
     let counted = calls_claim::charged_by(st, by, tested);
     if let Err(refusal) = tested {
-        return calls_effects::refused_claim(counted, refusal, claim);
+        return calls_effects::refused_claim(counted, u8::from(refusal), claim);
     }
     let grants = Grants {
         provisioned: true,

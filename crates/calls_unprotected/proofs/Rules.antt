@@ -61,9 +61,9 @@ module _ (m at : ℕ) where
   place-placed e = let z : 0 ≡ m = number-placed e in ap (λ (p : Placed). p.place) e ∙ rw (← z)
 
 -- ---- a call whose tests find a place: refused, and done there
-pub refused-there : (st : State) (call : Call) (why : Refusal) (at : ℕ) {r : Outcome}
-    → placed_in (Err why) ≡ placed (number st call) at → protection call ≡ Free → r ≡ record { state = st; answer = Refused (refusal_number why) } → r ≡ outcome st call
-refused-there st call why at e p q = by-refused st call why (number-placed _ at e) p q
+pub refused-there : (st : State) (call : Call) {n : ℕ} {r : Outcome} → r ≡ record { state = st; answer = Refused n }
+    → (why : Refusal) (at : ℕ) → n ≡ refusal_number why → placed_in (Err why) ≡ placed (number st call) at → protection call ≡ Free → r ≡ outcome st call
+refused-there st call q why at told e p = by-refused st call q why told (number-placed _ at e) p
 
 module _ (st : State) (s : Session) {x : State} {r : Outcome} (q : r ≡ record { state = x; answer = Done }) where
   pub continue-done : (c : Credential) (name : Name) {k : ℕ} → x ≡ with_table st (replaced st.table k (activated s (process_at st.table k)))

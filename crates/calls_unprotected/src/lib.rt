@@ -67,7 +67,7 @@ pub fn start(st: State, s: Session, c: Credential, name: Name) -> Outcome
             let t = table_change::appended(st.table, p);
             calls_effects::accepted(calls_effects::with_table(st, t))
         }
-        Err(refusal) => calls_effects::refused(st, refusal),
+        Err(refusal) => calls_effects::refused(st, u8::from(refusal)),
     }
 }
 
@@ -101,7 +101,7 @@ pub fn continue_saved(st: State, s: Session, c: Credential, name: Name) -> Outco
 {
     match continue_number(st, s, c, name) {
         Ok(place) => calls_effects::accepted(continued(st, s, place)),
-        Err(refusal) => calls_effects::refused(st, refusal),
+        Err(refusal) => calls_effects::refused(st, u8::from(refusal)),
     }
 }
 
@@ -136,7 +136,7 @@ pub fn elevate(st: State, s: Session, c: Credential, name: Name, verdict: bool) 
             let t = table_change::appended(st.table, p);
             calls_effects::accepted(calls_effects::with_table(st, t))
         }
-        Err(refusal) => calls_effects::refused(st, refusal),
+        Err(refusal) => calls_effects::refused(st, u8::from(refusal)),
     }
 }
 
@@ -162,6 +162,6 @@ pub fn drop_elevation(st: State, s: Session) -> Outcome
             let t = table_removal::removed(st.table, place);
             calls_effects::accepted(calls_effects::with_table(st, t))
         }
-        Err(refusal) => calls_effects::refused(st, refusal),
+        Err(refusal) => calls_effects::refused(st, u8::from(refusal)),
     }
 }
