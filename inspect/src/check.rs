@@ -2,7 +2,7 @@
 
 use crate::map::{self, Citation, Column, Map, Target};
 use crate::scope::{self, Scope};
-use crate::source::Kind;
+use crate::source::{Declaration, Kind};
 use crate::tree::{Folder, Id, Tree};
 use std::collections::{BTreeMap, BTreeSet, HashSet};
 use std::fs;
@@ -244,11 +244,71 @@ fn files_are_named(tree: &Tree, map: &Map) -> Verdict {
     }
 }
 
-/// Whether a statement is that word of a contract, at once or, of a generic function, for each of its types.
-fn says(statement: &str, word: &str) -> bool {
-    [": ", "→ "]
-        .iter()
-        .any(|before| statement.contains(&format!("{before}{word} ")))
+/// What a theorem of one answer says of a contract, one of an answer that is lent (what lies there), and one of what was lent.
+const ANSWER: &str = "OneAnswer";
+const VIEW: &str = "OneView";
+const CONTENT: &str = "OneContent";
+
+/// How a statement `OneView` ends: it is of all that lies there.
+const WHOLE_VIEW: &str = "(λ κs x. x.now)";
+
+/// Whether a theorem says that word of a function's contract: at once or, where the function has type parameters, of each argument that
+/// its contract takes for them. Behind anything else it would say it of less.
+fn says(theorem: &Declaration, word: &str, function: &Declaration) -> bool {
+    let statement = theorem.statement.join(" ");
+    let Some((_, said)) = statement.split_once(" : ") else {
+        return false;
+    };
+    let (asked, said) = match said.split_once(&format!("→ {word} ")) {
+        Some((before, _)) if has_type_parameters(function) => (bound_names(before), word),
+        _ => (Some(Vec::new()), said.trim_start()),
+    };
+    said.split(' ').next() == Some(word)
+        && asked.is_some_and(|names| names == taken_by_contract(&statement))
+        && (word != VIEW || statement.trim_end().ends_with(WHOLE_VIEW))
+}
+
+/// Whether a function is one for each type: `fn NAME<T: ..>`, where a lifetime is none.
+fn has_type_parameters(function: &Declaration) -> bool {
+    let parameters = function
+        .statement
+        .first()
+        .and_then(|line| line.split_once(&format!("fn {}<", function.name)))
+        .and_then(|(_, rest)| rest.split_once('('))
+        .map_or("", |(parameters, _)| parameters);
+    parameters
+        .split(',')
+        .any(|one| !one.trim().is_empty() && !one.trim().starts_with('\''))
+}
+
+/// The names of `(a b : A) (c : C)`; none where something else stands among these.
+fn bound_names(text: &str) -> Option<Vec<&str>> {
+    let mut names = Vec::new();
+    let mut rest = text.trim();
+    while !rest.is_empty() {
+        let inner = rest.strip_prefix('(')?;
+        let mut depth = 1;
+        let end = inner.find(|c| {
+            depth += i32::from(c == '(') - i32::from(c == ')');
+            depth == 0
+        })?;
+        names.extend(inner[..end].split_once(" : ")?.0.split_whitespace());
+        rest = inner[end + 1..].trim_start();
+    }
+    Some(names)
+}
+
+/// What stands behind the contract, in its brackets: `(same.Post T laws)`. A contract of no type parameters stands without.
+fn taken_by_contract(statement: &str) -> Vec<&str> {
+    let brackets = statement.split('(');
+    let mut contracts = brackets.filter_map(|part| {
+        let (inner, _) = part.split_once(')')?;
+        let (contract, taken) = inner.split_once(' ')?;
+        contract.ends_with(".Post").then_some(taken)
+    });
+    contracts
+        .next()
+        .map_or(Vec::new(), |taken| taken.split_whitespace().collect())
 }
 
 /// The theorems of proofs/Unique.antt that no second answer, or no second content of what was lent, meets a function's contract.
@@ -261,9 +321,9 @@ pub fn one_answer(tree: &Tree, function: Id) -> Vec<Id> {
     let speaks = |at: &usize| {
         let theorem = &tree.files[file].content.declarations[*at];
         let statement = theorem.statement.join(" ");
-        let is_one = ["OneAnswer", "OneView", "OneContent"]
+        let is_one = [ANSWER, VIEW, CONTENT]
             .iter()
-            .any(|word| says(&statement, word));
+            .any(|word| says(theorem, word, tree.declaration(function)));
         let posts = statement
             .split([' ', '(', ')'])
             .filter(|word| word.ends_with(".Post"));
@@ -302,7 +362,7 @@ fn answers_are_one(tree: &Tree) -> Verdict {
         let of = |word: &str| {
             let statements = theorems.iter().map(|theorem| tree.declaration(*theorem));
             statements
-                .filter(|theorem| says(&theorem.statement.join(" "), word))
+                .filter(|theorem| says(theorem, word, tree.declaration(id)))
                 .count()
         };
         let answers = usize::from(signature.contains("-> "));
@@ -310,11 +370,11 @@ fn answers_are_one(tree: &Tree) -> Verdict {
         verdict.looked_at += answers + lent;
         // of an answer that is lent, what lies there
         let answer = if signature.contains("-> &") {
-            "OneView"
+            VIEW
         } else {
-            "OneAnswer"
+            ANSWER
         };
-        for (wanted, word) in [(answers, answer), (lent, "OneContent")] {
+        for (wanted, word) in [(answers, answer), (lent, CONTENT)] {
             let found = of(word);
             for _ in found..wanted {
                 verdict.wrong.push(format!(
@@ -447,6 +507,56 @@ mod tests {
         ]);
         tree.crates[1].is_exported = true;
         exports_say_the_same(&tree).wrong.len()
+    }
+
+    /// How many theorems a public function lacks, where this one stands in proofs/Unique.antt.
+    fn lacking(signature: &str, statement: &str) -> usize {
+        let code =
+            format!("pub {signature}\n    ensures {{ result ≡ sized part }}\n{{\n    0\n}}\n");
+        let uses = "use Rattle.parts.proofs.sized.Kinds as kinds\nuse Rattle.parts.proofs.sized.Reads as sized\n\n";
+        let proof = format!(
+            "{uses}pub sized-once : {statement}\nsized-once κs a x y s t p q = p ∙ sym q\n"
+        );
+        let tree = tree(&[
+            ("parts", Folder::Src, "lib", &code),
+            ("parts", Folder::Proofs, "Unique", &proof),
+        ]);
+        answers_are_one(&tree).wrong.len()
+    }
+
+    #[test]
+    fn a_theorem_of_one_answer_asks_nothing_ahead() {
+        let (plain, generic) = (
+            "fn sized(part: u8) -> u8",
+            "fn sized<T: Copy>(part: T) -> u8",
+        );
+        let one = "OneAnswer 0 kinds.ps kinds.r sized.Post";
+        assert_eq!(lacking(plain, one), 0);
+        assert_eq!(lacking(plain, &format!("⊥ → {one}")), 1);
+        assert_eq!(lacking(plain, &format!("(no : ⊥) → {one}")), 1);
+        assert_eq!(lacking(plain, &format!("{{no : ⊥}} → {one}")), 1);
+        assert_eq!(
+            lacking("fn sized<'a>(part: &'a u8) -> u8", &format!("⊥ → {one}")),
+            1
+        );
+
+        let types = "(T : RattleType) (laws copied : Laws T (T))";
+        let each = "OneAnswer 0 (kinds.ps T) (kinds.r T) (sized.Post T laws copied)";
+        assert_eq!(lacking(generic, &format!("{types}\n    → {each}")), 0);
+        assert_eq!(lacking(generic, &format!("⊥ → {each}")), 1);
+        assert_eq!(lacking(generic, &format!("{types} → ⊥ → {each}")), 1);
+        assert_eq!(lacking(generic, &format!("{types} (no : ⊥) → {each}")), 1);
+        assert_eq!(lacking(generic, &format!("{types} {{no : ⊥}} → {each}")), 1);
+        assert_eq!(lacking(generic, each), 1);
+    }
+
+    #[test]
+    fn a_theorem_of_a_lent_answer_is_of_all_that_lies_there() {
+        let lends = "fn sized(part: &[u8]) -> &[u8]";
+        let view = "OneView 1 kinds.ps kinds.r sized.Post";
+        assert_eq!(lacking(lends, &format!("{view} (λ κs x. x.now)")), 0);
+        assert_eq!(lacking(lends, &format!("{view} (λ κs x. tt)")), 1);
+        assert_eq!(lacking(lends, &format!("{view} (λ κs x. length x.now)")), 1);
     }
 
     #[test]

@@ -1,5 +1,5 @@
-//! Reads a file of Rattle (`.rt`) in the formatter's layout: a declaration begins at the margin, a function's body is between braces
-//! at the margin.
+//! Reads a file of Rattle (`.rt`) in the formatter's layout: a declaration begins at the margin, or in the block of what a type has of its
+//! own; a function's body is between braces where it begins.
 
 use crate::antt;
 use crate::source::{begins_contract, indent, Content, Declaration, Held, Kind, Member, Use};
@@ -45,9 +45,16 @@ fn used(text: &str) -> Option<Use> {
     Some(Use::names_of(module, names.trim_start_matches('{')))
 }
 
+/// The header of a block that gives a type what a trait asks: `impl From<Kind> for u8 {`.
+fn trait_given(line: &str) -> Option<&str> {
+    let header = line.strip_prefix("impl")?;
+    let begins = header.starts_with([' ', '<']);
+    (begins && header.contains(" for ")).then_some(header)
+}
+
 fn begun(text: &str, number: usize) -> Option<Declaration> {
-    // what a trait gives a type: by no name of its own, and for no one to cite
-    if let Some(header) = text.strip_prefix("impl ") {
+    // what a trait gives a type: by no name of its own, and for no one to cite. What a type has of its own is read as what it is
+    if let Some(header) = trait_given(text) {
         let words = header.split(|c: char| !c.is_alphanumeric());
         let words: Vec<&str> = words.filter(|word| !word.is_empty()).collect();
         let name = format!("impl_{}", words.join("_"));
@@ -84,12 +91,13 @@ fn fill(declaration: &mut Declaration, lines: &[&str]) {
                 .iter()
                 .position(|line| line.ends_with('{') && !begins_contract(line))
                 .unwrap_or(lines.len() - 1);
+            let brace = format!("{}}}", " ".repeat(indent(lines[0])));
             let ends = lines
                 .iter()
-                .position(|line| *line == "}")
+                .position(|line| *line == brace)
                 .map_or(lines.len(), |last| last + 1);
             // a brace by itself is the body's, one that ends the signature is the signature's
-            let head = if lines[opens] == "{" {
+            let head = if lines[opens].trim() == "{" {
                 opens
             } else {
                 opens + 1
@@ -101,7 +109,7 @@ fn fill(declaration: &mut Declaration, lines: &[&str]) {
                 .collect();
         }
         _ => {
-            let is_block = lines[0].starts_with("impl ");
+            let is_block = trait_given(lines[0]).is_some();
             let last = lines
                 .iter()
                 .position(|line| *line == "}" || !is_block && line.ends_with(';'))
@@ -199,6 +207,29 @@ mod tests {
         );
         assert_eq!((given.line, given.statement.len()), (2, 7));
         assert_eq!(content.declarations[1].name, "ONE");
+    }
+
+    #[test]
+    fn functions_of_a_type_s_own_are_found() {
+        let file = "pub struct Part(pub u8);\n\nimpl Part {\n    pub fn sized(part: &[u8]) -> usize\n        ensures { result ≡ length part.now }\n    {\n        \
+            part.len()\n    }\n\n    pub fn none() -> u8 {\n        0\n    }\n}\n\nconst ONE: u8 = 1;\n";
+        let content = read(file);
+        let found: Vec<_> = content
+            .declarations
+            .iter()
+            .map(|d| (d.name.as_str(), d.kind, d.public))
+            .collect();
+        assert_eq!(
+            found,
+            [
+                ("Part", Kind::Type, true),
+                ("sized", Kind::Function, true),
+                ("none", Kind::Function, true),
+                ("ONE", Kind::Constant, false)
+            ]
+        );
+        let sized = &content.declarations[1];
+        assert_eq!((sized.statement.len(), sized.body.len()), (2, 3));
     }
 
     #[test]

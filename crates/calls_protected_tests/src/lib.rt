@@ -154,7 +154,8 @@ pub fn set_word_number(st: State, by: Checked, target: Credential) -> u8
     if grant != DONE {
         return grant;
     }
-    if !module_state::grants_of(st, target).provisioned {
+    let grants = module_state::grants_of(st, target);
+    if !grants.provisioned {
         return Refusal::Credential as u8;
     }
     DONE

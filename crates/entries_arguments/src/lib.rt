@@ -52,7 +52,7 @@ pub fn is_flag(n: u32) -> bool
 pub fn are_flags(m: u32, n: u32) -> bool
     ensures { result ≡ is_flag m && is_flag n }
 {
-    is_flag(m) && is_flag(n)
+    both(is_flag(m), is_flag(n))
 }
 
 pub fn user_claim_of(credential: u32, number: u16, verdict: u32) -> UserClaim

@@ -32,10 +32,8 @@ fn all_fit(grants: [Grants; CREDENTIALS]) -> bool
 fn is_owner(grants: [Grants; CREDENTIALS], c: Credential) -> bool
     ensures { result ≡ is_owner grants c }
 {
-    match grants.get(usize::from(c.0)) {
-        Some(one) => one.provisioned,
-        None => false,
-    }
+    let owner = usize::from(c.0);
+    owner < CREDENTIALS && grants[owner].provisioned
 }
 
 // Whether a row may be kept, by its owner and its next number.
