@@ -4,7 +4,7 @@
 ghost use Rattle.std.specs.Prelude.{◌≡◌, get_or};
 ghost use Rattle.message_formats.specs.declared.Field.TheVariants.{Unused};
 ghost use Rattle.message_formats.specs.Formats.{form_of, fields_of, meant, is_allowed};
-ghost use Rattle.message_fields.specs.Fields.{values_of, fields_read, fields_tested};
+ghost use Rattle.message_fields.specs.Fields.{fields_read, fields_tested};
 
 use message_formats::{Form, Shape};
 
@@ -50,20 +50,27 @@ fn is_allowed(form: Form, value: u64) -> bool
     form.least <= value && value <= form.most
 }
 
-// ---- the fields of a shape
+// ---- the fields of a shape. The form of each is looked up once
 
-// The values that the fields at the front of a slice say. A byte past its end counts as 0.
-fn values_of(bytes: &[u8], shape: Shape) -> [u64; VALUES]
-    ensures { result ≡ values_of shape bytes.now }
+// The fields at the front of a slice: Ok, where each value may stand in its field; what was read all the same, where one may not. A byte past its end counts as 0.
+pub fn read_fields(bytes: &[u8], shape: Shape) -> Result<FieldsRead, FieldsRead>
+    ensures { result ≡ fields_read shape bytes.now }
 {
     let mut values = [0; VALUES];
+    let mut allowed = true;
     let mut place = 0;
     for at in 0..VALUES {
         let form = form_at(shape, at);
-        values[at] = meaning(form, rows::number_at(bytes, place, form.width));
+        let value = meaning(form, rows::number_at(bytes, place, form.width));
+        values[at] = value;
+        allowed &= is_allowed(form, value);
         place += form.width;
     }
-    values
+    let read = FieldsRead {
+        long: place,
+        values,
+    };
+    if allowed { Ok(read) } else { Err(read) }
 }
 
 // Values that are handed in, tested.
@@ -78,15 +85,4 @@ pub fn test_fields(shape: Shape, values: [u64; VALUES]) -> FieldsTested
         long += form.width;
     }
     FieldsTested { long, allowed }
-}
-
-// The fields at the front of a slice: Ok, where each value may stand in its field; what was read all the same, where one may not.
-#[tactic(auto, unfolding(crate::specs::Fields::fields_read, crate::specs::Fields::fields_tested))]
-pub fn read_fields(bytes: &[u8], shape: Shape) -> Result<FieldsRead, FieldsRead>
-    ensures { result ≡ fields_read shape bytes.now }
-{
-    let values = values_of(bytes, shape);
-    let FieldsTested { long, allowed } = test_fields(shape, values);
-    let read = FieldsRead { long, values };
-    if allowed { Ok(read) } else { Err(read) }
 }

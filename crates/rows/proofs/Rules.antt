@@ -6,10 +6,14 @@ use Rattle.std.specs.Array.{IsFromFnResult, IsFromFnResultFrom}
 use denote.Param.Members.{Mut, Called}
 use Rattle.std.proofs.Math.Nat.{div-div-eq-div-mul, pow-suc}
 use borrow.Rule.Slice.PartMut.{put_mid}
+use lib.ListN.{length-drop, drop_of_length-le}
+use lib.Seq.{drop-cons}
+use mir.Val.{Fits}
+use native.Mathlib.Nat.{pow-le-pow_right}
 use Rattle.lists.proofs.Tests.{below}
-use Rattle.rows.specs.Bytes.{bytes_of, number_of, number_at, width_of}
+use Rattle.rows.specs.Bytes.{Bytes, bytes_of, number_of, number_at, width_of}
 use Rattle.rows.specs.Rows.{over}
-use Rattle.rows.proofs.Bytes.{number-split, number-one, number_past, width_low, length-bytes}
+use Rattle.rows.proofs.Bytes.{number-split, number-one, number_past, number_small, bytes_drop, width_low, length-bytes}
 use Rattle.rows.proofs.Over.{over-short, over-part}
 
 -- ---- std's numbers of bytes, little endian, are ours
@@ -74,6 +78,45 @@ said64 at w bytes b x e l s f =
     let h : length b ≤ 8 = rw f (simp length-take (omega (arith, width_low w))) in
     e ∙ through 7 x ∙ ap number_of (take_all 8 x (omega arith)) ∙ first-said 8 b x l s ∙ ap number_of (take_all 8 b h ∙ f)
 
+-- ---- a number of any width, read from its highest byte down: what the bytes from `left` on say
+pub record Said (b : List ℕ) (number left : ℕ) : Type 0 where
+  pub low : left ≤ length b
+  pub few : length b ≤ 8
+  pub is : number ≡ number_of (drop left b)
+
+pub said-begin : (w : ℕ) (bytes b : List ℕ) → b ≡ take (width_of w) bytes → Said b 0 (length b)
+unfolding number_of
+said-begin w bytes b f =
+    let past : length b ≤ length b = omega arith in
+    record { low = omega arith; few = rw f (simp length-take (omega (arith, width_low w))); is = rw (drop_of_length-le b past) }
+
+module _ {b : List ℕ} {number left : ℕ} (v : Said b number left) where
+  module _ (h : 0 < left) (t : Bytes b) where
+    small : number < 256 ^ 7
+    small =
+        let some : length (drop left b) ≤ 7 = simp length-drop (omega (arith, v.low, v.few)) in
+        let z : 0 < 256 = omega arith in
+        omega (arith, v.is, number_small (drop left b) (bytes_drop left b t), pow-le-pow_right z some)
+
+    pub said-times : Fits w64 (number * 256)
+    said-times = record { fits = omega (arith, small) }
+
+    pub said-sum : {x : ℕ} → x ≡ get_or b (left - 1) 0 → Fits w64 (number * 256 + x)
+    said-sum {x} e = record { fits = omega (arith, small, e, t (left - 1)) }
+
+    -- the byte before `left` comes in as the lowest
+    pub said-on : {x : ℕ} → x ≡ get_or b (left - 1) 0 → Said b (number * 256 + x) (left - 1)
+    unfolding number_of
+    said-on {x} e =
+        let inside : left - 1 < length b = omega (arith, v.low) in
+        let next : suc (left - 1) ≡ left = omega arith in
+        let rest : number_of (drop (suc (left - 1)) b) ≡ number = ap (λ (m : ℕ). number_of (drop m b)) next ∙ sym v.is in
+        record { low = omega (arith, v.low); few = v.few; is = rw (drop-cons b (left - 1) 0 inside, rest, e) }
+
+  pub said-all : (at w : ℕ) (bytes front : List ℕ) → left ≤ 0 → front ≡ drop at bytes → b ≡ take (width_of w) front → number ≡ number_at (width_of w) at bytes
+  unfolding number_at
+  said-all at w bytes front h e f = let none : left ≡ 0 = omega arith in rw none at v.is ∙ rw (f, e)
+
 -- ---- bytes written
 pub part-written : (at : ℕ) (bytes old new : List ℕ) → length bytes ≤ length old → at ≤ length old - length bytes → new ≡ bytes → put_mid at (at + length bytes - at) old new ≡ over at (length bytes) bytes old
 part-written at bytes old new h k e = let z : at + length bytes - at ≡ length bytes = omega arith in rw (z, e) (over-part at (length bytes) bytes old (omega arith))
@@ -106,4 +149,4 @@ pub put64 : (at w n : ℕ) (y x old new : List ℕ) → y ≡ to_le_bytes w64 n 
 put64 at w n y x old new e q h =
     number-put (width_of w) at n x old new (q ∙ ap (take (width_of w)) (e ∙ low-bytes 8 n) ∙ low-part (width_of w) 8 n (width_low w)) h
 
-pub ruleset rules = (std_rules, made, said16, said32, said64, part-written, past-written, put16, put32, put64, short-written)
+pub ruleset rules = (std_rules, made, said16, said32, said64, said-begin, said-times, said-sum, said-on, said-all, part-written, past-written, put16, put32, put64, short-written)

@@ -57,12 +57,16 @@ fn first_bytes<const N: usize>(bytes: &[u8]) -> [u8; N]
     array::from_fn(|i| byte_at(bytes, i))
 }
 
-// A number of any width.
+// A number of any width: no more bytes than that are read. The highest comes first, so that each is added once.
 pub fn number_at(bytes: &[u8], at: usize, width: usize) -> u64
     ensures { result ≡ number_at (width_of width) at bytes.now }
 {
     let asked = bytes_up_to(bytes_from(bytes, at), width_of(width));
-    u64::from_le_bytes(first_bytes(asked))
+    let mut number: u64 = 0;
+    for i in (0..asked.len()).rev() {
+        number = number * 256 + u64::from(asked[i]);
+    }
+    number
 }
 
 // Of two bytes and of four: the claim's number and the grant word are read by these.
