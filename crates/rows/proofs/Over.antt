@@ -151,6 +151,11 @@ module _ {at n : ℕ} {x old : List ℕ} {place : ℕ} {new : List ℕ} where
         is = v.is ∙ over-append place k m y z new e r;
       }
 
+  pub left-byte : (m b : ℕ) (z : List ℕ) → Left at n x old place (1 + m) (b ∷ z) new → Left at n x old (place + 1) m z (set new place b)
+  left-byte m b z v =
+      let h : place < length new = omega (arith, v.room) in
+      rw (over-set place b new h) (left-next 1 m (b ∷ []) z refl v)
+
 -- ---- a number of k bytes that was written is read there, at every width
 pub number-written : (k at n : ℕ) (old : List ℕ) → n < 256 ^ k → at + k ≤ length old → number_at k at (over at k (bytes_of k n) old) ≡ n
 unfolding number_at

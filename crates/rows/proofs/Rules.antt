@@ -6,15 +6,15 @@ use Rattle.std.specs.Array.{IsFromFnResult, IsFromFnResultFrom}
 use denote.Param.Members.{Mut, Called}
 use Rattle.std.proofs.Math.Nat.{div-div-eq-div-mul, pow-suc}
 use borrow.Rule.Slice.PartMut.{put_mid}
-use lib.ListN.{length-drop, drop_of_length-le}
-use lib.Seq.{drop-cons}
+use lib.ListN.{length-drop, drop_of_length-le, set}
+use lib.Seq.{drop-cons, get_or-take, get_or-drop}
 use mir.Val.{Fits}
 use native.Mathlib.Nat.{pow-le-pow_right}
 use Rattle.lists.proofs.Tests.{below}
 use Rattle.rows.specs.Bytes.{Bytes, bytes_of, number_of, number_at, width_of}
 use Rattle.rows.specs.Rows.{over}
-use Rattle.rows.proofs.Bytes.{number-split, number-one, number_past, number_small, bytes_drop, width_low, length-bytes}
-use Rattle.rows.proofs.Over.{over-short, over-part}
+use Rattle.rows.proofs.Bytes.{number-split, number-one, number_past, number_small, bytes_take, bytes_drop, width_low, length-bytes}
+use Rattle.rows.proofs.Over.{over-short, over-part, Left, left-all, left-none, left-byte}
 
 -- ---- std's numbers of bytes, little endian, are ours
 through : (k : ℕ) (b : List ℕ) → sum_through (λ i. byte_worth i (slice_index b i)) k ≡ number_of (take (suc k) b)
@@ -78,44 +78,60 @@ said64 at w bytes b x e l s f =
     let h : length b ≤ 8 = rw f (simp length-take (omega (arith, width_low w))) in
     e ∙ through 7 x ∙ ap number_of (take_all 8 x (omega arith)) ∙ first-said 8 b x l s ∙ ap number_of (take_all 8 b h ∙ f)
 
--- ---- a number of any width, read from its highest byte down: what the bytes from `left` on say
-pub record Said (b : List ℕ) (number left : ℕ) : Type 0 where
-  pub low : left ≤ length b
-  pub few : length b ≤ 8
-  pub is : number ≡ number_of (drop left b)
+-- ---- a number of any width, read from its highest byte down: of those that are asked for and there, what the ones from `left` on say
+pub record Said (at width : ℕ) (bytes : List ℕ) (number left : ℕ) : Type 0 where
+  pub low : left ≤ length (take (width_of width) (drop at bytes))
+  pub is : number ≡ number_of (drop left (take (width_of width) (drop at bytes)))
 
-pub said-begin : (w : ℕ) (bytes b : List ℕ) → b ≡ take (width_of w) bytes → Said b 0 (length b)
-unfolding number_of
-said-begin w bytes b f =
-    let past : length b ≤ length b = omega arith in
-    record { low = omega arith; few = rw f (simp length-take (omega (arith, width_low w))); is = rw (drop_of_length-le b past) }
+module _ (at width : ℕ) (bytes : List ℕ) where
+  abbrev asked : List ℕ
+  asked = take (width_of width) (drop at bytes)
 
-module _ {b : List ℕ} {number left : ℕ} (v : Said b number left) where
-  module _ (h : 0 < left) (t : Bytes b) where
-    small : number < 256 ^ 7
-    small =
-        let some : length (drop left b) ≤ 7 = simp length-drop (omega (arith, v.low, v.few)) in
-        let z : 0 < 256 = omega arith in
-        omega (arith, v.is, number_small (drop left b) (bytes_drop left b t), pow-le-pow_right z some)
+  few : length asked ≤ 8
+  few = simp length-take (omega (arith, width_low width))
 
-    pub said-times : Fits w64 (number * 256)
-    said-times = record { fits = omega (arith, small) }
+  pub said-begin : {size : ℕ} → size ≡ length asked → Said at width bytes 0 size
+  unfolding number_of
+  said-begin {size} e =
+      let past : length asked ≤ size = omega (arith, e) in
+      record { low = omega (arith, e); is = rw (drop_of_length-le asked past) }
 
-    pub said-sum : {x : ℕ} → x ≡ get_or b (left - 1) 0 → Fits w64 (number * 256 + x)
-    said-sum {x} e = record { fits = omega (arith, small, e, t (left - 1)) }
+  module _ {number left : ℕ} (v : Said at width bytes number left) where
+    module _ (h : 0 < left) where
+      pub said-place : at + (left - 1) < length bytes
+      said-place = omega (arith, v.low, length-take (width_of width) (drop at bytes), length-drop at bytes)
 
-    -- the byte before `left` comes in as the lowest
-    pub said-on : {x : ℕ} → x ≡ get_or b (left - 1) 0 → Said b (number * 256 + x) (left - 1)
-    unfolding number_of
-    said-on {x} e =
-        let inside : left - 1 < length b = omega (arith, v.low) in
-        let next : suc (left - 1) ≡ left = omega arith in
-        let rest : number_of (drop (suc (left - 1)) b) ≡ number = ap (λ (m : ℕ). number_of (drop m b)) next ∙ sym v.is in
-        record { low = omega (arith, v.low); few = v.few; is = rw (drop-cons b (left - 1) 0 inside, rest, e) }
+      here : get_or asked (left - 1) 0 ≡ get_or bytes (at + (left - 1)) 0
+      here =
+          let k : left - 1 < width_of width = omega (arith, v.low, length-take (width_of width) (drop at bytes)) in
+          get_or-take (width_of width) (drop at bytes) (left - 1) 0 k ∙ get_or-drop at bytes (left - 1) 0
 
-  pub said-all : (at w : ℕ) (bytes front : List ℕ) → left ≤ 0 → front ≡ drop at bytes → b ≡ take (width_of w) front → number ≡ number_at (width_of w) at bytes
-  unfolding number_at
-  said-all at w bytes front h e f = let none : left ≡ 0 = omega arith in rw none at v.is ∙ rw (f, e)
+      -- the byte before `left` comes in as the lowest
+      pub said-on : {x : ℕ} → x ≡ get_or bytes (at + (left - 1)) 0 → Said at width bytes (number * 256 + x) (left - 1)
+      unfolding number_of
+      said-on {x} e =
+          let within : left - 1 < length asked = omega (arith, v.low) in
+          let next : suc (left - 1) ≡ left = omega arith in
+          let rest : number_of (drop (suc (left - 1)) asked) ≡ number = ap (λ (m : ℕ). number_of (drop m asked)) next ∙ sym v.is in
+          record { low = omega (arith, v.low); is = rw (drop-cons asked (left - 1) 0 within, rest, here, e) }
+
+      module _ (t : Bytes bytes) where
+        small : number < 256 ^ 7
+        small =
+            let some : length (drop left asked) ≤ 7 = simp length-drop (omega (arith, v.low, few)) in
+            let each : Bytes (drop left asked) = bytes_drop left asked (bytes_take (width_of width) (drop at bytes) (bytes_drop at bytes t)) in
+            let z : 0 < 256 = omega arith in
+            omega (arith, v.is, number_small (drop left asked) each, pow-le-pow_right z some)
+
+        pub said-times : Fits w64 (number * 256)
+        said-times = record { fits = omega (arith, small) }
+
+        pub said-sum : {x : ℕ} → x ≡ get_or bytes (at + (left - 1)) 0 → Fits w64 (number * 256 + x)
+        said-sum {x} e = record { fits = omega (arith, small, e, t (at + (left - 1))) }
+
+    pub said-all : left ≤ 0 → number ≡ number_at (width_of width) at bytes
+    unfolding number_at
+    said-all h = let none : left ≡ 0 = omega arith in rw none at v.is
 
 -- ---- bytes written
 pub part-written : (at : ℕ) (bytes old new : List ℕ) → length bytes ≤ length old → at ≤ length old - length bytes → new ≡ bytes → put_mid at (at + length bytes - at) old new ≡ over at (length bytes) bytes old
@@ -149,4 +165,45 @@ pub put64 : (at w n : ℕ) (y x old new : List ℕ) → y ≡ to_le_bytes w64 n 
 put64 at w n y x old new e q h =
     number-put (width_of w) at n x old new (q ∙ ap (take (width_of w)) (e ∙ low-bytes 8 n) ∙ low-part (width_of w) 8 n (width_low w)) h
 
-pub ruleset rules = (std_rules, made, said16, said32, said64, said-begin, said-times, said-sum, said-on, said-all, part-written, past-written, put16, put32, put64, short-written)
+-- ---- a number of any width written: what is left of it
+pub record NumberTo (at size number : ℕ) (old new : List ℕ) (rest i : ℕ) : Type 0 where
+  pub low : i ≤ size
+  pub remains : Left at size (bytes_of size number) old (at + i) (size - i) (bytes_of (size - i) rest) new
+
+module _ (at width number : ℕ) (old : List ℕ) {size : ℕ} (w : size ≡ width_of width) where
+  pub number-over : length old < size → old ≡ over at (width_of width) (bytes_of (width_of width) number) old
+  number-over h = sym (over-short at (width_of width) (bytes_of (width_of width) number) old (omega arith))
+
+  module _ (h : size ≤ length old) where
+    pub number_short : length old - size < at → old ≡ over at (width_of width) (bytes_of (width_of width) number) old
+    number_short k = sym (over-short at (width_of width) (bytes_of (width_of width) number) old (omega arith))
+
+    pub number-begin : at ≤ length old - size → NumberTo at size number old old number 0
+    number-begin k =
+        let p : at + 0 ≡ at = omega arith in
+        let q : size - 0 ≡ size = omega arith in
+        record { low = omega arith; remains = rw (p, q) (left-all at size (bytes_of size number) old (omega arith)) }
+
+module _ {at size number : ℕ} {old new : List ℕ} {rest i : ℕ} (v : NumberTo at size number old new rest i) where
+  pub number-length : length new ≡ length old
+  number-length = v.remains.long
+
+  pub number-place : i < size → at + i < length new
+  number-place h = omega (arith, v.remains.room)
+
+  pub number-on : i < size → NumberTo at size number old (set new (at + i) (rest % 256)) (rest / 256) (i + 1)
+  unfolding bytes_of
+  number-on h =
+      let w : size - i ≡ suc (size - (i + 1)) = omega arith in
+      let o : suc (size - (i + 1)) ≡ 1 + (size - (i + 1)) = omega arith in
+      let p : at + (i + 1) ≡ at + i + 1 = omega arith in
+      let q : Left at size (bytes_of size number) old (at + i) (suc (size - (i + 1))) (bytes_of (suc (size - (i + 1))) rest) new =
+      subst (λ (n : ℕ). Left at size (bytes_of size number) old (at + i) n (bytes_of n rest) new) w v.remains
+      in
+      record { low = omega arith; remains = rw p (left-byte (size - (i + 1)) (rest % 256) (bytes_of (size - (i + 1)) (rest / 256)) (rw o at q)) }
+
+  pub number-end : (width : ℕ) → size ≡ width_of width → size ≤ i → new ≡ over at (width_of width) (bytes_of (width_of width) number) old
+  unfolding bytes_of
+  number-end width w h = let z : size - i ≡ 0 = omega arith in rw w at (left-none (rw z at v.remains))
+
+pub ruleset rules = (std_rules, made, said16, said32, said64, said-begin, said-place, said-times, said-sum, said-on, said-all, part-written, past-written, put16, put32, put64, short-written, number-over, number_short, number-begin, number-length, number-place, number-on, number-end)

@@ -1,7 +1,7 @@
 // Bytes: numbers of up to eight of them, read and written little endian. `specs/` and `proofs/` have the records in rows of bytes as well.
 #![tactic(auto, using(crate::proofs::Rules::rules), unfolding(crate::specs::Bytes::byte_of, crate::specs::Bytes::width_of))]
 
-ghost use Rattle.std.specs.Prelude.{◌≡◌, length, get_or, take, drop, ℕ, ◌<◌};
+ghost use Rattle.std.specs.Prelude.{◌≡◌, length, get_or, drop, ℕ, ◌<◌};
 ghost use Rattle.rows.specs.Bytes.{bytes_of, number_at, byte_of, width_of};
 ghost use Rattle.rows.specs.Rows.{over};
 
@@ -43,13 +43,6 @@ pub fn bytes_from(bytes: &[u8], at: usize) -> &[u8]
     bytes.get(at..).unwrap_or(&[])
 }
 
-// The first bytes, at most so many.
-fn bytes_up_to(bytes: &[u8], count: usize) -> &[u8]
-    ensures { result.now ≡ take count bytes.now }
-{
-    bytes.get(..count).unwrap_or(bytes)
-}
-
 // The first bytes, so many.
 fn first_bytes<const N: usize>(bytes: &[u8]) -> [u8; N]
     ensures { (i : ℕ) → i < N → get_or result i 0 ≡ get_or bytes.now i 0 }
@@ -57,14 +50,14 @@ fn first_bytes<const N: usize>(bytes: &[u8]) -> [u8; N]
     array::from_fn(|i| byte_at(bytes, i))
 }
 
-// A number of any width: no more bytes than that are read. The highest comes first, so that each is added once.
+// A number of any width. The highest byte comes first, so that each is added once. No more are read than it has: most fields of a message have one or none.
 pub fn number_at(bytes: &[u8], at: usize, width: usize) -> u64
     ensures { result ≡ number_at (width_of width) at bytes.now }
 {
-    let asked = bytes_up_to(bytes_from(bytes, at), width_of(width));
+    let size = width_of(width).min(bytes.len().saturating_sub(at));
     let mut number: u64 = 0;
-    for i in (0..asked.len()).rev() {
-        number = number * 256 + u64::from(asked[i]);
+    for i in (0..size).rev() {
+        number = number * 256 + u64::from(bytes[at + i]);
     }
     number
 }
@@ -84,11 +77,18 @@ pub fn number32(bytes: &[u8], at: usize) -> u32
 
 // ---- written, from a place on: a buffer that is too short stays as it was
 
-// A number of any width, by its lowest bytes.
+// A number of any width, by its lowest bytes, one by one: for so few a copy, whose length the run alone knows, takes longer.
 pub fn put_number(buffer: &mut [u8], at: usize, width: usize, number: u64)
     ensures { buffer.new ≡ over at (width_of width) (bytes_of (width_of width) number) buffer.old }
 {
-    put_bytes(buffer, at, &number.to_le_bytes()[..width_of(width)]);
+    let size = width_of(width);
+    if size <= buffer.len() && at <= buffer.len() - size {
+        let mut rest = number;
+        for i in 0..size {
+            buffer[at + i] = (rest % 256) as u8;
+            rest /= 256;
+        }
+    }
 }
 
 // Of two bytes and of four.
