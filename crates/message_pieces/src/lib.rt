@@ -40,10 +40,17 @@ pub fn rest_length(rest: Rest, values: [u64; VALUES]) -> u64
 pub fn piece_in(bytes: &[u8], shape: Shape) -> Option<Piece>
     ensures { result ≡ piece_in shape bytes.now }
 {
-    let FieldsRead { long: rest, values } = message_fields::read_fields(bytes, shape).ok()?;
+    let said = message_fields::read_fields(bytes, shape);
+    // Taken whether each value may stand in its field or not: the length is asked before what the fields say.
+    let FieldsRead { long: rest, values } = match said {
+        Ok(read) | Err(read) => read,
+    };
     let room = bytes.len().checked_sub(rest)?;
     let follow = rest_length(message_formats::rest_of(shape), values);
     if (room as u64) < follow {
+        return None;
+    }
+    if said.is_err() {
         return None;
     }
     Some(Piece {
