@@ -1,14 +1,14 @@
 -- Laws of bytes written over a buffer.
 -- Assumes nothing.
-use Prim.Native.Nat.{ℕ, ◌+◌, ◌^◌, ◌<◌, ◌≤◌}
+use Prim.Native.Nat.{ℕ, ◌+◌, ◌-◌, ◌^◌, ◌<◌, ◌≤◌}
 use mathlib.Core.Path.{◌≡◌, refl, sym, ap, ◌∙◌}
 use mathlib.Core.List.{List, [], ◌∷◌, ◌++◌, append-nil, append_assoc}
 use native.Mathlib.Numerals.{add-one}
 use native.Mathlib.Omega.{arith}
 use borrow.Author.Tests.{le-leb, lt-leb}
 use borrow.Rule.Slice.PartMut.{put_mid}
-use lib.ListN.{length, take, drop, set, length-append, length-take, length-drop, take-append-drop, drop_of_length-le}
-use lib.Seq.{length-take-le, take_at, drop_at, drop-drop, set_split}
+use lib.ListN.{length, get_or, take, drop, set, length-append, length-take, length-drop, take-append-drop, drop_of_length-le}
+use lib.Seq.{length-take-le, take_at, drop_at, drop-drop, drop-cons, set_split}
 use Rattle.lists.proofs.Tests.{below}
 use Rattle.rows.specs.Bytes.{bytes_of, number_at}
 use Rattle.rows.specs.Rows.{over, Put}
@@ -151,10 +151,41 @@ module _ {at n : ℕ} {x old : List ℕ} {place : ℕ} {new : List ℕ} where
         is = v.is ∙ over-append place k m y z new e r;
       }
 
+  -- the first byte of them written
   pub left-byte : (m b : ℕ) (z : List ℕ) → Left at n x old place (1 + m) (b ∷ z) new → Left at n x old (place + 1) m z (set new place b)
   left-byte m b z v =
       let h : place < length new = omega (arith, v.room) in
       rw (over-set place b new h) (left-next 1 m (b ∷ []) z refl v)
+
+-- ---- bytes written one by one: those from `done` on are still to be written
+pub record BytesTo (at : ℕ) (bytes old new : List ℕ) (done : ℕ) : Type 0 where
+  pub low : done ≤ length bytes
+  pub remains : Left at (length bytes) bytes old (at + done) (length bytes - done) (drop done bytes) new
+
+pub bytes-begin : (at : ℕ) (bytes old : List ℕ) → length bytes ≤ length old → at ≤ length old - length bytes → BytesTo at bytes old old 0
+bytes-begin at bytes old h k =
+    let p : at + 0 ≡ at = omega arith in
+    let w : length bytes - 0 ≡ length bytes = omega arith in
+    record { low = omega arith; remains = rw (p, w) (left-all at (length bytes) bytes old (omega arith)) }
+
+module _ {at : ℕ} {bytes old new : List ℕ} {done : ℕ} (v : BytesTo at bytes old new done) where
+  pub bytes-place : done < length bytes → at + done < length new
+  bytes-place h = omega (arith, v.remains.room)
+
+  pub bytes_on : done < length bytes → BytesTo at bytes old (set new (at + done) (get_or bytes done 0)) (done + 1)
+  bytes_on h =
+      let w : length bytes - done ≡ 1 + (length bytes - (done + 1)) = omega arith in
+      let p : at + (done + 1) ≡ at + done + 1 = omega arith in
+      let d : drop done bytes ≡ get_or bytes done 0 ∷ drop (done + 1) bytes = drop-cons bytes done 0 h ∙ rw add-one in
+      record {
+        low = omega arith;
+        remains = rw p (left-byte (length bytes - (done + 1)) (get_or bytes done 0) (drop (done + 1) bytes) (rw (w, d) at v.remains));
+      }
+
+  pub bytes-end : length bytes ≤ done → new ≡ over at (length bytes) bytes old
+  bytes-end h =
+      let z : length bytes - done ≡ 0 = omega arith in
+      left-none (rw (z, drop_of_length-le bytes h) at v.remains)
 
 -- ---- a number of k bytes that was written is read there, at every width
 pub number-written : (k at n : ℕ) (old : List ℕ) → n < 256 ^ k → at + k ≤ length old → number_at k at (over at k (bytes_of k n) old) ≡ n

@@ -104,11 +104,13 @@ pub fn put_number32(buffer: &mut [u8], at: usize, number: u32)
     put_bytes(buffer, at, &number.to_le_bytes());
 }
 
-// Bytes as they stand.
+// Bytes as they stand, one by one: a copy of a slice would ask for `memmove`, which the archive does without.
 pub fn put_bytes(buffer: &mut [u8], at: usize, bytes: &[u8])
     ensures { buffer.new ≡ over at (length bytes.now) bytes.now buffer.old }
 {
     if bytes.len() <= buffer.len() && at <= buffer.len() - bytes.len() {
-        buffer[at..at + bytes.len()].copy_from_slice(bytes);
+        for (i, byte) in bytes.iter().enumerate() {
+            buffer[at + i] = *byte;
+        }
     }
 }
