@@ -32,8 +32,15 @@ fn said_by(message: &[u8]) -> Option<MessageRead>
 {
     let behind = message.get(FIELDS_AT..)?;
     let shape = shape_in(message);
-    let FieldsRead { long, values } = message_fields::read_fields(behind, shape).ok()?;
+    let said = message_fields::read_fields(behind, shape);
+    // Taken whether each value may stand in its field or not: the length is asked before what the fields say.
+    let FieldsRead { long, values } = match said {
+        Ok(read) | Err(read) => read,
+    };
     let rest = behind.get(long..)?;
+    if said.is_err() {
+        return None;
+    }
     if !message_pieces::fits_rest(rest, message_formats::rest_of(shape), values) {
         return None;
     }
