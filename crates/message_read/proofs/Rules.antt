@@ -21,7 +21,7 @@ use Rattle.message_formats.specs.declared.Rest.{Rest}
 use Rattle.message_formats.specs.Formats.{rest_of}
 use Rattle.message_fields.specs.Fields.{fields, are_allowed, fields_read}
 use Rattle.message_fields.specs.declared.FieldsRead.{FieldsRead}
-use Rattle.message_fields.proofs.Laws.{read-denied, read-allowed, read-long, read-values}
+use Rattle.message_fields.proofs.Laws.{ok-fields, read-denied, read-allowed, read-long, read-values}
 use Rattle.message_pieces.specs.Pieces.{fits_rest}
 use Rattle.message_codes.specs.Codes.{shape_of}
 use Rattle.message_read.specs.Messages.{shape_in, head_of, message_values, is_message, said_by}
@@ -102,4 +102,4 @@ module _ (message : List ℕ) where
         unfolding said_by is_message
         message-taken n = rw (within, allowed, sym fits-is ∙ n, values-are, head-is)
 
-pub ruleset rules = (std_rules, shape_is)
+pub ruleset rules = (ok-fields, std_rules, shape_is, bare-refused, values-refused, short-refused, rest-refused, message-taken)
