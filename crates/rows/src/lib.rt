@@ -104,7 +104,7 @@ pub fn put_number32(buffer: &mut [u8], at: usize, number: u32)
     put_bytes(buffer, at, &number.to_le_bytes());
 }
 
-// Bytes as they stand, one by one: a copy of a slice would ask for `memmove`, which the archive does without.
+// Bytes as they stand. One by one: a copy of a slice would ask for `memmove`, which the archive does without.
 pub fn put_bytes(buffer: &mut [u8], at: usize, bytes: &[u8])
     ensures { buffer.new ≡ over at (length bytes.now) bytes.now buffer.old }
 {
