@@ -1,16 +1,15 @@
 -- The laws that close the needs of this crate's functions by `search rules`: each premise is as a place's record has it, and each
 -- conclusion is a need's own form. Assumes nothing.
-use Prim.Native.Nat.{ℕ, suc, ◌+◌, ◌-◌, ◌*◌, ◌<◌, ◌≤◌}
+use Prim.Native.Nat.{ℕ, suc, ◌+◌, ◌-◌, ◌<◌, ◌≤◌}
 use mathlib.Core.Path.{◌≡◌, sym, ap, ◌∙◌}
-use mathlib.Core.List.{List, [], ◌∷◌, ◌++◌, append-nil}
+use mathlib.Core.List.{List, [], ◌∷◌, ◌++◌}
 use native.Mathlib.Omega.{arith}
 use borrow.Author.Tests.{lt-ltb, le-ltb}
-use mir.Val.{Fits}
-use mir.Syntax.{w64}
-use lib.ListN.{length, take, drop, set, replicate, length-append, length-set, length-drop, drop_of_length-le}
-use lib.Seq.{length-take-le, set-append_seam, set-append_left, append_snoc, set_out}
+use lib.ListN.{length, take, set, replicate, length-append, length-set}
+use lib.Seq.{set-append_seam, set-append_left, append_snoc, set_out}
 use Rattle.lists.specs.Lists.{padded}
-use borrow.Rule.Slice.PartMut.{mid_of, put_mid}
+use Rattle.lists.proofs.Lists.{length-mapped}
+use Rattle.lists.proofs.Loops.{Cleared, cleared-none, cleared_more, cleared-all}
 use Rattle.table.specs.declared.Process.{Process}
 use Rattle.table.specs.declared.Table.{Table}
 use Rattle.table.specs.Table.{places, standing, size, free_place, table_of, appended, replaced}
@@ -18,22 +17,19 @@ use Rattle.table.proofs.Laws.{standing-few}
 use Rattle.table.proofs.Rules.{front, small}
 
 -- ---- the free places cleared
-module _ (t : Table) {n : ℕ} (e : n ≡ size t) (h : length t.places ≡ places) where
-  pub few : n ≤ places
-  few = small t e h
+pub clear : (t : Table) {n : ℕ} → n ≡ size t → length t.places ≡ places → Cleared t.places n free_place t.places n
+clear t {n} e h = let k : n ≤ places = small t e h in cleared-none t.places n free_place (omega arith)
 
-  -- a process has 54 bytes, by which an index is scaled
-  pub few-fits : Fits w64 (n * 54)
-  few-fits = omega (arith, few)
+pub clear-on : {l₀ : List Process} {n : ℕ} {l : List Process} {i : ℕ} {z : Process}
+    → Cleared l₀ n free_place l i → length l₀ ≡ places → i < places → z ≡ free_place → Cleared l₀ n free_place (set l i z) (i + 1)
+clear-on v h k e = rw e (cleared_more v (omega arith))
 
-  pub cleared : {l : List Process} → l ≡ replicate (length (mid_of n (places - n) t.places)) free_place
-      → ◌≡◌ {A = Table} (record { places = put_mid n (places - n) t.places l; count = n }) (table_of (standing t))
-  unfolding table_of padded size
-  cleared q =
-      let long : length (drop n t.places) ≡ places - n = omega (arith, length-drop n t.places) in
-      let free : length (take (places - n) (drop n t.places)) ≡ places - n = omega (arith, length-take-le (places - n) (drop n t.places) (omega arith)) in
-      let none : drop (places - n) (drop n t.places) ≡ [] = drop_of_length-le (drop n t.places) (omega arith) in
-      rw (q, free, none, append-nil, front t e, e)
+pub clear-all : (t : Table) {n : ℕ} {l : List Process} {i : ℕ}
+    → n ≡ size t → Cleared t.places n free_place l i → length t.places ≡ places → places ≤ i → ◌≡◌ {A = Table} (record { places = l; count = n }) (table_of (standing t))
+unfolding table_of size
+clear-all t {n} {l} v w h k =
+    let e : l ≡ padded (length t.places) free_place (take n t.places) = cleared-all w (omega arith) in
+    rw (e, h, front t v, v)
 
 -- ---- the changes of a tidied table
 abbrev table_with : List Process → ℕ → Table
@@ -81,4 +77,4 @@ pub tidied-few : (t u : Table) → u ≡ table_of (standing t) → length t.plac
 unfolding table_of
 tidied-few t u e h = let n : u.count ≡ length (standing t) = ap (λ (x : Table). x.count) e in omega (arith, standing-few t h)
 
-pub ruleset rules = (few, few-fits, cleared, append-room, append-full, replace-in, replace-out, tidied-few)
+pub ruleset rules = (length-mapped, clear, clear-on, clear-all, append-room, append-full, replace-in, replace-out, tidied-few)

@@ -12,7 +12,9 @@ pub fn tidied(t: Table) -> Table
 {
     let count = table::size(t);
     let mut places = t.places;
-    places[count..].fill(table::free_place());
+    for i in count..PLACES {
+        places[i] = table::free_place();
+    }
     Table { places, count }
 }
 
@@ -20,21 +22,24 @@ pub fn tidied(t: Table) -> Table
 pub fn appended(t: Table, p: Process) -> Table
     ensures { result ≡ appended t p }
 {
-    let mut u = tidied(t);
-    if u.count < PLACES {
-        u.places[u.count] = p;
-        u.count += 1;
+    let Table {
+        mut places,
+        mut count,
+    } = tidied(t);
+    if count < PLACES {
+        places[count] = p;
+        count += 1;
     }
-    u
+    Table { places, count }
 }
 
 // The process at a place replaced. Where none stands there, they stay.
 pub fn replaced(t: Table, at: usize, p: Process) -> Table
     ensures { result ≡ replaced t at p }
 {
-    let mut u = tidied(t);
-    if at < u.count {
-        u.places[at] = p;
+    let Table { mut places, count } = tidied(t);
+    if at < count {
+        places[at] = p;
     }
-    u
+    Table { places, count }
 }
