@@ -16,7 +16,10 @@ use table::{Process, Table};
 fn process_found(t: Table, found: Option<usize>) -> Process
     ensures { result ≡ process_found t found }
 {
-    found.map_or(table::free_place(), |at| table::process_at(t, at))
+    match found {
+        Some(at) => table::process_at(t, at),
+        None => table::free_place(),
+    }
 }
 
 fn claim_view(st: State, s: Session, claim: Claim) -> ClaimView
@@ -46,15 +49,12 @@ pub fn check(st: State, s: Session, claim: Claim) -> ClaimCheck
 fn counted_at(st: State, at: usize) -> State
     ensures { result ≡ counted_at st at }
 {
-    let p = table::process_at(st.table, at);
+    let mut p = table::process_at(st.table, at);
     if claim_check::is_spent(p.next) {
         return st;
     }
-    let counted = Process {
-        next: p.next + 1,
-        ..p
-    };
-    calls_effects::with_table(st, table_change::replaced(st.table, at, counted))
+    p.next += 1;
+    calls_effects::with_table(st, table_change::replaced(st.table, at, p))
 }
 
 fn counted_by(st: State, claim: Claim, at: usize) -> State
@@ -70,8 +70,11 @@ fn counted_by(st: State, claim: Claim, at: usize) -> State
 pub fn charged_by<T: Copy>(st: State, by: ClaimCheck, answer: Result<T, Refusal>) -> State
     ensures { result ≡ charged_by st (checked_in by) (number_of answer) }
 {
-    match by.place {
-        Ok(place) if claim_check::passed_by(by, answer) => counted_by(st, by.claim, place),
-        _ => st,
+    let Ok(place) = by.place else {
+        return st;
+    };
+    if !claim_check::passed_by(by, answer) {
+        return st;
     }
+    counted_by(st, by.claim, place)
 }
