@@ -52,22 +52,22 @@ pub fn with_phase(st: State, s: Session, phase: Phase) -> State
     ensures { result ≡ with_phase st s phase }
 {
     let at = s.0 as usize;
-    let mut changed = st;
+    let mut sessions = st.sessions;
     if at < SESSIONS {
-        changed.sessions[at] = SessionState { phase };
+        sessions[at] = SessionState { phase };
     }
-    changed
+    State { sessions, ..st }
 }
 
 pub fn with_grants(st: State, c: Credential, grants: Grants) -> State
     ensures { result ≡ with_grants st c grants }
 {
     let at = c.0 as usize;
-    let mut changed = st;
+    let mut credentials = st.credentials;
     if at < CREDENTIALS {
-        changed.credentials[at] = grants;
+        credentials[at] = grants;
     }
-    changed
+    State { credentials, ..st }
 }
 
 // ---- the processes that calls make of processes

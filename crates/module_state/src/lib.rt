@@ -194,7 +194,8 @@ pub fn is_credential(c: Credential) -> bool
 pub fn phase_of(st: State, s: Session) -> Phase
     ensures { result ≡ phase_of st s }
 {
-    st.sessions
+    let sessions = st.sessions;
+    sessions
         .get(usize::from(s.0))
         .map_or(Phase::Closed, |session| session.phase)
 }
@@ -209,9 +210,8 @@ pub fn is_closed(st: State, s: Session) -> bool
 pub fn grants_of(st: State, c: Credential) -> Grants
     ensures { result ≡ grants_of st c }
 {
-    *st.credentials
-        .get(usize::from(c.0))
-        .unwrap_or(&UNPROVISIONED)
+    let credentials = st.credentials;
+    *credentials.get(usize::from(c.0)).unwrap_or(&UNPROVISIONED)
 }
 
 // The words of a credential; none where it is not provisioned.
