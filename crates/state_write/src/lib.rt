@@ -60,8 +60,13 @@ pub fn write(s: &mut [u8], st: State)
     ensures { s.new ≡ state_written s.old st }
 {
     if let Some(s) = s.as_mut_array::<STATE_LENGTH>() {
-        put_sessions(s, st.sessions);
-        put_credentials(s, st.credentials);
-        state_write_table::put_table(s, st.table);
+        let State {
+            sessions,
+            credentials,
+            table,
+        } = st;
+        put_sessions(s, sessions);
+        put_credentials(s, credentials);
+        state_write_table::put_table(s, table);
     }
 }
