@@ -47,7 +47,12 @@ pub fn is_keepable(grants: [Grants; CREDENTIALS], row: &[u8]) -> bool
 fn are_keepable(saved: &[[u8; SAVED_SIZE]], grants: [Grants; CREDENTIALS]) -> bool
     ensures { result ≡ list_all (λ row. is_keepable grants (saved_from row)) saved.now }
 {
-    saved.iter().all(|row| is_keepable(grants, row))
+    for i in 0..saved.len() {
+        if !is_keepable(grants, &saved[i]) {
+            return false;
+        }
+    }
+    true
 }
 
 // ---- the rows' names
