@@ -3,7 +3,7 @@
 use Prim.Native.Nat.{ℕ, ◌+◌, ◌*◌, ◌<◌, ◌≤◌}
 use mathlib.Core.Path.{◌≡◌, refl, sym, ◌∙◌}
 use mathlib.Core.Bool.{Bool, true, false, ◌&&◌}
-use mathlib.Core.List.{List, [], ◌++◌, append-nil}
+use mathlib.Core.List.{List, [], ◌∷◌, ◌++◌, append-nil}
 use native.Mathlib.Numerals.{add-one}
 use native.Mathlib.Omega.{arith}
 use borrow.Author.Rules.{rules as std_rules}
@@ -54,25 +54,25 @@ module _ (l : Shape) where
   pub tested-begin : (values : List ℕ) → Tested l values true 0 0
   tested-begin values = record { measured = measured-none l; may = refl }
 
-module _ (l : Shape) {at : ℕ} {form : Form} (h : at < 7) (q : form ≡ form_of (get_or (fields_of l) at Unused)) where
-  abbrev field : Field
-  field = get_or (fields_of l) at Unused
+module _ (l : Shape) {at : ℕ} {f : Field} {form : Form} (h : at < 7) (p : f ≡ get_or (fields_of l) at Unused) (q : form ≡ form_of f) where
+  next : drop at (fields l) ≡ f ∷ drop (at + 1) (fields l)
+  next = fields-from l at h ∙ rw p
 
   module _ {place : ℕ} (v : Measured l place at) where
     measured-fits : Fits w64 (place + form.width)
-    measured-fits = record { fits = omega (arith, v.low, width_few field q) }
+    measured-fits = record { fits = omega (arith, v.low, width_few f q) }
 
     measured-on : Measured l (place + form.width) (at + 1)
     unfolding long_of
-    measured-on = record { low = omega (arith, v.low, width_few field q); is = v.is ∙ rw (fields-from l at h, q) (omega arith) }
+    measured-on = record { low = omega (arith, v.low, width_few f q); is = v.is ∙ rw (next, q) (omega arith) }
 
   module _ {b out : List ℕ} {ok : Bool} {place : ℕ} (v : Read l b out ok place at) where
     pub read_fits : Fits w64 (place + form.width)
     read_fits = measured-fits v.measured
 
     module _ {n r : ℕ} (i : n ≡ number_at (width_of form.width) place b) (e : r ≡ meant form n) where
-      value-is : r ≡ meant (form_of field) (number_at (form_of field).width place b)
-      value-is = e ∙ rw (i, width_is form.width (width_few field q), q)
+      value-is : r ≡ meant (form_of f) (number_at (form_of f).width place b)
+      value-is = e ∙ rw (i, width_is form.width (width_few f q), q)
 
       pub read-on : {a : Bool} → a ≡ is_allowed form r → Read l b (set out at r) (ok && a) (place + form.width) (at + 1)
       unfolding values_in number_at are_allowed
@@ -81,8 +81,8 @@ module _ (l : Shape) {at : ℕ} {form : Form} (h : at < 7) (q : form ≡ form_of
           record {
             measured = measured-on v.measured;
             long = length-set out at r ∙ v.long;
-            is = v.is ∙ rw (fields-from l at h, add-one, take-suc-set out at r inside, append_snoc, value-is, q, drop-drop);
-            may = v.may ∙ rw (fields-from l at h, ← and_assoc, t, value-is, q, drop-drop);
+            is = v.is ∙ rw (next, add-one, take-suc-set out at r inside, append_snoc, value-is, q, drop-drop);
+            may = v.may ∙ rw (next, ← and_assoc, t, value-is, q, drop-drop);
           }
 
   module _ {values : List ℕ} {ok : Bool} {place : ℕ} (v : Tested l values ok place at) where
@@ -93,7 +93,7 @@ module _ (l : Shape) {at : ℕ} {form : Form} (h : at < 7) (q : form ≡ form_of
     unfolding are_allowed
     tested-on {a} t =
         let z : at + 0 ≡ at = omega arith in
-        record { measured = measured-on v.measured; may = v.may ∙ rw (fields-from l at h, ← and_assoc, t, q, get_or-drop, z, drop-drop) }
+        record { measured = measured-on v.measured; may = v.may ∙ rw (next, ← and_assoc, t, q, get_or-drop, z, drop-drop) }
 
 module _ (l : Shape) {at : ℕ} (h : 7 ≤ at) where
   past : drop at (fields l) ≡ []

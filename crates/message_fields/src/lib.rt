@@ -1,9 +1,8 @@
 // The fields of the messages of 004 clause 9.2, read and tested. Values are seven, of which those that a shape has no field for are 0.
 #![tactic(auto, using(crate::proofs::Rules::rules))]
 
-ghost use Rattle.std.specs.Prelude.{◌≡◌, get_or};
-ghost use Rattle.message_formats.specs.declared.Field.TheVariants.{Unused};
-ghost use Rattle.message_formats.specs.Formats.{form_of, fields_of, meant, is_allowed};
+ghost use Rattle.std.specs.Prelude.{◌≡◌};
+ghost use Rattle.message_formats.specs.Formats.{meant, is_allowed};
 ghost use Rattle.message_fields.specs.Fields.{fields_read, fields_tested};
 
 use message_formats::{Form, Shape};
@@ -25,12 +24,6 @@ pub struct FieldsTested {
 }
 
 // ---- one field
-
-fn form_at(shape: Shape, at: usize) -> Form
-    ensures { result ≡ form_of (get_or (fields_of shape) at Unused) }
-{
-    message_formats::form_of(message_places::field_of(shape, at))
-}
 
 #[tactic(auto, unfolding(message_formats::specs::Formats::meant))]
 fn meaning(form: Form, number: u64) -> u64
@@ -60,7 +53,7 @@ pub fn read_fields(bytes: &[u8], shape: Shape) -> Result<FieldsRead, FieldsRead>
     let mut allowed = true;
     let mut place = 0;
     for at in 0..VALUES {
-        let form = form_at(shape, at);
+        let form = message_formats::form_of(message_places::field_of(shape, at));
         let value = meaning(form, rows::number_at(bytes, place, form.width));
         values[at] = value;
         allowed &= is_allowed(form, value);
@@ -80,7 +73,7 @@ pub fn test_fields(shape: Shape, values: [u64; VALUES]) -> FieldsTested
     let mut allowed = true;
     let mut long = 0;
     for at in 0..VALUES {
-        let form = form_at(shape, at);
+        let form = message_formats::form_of(message_places::field_of(shape, at));
         allowed &= is_allowed(form, values[at]);
         long += form.width;
     }
