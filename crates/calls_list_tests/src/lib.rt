@@ -56,7 +56,8 @@ fn message_length(st: State, wanted: Wanted) -> usize
     HEAD_LENGTH + ROW_LENGTH * table_search::count_among(st.table, among_of(wanted))
 }
 
-// The length of the message.
+// The length of the message. Kept out of the call, where the table that it counts would be copied more often.
+#[inline(never)]
 pub fn list_test(st: State, by: ClaimCheck, wanted: Wanted, room: usize) -> Result<usize, Refusal>
     ensures { measured_in result ≡ measured (asked (list_tests st wanted room) (checked_in by)) (message_length (length (rows_of st wanted))) }
 {

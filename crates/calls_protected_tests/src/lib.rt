@@ -14,7 +14,9 @@ use table::Among;
 
 // ---- end
 
-// Of a protected call: its tests go on where the check of its claim ended. The place is that of the claim's process.
+// Of a protected call: its tests go on where the check of its claim ended. The place is that of the claim's process. Kept out of the
+// call, where the state would be copied more often.
+#[inline(never)]
 pub fn end_test(by: ClaimCheck, keep: bool) -> Result<usize, Refusal>
     ensures { placed_in result ≡ placed (asked (end_tests keep) (checked_in by)) (place_in by.place) }
 {

@@ -20,6 +20,8 @@ fn words_fit(g: Grants) -> bool
     g.provisioned || (g.words.grant == 0 && g.words.second == 0)
 }
 
+// Kept out of its caller, where the grants would lie field by field, and be put together again for each row.
+#[inline(never)]
 fn all_fit(grants: [Grants; CREDENTIALS]) -> bool
     ensures { result ≡ list_all words_fit grants }
 {
@@ -110,7 +112,9 @@ fn is_long(b: &[u8], h: ImageHead) -> bool
     b.len() == h.offset + h.rows * SAVED_SIZE
 }
 
-// Whether the words and the rows fit, of bytes whose head does: the length that it asks for is then a small number.
+// Whether the words and the rows fit, of bytes whose head does: the length that it asks for is then a small number. Kept out of its caller:
+// compiled into what makes a module of the image, it has the places cleared and copied three times.
+#[inline(never)]
 #[tactic(auto, using(crate::proofs::Rules::rules))]
 fn rest_fits(b: &[u8], h: ImageHead, grants: [Grants; CREDENTIALS]) -> bool
     requires { head_fits h ≡ true }

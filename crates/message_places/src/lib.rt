@@ -7,7 +7,8 @@ ghost use Rattle.message_formats.specs.Formats.{fields_of};
 
 use message_formats::{Field, Shape};
 
-// The fields of a shape, in their order.
+// The fields of a shape, in their order. Kept out of the loops over them, which then look a shape up once and not for each field.
+#[inline(never)]
 fn fields_of(shape: Shape) -> &'static [Field]
     ensures { result.now ≡ fields_of shape }
 {
