@@ -112,8 +112,8 @@ fn is_long(b: &[u8], h: ImageHead) -> bool
     b.len() == h.offset + h.rows * SAVED_SIZE
 }
 
-// Whether the words and the rows fit, of bytes whose head does: the length that it asks for is then a small number. Kept out of its caller:
-// compiled into what makes a module of the image, it has the places cleared and copied three times.
+// Whether the words and the rows fit, of bytes whose head does: the length that it asks for is then a small number. Kept out of its
+// caller: within what makes a module of the image it would have the places cleared and copied three times.
 #[inline(never)]
 #[tactic(auto, using(crate::proofs::Rules::rules))]
 fn rest_fits(b: &[u8], h: ImageHead, grants: [Grants; CREDENTIALS]) -> bool
